@@ -1,0 +1,6 @@
+//! item_roll
+#![tactic(auto)]
+
+mod roll;
+
+pub use roll::{Roll, RollFault};
