@@ -1,0 +1,2 @@
+//! Messages that are written from front to back.
+#![tactic(auto)]
