@@ -60,6 +60,7 @@ mod bounds;
 mod fields;
 mod message;
 
+pub use bounds::{is_below, lowest};
 pub use message::{Message, decode};
 
 impl From<AllocError> for CodecFault {

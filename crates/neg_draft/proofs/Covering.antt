@@ -48,7 +48,7 @@ gap-members lower upper s h = go (ltb (place lower) (place upper)) refl h
     go true e h' = elim (contains_cases (stretch_at lower (due upper)) [] s h') [
       | inl same ↦ (ltb-true _ _ e, same)
       | inr n ↦ absurd (contains_none s n)
-      ]
+    ]
     go false e h' = absurd (contains_none s h')
 
 gap-covers : (lower upper k : Item) → place lower ≤ place k → place k < place upper → (s : Stretch) × Contains (closed_from lower (gap lower upper)) s × IsSkip s × Lies k s
@@ -76,10 +76,10 @@ draft_none = record { ascends = tt; within = inl refl; low = omega (arith, least
 
 pub covers_none : (H : Stretch → Type 0) (P Q : Item → Type 0) → Covers H P Q (record { spans = []; end = least })
 covers_none H P Q = record {
-    told = λ k d lt. absurd (omega arith);
-    may = λ k key lt out. absurd (omega (arith, least_below k, lt));
-    must = λ k key lt q. absurd (omega (arith, least_below k, lt));
-  }
+  told = λ k d lt. absurd (omega arith);
+  may = λ k key lt out. absurd (omega (arith, least_below k, lt));
+  must = λ k key lt q. absurd (omega (arith, least_below k, lt));
+}
 
 -- ---- a draft that goes past keys and says nothing of them
 
@@ -100,10 +100,10 @@ draft_passes d upper h low = go (ltb (place d.end) (place upper)) refl
 pub covers_passes : (H : Stretch → Type 0) (P Q : Item → Type 0) (d : Written) (upper : Item) → IsDraft d → place d.end ≤ place upper → Covers H P Q d
     → ((k : Item) → IsKey k → place d.end ≤ place k → place k < place upper → P k) → Covers H P Q (passed d upper)
 covers_passes H P Q d upper draft up c new = record {
-    told = c.told;
-    may = λ k key lt out. elim (cases_lt (place k) (place d.end)) [ | inl before ↦ c.may k key before out | inr after ↦ new k key after (omega (arith, lt, passed_place d upper up)) ];
-    must = λ k key lt q. elim (cases_lt (place k) (place d.end)) [ | inl before ↦ c.must k key before q | inr after ↦ inr (omega (arith, meets_le _ _ draft.within, after)) ];
-  }
+  told = c.told;
+  may = λ k key lt out. elim (cases_lt (place k) (place d.end)) [ inl before ↦ c.may k key before out | inr after ↦ new k key after (omega (arith, lt, passed_place d upper up)) ];
+  must = λ k key lt q. elim (cases_lt (place k) (place d.end)) [ inl before ↦ c.must k key before q | inr after ↦ inr (omega (arith, meets_le _ _ draft.within, after)) ];
+}
 
 -- ---- a draft that says something of the next keys
 
@@ -125,10 +125,10 @@ one_of d rs s draft h =
     elim (Contains-append_cases (closed_from least d.spans) (closed_from from (gap from d.end) ++ closed_from d.end rs) s h1) [
       | inl old ↦ record { cases = inl (inl old) }
       | inr rest ↦ elim (Contains-append_cases (closed_from from (gap from d.end)) (closed_from d.end rs) s rest) [
-          | inl between ↦ record { cases = inl (inr between) }
-          | inr new ↦ record { cases = inr new }
-          ]
+        | inl between ↦ record { cases = inl (inr between) }
+        | inr new ↦ record { cases = inr new }
       ]
+    ]
 
 in_old : (d : Written) (rs : List Span) (s : Stretch) → IsDraft d → Contains (closed_from least d.spans) s → Contains (closed_from least (d.spans ++ (gap (end_of least d.spans) d.end ++ rs))) s
 in_old d rs s draft h = subst (λ (t : List Stretch). Contains t s) (sym (all-closed d rs draft)) (Contains-append_left (closed_from least d.spans) (closed_from (end_of least d.spans) (gap (end_of least d.spans) d.end) ++ closed_from d.end rs) s h)
@@ -136,23 +136,23 @@ in_old d rs s draft h = subst (λ (t : List Stretch). Contains t s) (sym (all-cl
 in_gap : (d : Written) (rs : List Span) (s : Stretch) → IsDraft d → Contains (closed_from (end_of least d.spans) (gap (end_of least d.spans) d.end)) s → Contains (closed_from least (d.spans ++ (gap (end_of least d.spans) d.end ++ rs))) s
 in_gap d rs s draft h = subst (λ (t : List Stretch). Contains t s) (sym (all-closed d rs draft))
     (Contains-append_right (closed_from least d.spans) (closed_from (end_of least d.spans) (gap (end_of least d.spans) d.end) ++ closed_from d.end rs) s
-      (Contains-append_left (closed_from (end_of least d.spans) (gap (end_of least d.spans) d.end)) (closed_from d.end rs) s h))
+    (Contains-append_left (closed_from (end_of least d.spans) (gap (end_of least d.spans) d.end)) (closed_from d.end rs) s h))
 
 in_new : (d : Written) (rs : List Span) (s : Stretch) → IsDraft d → Contains (closed_from d.end rs) s → Contains (closed_from least (d.spans ++ (gap (end_of least d.spans) d.end ++ rs))) s
 in_new d rs s draft h = subst (λ (t : List Stretch). Contains t s) (sym (all-closed d rs draft))
     (Contains-append_right (closed_from least d.spans) (closed_from (end_of least d.spans) (gap (end_of least d.spans) d.end) ++ closed_from d.end rs) s
-      (Contains-append_right (closed_from (end_of least d.spans) (gap (end_of least d.spans) d.end)) (closed_from d.end rs) s h))
+    (Contains-append_right (closed_from (end_of least d.spans) (gap (end_of least d.spans) d.end)) (closed_from d.end rs) s h))
 
-more-ends : (d : Written) (upper : Item) (rs : List Span) → IsDraft d → Tells d.end upper rs → end_of least (d.spans ++ (gap (end_of least d.spans) d.end ++ rs)) ≡ upper
+pub more-ends : (d : Written) (upper : Item) (rs : List Span) → IsDraft d → Tells d.end upper rs → end_of least (d.spans ++ (gap (end_of least d.spans) d.end ++ rs)) ≡ upper
 more-ends d upper rs draft t =
     end-append least d.spans (gap (end_of least d.spans) d.end ++ rs) ∙ end-append (end_of least d.spans) (gap (end_of least d.spans) d.end) rs
     ∙ ap (λ (x : Item). end_of x rs) (gap-end (end_of least d.spans) d.end draft.within) ∙ t.ends
 
 finite_below : (a b : Item) → place a < place b → place b ≤ place infinity → a.time < endless
 finite_below a b lt le = elim (cases_lt a.time endless) [
-    | inl fin ↦ fin
-    | inr inf ↦ absurd (omega (arith, endless_above a inf, lt, le))
-    ]
+  | inl fin ↦ fin
+  | inr inf ↦ absurd (omega (arith, endless_above a inf, lt, le))
+]
 
 gap-ascends : (lower upper : Item) → Meets lower upper → place upper ≤ place infinity → Ascends lower (gap lower upper)
 gap-ascends lower upper m fin = go (ltb (place lower) (place upper)) refl
@@ -167,23 +167,23 @@ first_open lower (r ∷ rs) some none = (stretch_at lower r, contains_head (stre
 
 pub draft_tells : (d : Written) (upper : Item) (rs : List Span) → IsDraft d → place upper ≤ place infinity → Tells d.end upper rs → IsDraft (told_more d upper rs)
 draft_tells d upper rs draft low t = record {
-    ascends = ascends-append least d.spans (gap (end_of least d.spans) d.end ++ rs) draft.ascends
+  ascends = ascends-append least d.spans (gap (end_of least d.spans) d.end ++ rs) draft.ascends
       (ascends-append (end_of least d.spans) (gap (end_of least d.spans) d.end) rs (gap-ascends (end_of least d.spans) d.end draft.within draft.low)
-        (subst (λ (x : Item). Ascends x rs) (sym (gap-end (end_of least d.spans) d.end draft.within)) t.ascends));
-    within = inl (more-ends d upper rs draft t);
-    low = low;
-    open_unless_blank = let o = first_open d.end rs t.some t.none_skipped in inr (o.0, in_new d rs o.0 draft o.1, o.2);
-  }
+      (subst (λ (x : Item). Ascends x rs) (sym (gap-end (end_of least d.spans) d.end draft.within)) t.ascends));
+  within = inl (more-ends d upper rs draft t);
+  low = low;
+  open_unless_blank = let o = first_open d.end rs t.some t.none_skipped in inr (o.0, in_new d rs o.0 draft o.1, o.2);
+}
 
 all_append : (H : Stretch → Type 0) (xs ys : List Stretch) → All H xs → All H ys → All H (xs ++ ys)
-all_append H xs ys hx hy = all_from H (xs ++ ys) (λ s h. elim (Contains-append_cases xs ys s h) [ | inl l ↦ All-contains H xs s hx l | inr r ↦ All-contains H ys s hy r ])
+all_append H xs ys hx hy = all_from H (xs ++ ys) (λ s h. elim (Contains-append_cases xs ys s h) [ inl l ↦ All-contains H xs s hx l | inr r ↦ All-contains H ys s hy r ])
 
 upto_end : (lower : Item) (rs : List Span) → Ascends lower rs → (s : Stretch) → Contains (closed_from lower rs) s → place s.upper ≤ place (end_of lower rs)
 upto_end lower [] up s h = absurd (contains_none s h)
 upto_end lower (r ∷ rs) up s h = elim (contains_cases (stretch_at lower r) (closed_from r.upper rs) s h) [
-    | inl e ↦ omega (arith, ap (λ (x : Stretch). place x.upper) e, end_above r.upper rs up.2)
-    | inr rest ↦ upto_end r.upper rs up.2 s rest
-    ]
+  | inl e ↦ omega (arith, ap (λ (x : Stretch). place x.upper) e, end_above r.upper rs up.2)
+  | inr rest ↦ upto_end r.upper rs up.2 s rest
+]
 
 -- which of the keys so far a draft leaves out, once it has told more
 out_before : (d : Written) (upper : Item) (rs : List Span) (k : Item) → IsDraft d → place d.end ≤ place upper → Tells d.end upper rs → place k < place upper
@@ -194,33 +194,33 @@ out_before d upper rs k draft up t lt (inl s) =
       | inl first ↦ elim first [
         | inl old ↦ (omega (arith, s.3.1, upto_end least d.spans draft.ascends s.0 old, meets_le _ _ draft.within), inl (s.0, old, s.2, s.3))
         | inr between ↦
-          let g = gap-members (end_of least d.spans) d.end s.0 between in
-          let lo = ap (λ (x : Stretch). place x.lower) g.1 in
-          let hi = ap (λ (x : Stretch). place x.upper) g.1 in
-          (omega (arith, s.3.1, hi), inr (omega (arith, s.3.0, lo)))
-        ]
-      | inr new ↦ absurd (All-contains (λ x. IsSkip x → ⊥) (closed_from d.end rs) s.0 t.none_skipped new s.2)
+            let g = gap-members (end_of least d.spans) d.end s.0 between in
+            let lo = ap (λ (x : Stretch). place x.lower) g.1 in
+            let hi = ap (λ (x : Stretch). place x.upper) g.1 in
+            (omega (arith, s.3.1, hi), inr (omega (arith, s.3.0, lo)))
       ]
+      | inr new ↦ absurd (All-contains (λ x. IsSkip x → ⊥) (closed_from d.end rs) s.0 t.none_skipped new s.2)
+    ]
 
 pub covers_tells : (H : Stretch → Type 0) (P Q : Item → Type 0) (d : Written) (upper : Item) (rs : List Span) → IsDraft d → place d.end ≤ place upper → Tells d.end upper rs → Covers H P Q d
     → ((s : Stretch) → IsSkip s → H s) → All H (closed_from d.end rs)
     → ((k : Item) → IsKey k → place d.end ≤ place k → place k < place upper → Q k → ⊥) → Covers H P Q (told_more d upper rs)
 covers_tells H P Q d upper rs draft up t c skips now new = record {
-    told = subst (λ (z : List Stretch). All H z) (sym (all-closed d rs draft))
+  told = subst (λ (z : List Stretch). All H z) (sym (all-closed d rs draft))
       (all_append H (closed_from least d.spans) (closed_from (end_of least d.spans) (gap (end_of least d.spans) d.end) ++ closed_from d.end rs) c.told
-        (all_append H (closed_from (end_of least d.spans) (gap (end_of least d.spans) d.end)) (closed_from d.end rs)
-          (all_from H (closed_from (end_of least d.spans) (gap (end_of least d.spans) d.end))
-            (λ s h. skips s (ap (λ (x : Stretch). x.claim) (sym (gap-members (end_of least d.spans) d.end s h).1))))
-          now));
-    may = λ k key lt out. let o = out_before d upper rs k draft up t lt out in c.may k key o.0 o.1;
-    must = λ k key lt q. elim (cases_lt (place k) (place d.end)) [
-      | inl before ↦ elim (c.must k key before q) [
-        | inl s ↦ inl (s.0, in_old d rs s.0 draft s.1, s.2, s.3)
-        | inr above ↦ let s = gap-covers (end_of least d.spans) d.end k above before in inl (s.0, in_gap d rs s.0 draft s.1, s.2, s.3)
-        ]
-      | inr after ↦ absurd (new k key after lt q)
-      ];
-  }
+      (all_append H (closed_from (end_of least d.spans) (gap (end_of least d.spans) d.end)) (closed_from d.end rs)
+      (all_from H (closed_from (end_of least d.spans) (gap (end_of least d.spans) d.end))
+      (λ s h. skips s (ap (λ (x : Stretch). x.claim) (sym (gap-members (end_of least d.spans) d.end s h).1))))
+      now));
+  may = λ k key lt out. let o = out_before d upper rs k draft up t lt out in c.may k key o.0 o.1;
+  must = λ k key lt q. elim (cases_lt (place k) (place d.end)) [
+    | inl before ↦ elim (c.must k key before q) [
+      | inl s ↦ inl (s.0, in_old d rs s.0 draft s.1, s.2, s.3)
+      | inr above ↦ let s = gap-covers (end_of least d.spans) d.end k above before in inl (s.0, in_gap d rs s.0 draft s.1, s.2, s.3)
+    ]
+    | inr after ↦ absurd (new k key after lt q)
+  ];
+}
 
 -- ---- the message that is written of a draft that has come to infinity
 
@@ -233,7 +233,7 @@ abbrev last_skip : Item → Stretch
 last_skip lower = record { lower = lower; upper = infinity; claim = skip }
 
 in_ending : (lower : Item) (b : Bool) (s : Stretch) → Contains (cond b (last_skip lower ∷ []) []) s → last_skip lower ≡ s
-in_ending lower true s h = elim (contains_cases (last_skip lower) [] s h) [ | inl e ↦ e | inr n ↦ absurd (contains_none s n) ]
+in_ending lower true s h = elim (contains_cases (last_skip lower) [] s h) [ inl e ↦ e | inr n ↦ absurd (contains_none s n) ]
 in_ending lower false s h = absurd (contains_none s h)
 
 pub skipped_left_out : (spans : List Span) (k : Item) (s : Stretch) → Contains (stretches spans) s → IsSkip s → Lies k s → IsLeftOut spans k
@@ -241,24 +241,26 @@ skipped_left_out spans k s h is_skip lies =
     elim (Contains-append_cases (closed_from least spans) (cond (ltb (end_of least spans).time endless) (last_skip (end_of least spans) ∷ []) []) s (subst (λ (t : List Stretch). Contains t s) (ending_is least spans) h)) [
       | inl old ↦ inl (s, old, is_skip, lies)
       | inr end ↦ let e = in_ending (end_of least spans) (ltb (end_of least spans).time endless) s end in
-        inr (omega (arith, lies.0, ap (λ (x : Stretch). place x.lower) e))
-      ]
+          inr (omega (arith, lies.0, ap (λ (x : Stretch). place x.lower) e))
+    ]
 
 pub left_out_skipped : (spans : List Span) (k : Item) → IsKey k → IsLeftOut spans k → (s : Stretch) × Contains (stretches spans) s × IsSkip s × Lies k s
 left_out_skipped spans k key (inl s) = (s.0, subst (λ (t : List Stretch). Contains t s.0) (sym (ending_is least spans)) (Contains-append_left (closed_from least spans) (cond (ltb (end_of least spans).time endless) (last_skip (end_of least spans) ∷ []) []) s.0 s.1), s.2, s.3)
 left_out_skipped spans k key (inr above) =
-    let fin : (end_of least spans).time < endless = elim (cases_lt (end_of least spans).time endless) [ | inl f ↦ f | inr inf ↦ absurd (omega (arith, endless_above (end_of least spans) inf, key_below k key, above)) ] in
+    let fin : (end_of least spans).time < endless = elim (cases_lt (end_of least spans).time endless) [ inl f ↦ f | inr inf ↦ absurd (omega (arith, endless_above (end_of least spans) inf, key_below k key, above)) ] in
     let here : Contains (cond (ltb (end_of least spans).time endless) (last_skip (end_of least spans) ∷ []) []) (last_skip (end_of least spans)) =
-      subst (λ (b : Bool). Contains (cond b (last_skip (end_of least spans) ∷ []) []) (last_skip (end_of least spans))) (sym (lt-ltb _ _ fin)) (contains_head (last_skip (end_of least spans)) []) in
-    (last_skip (end_of least spans),
+    subst (λ (b : Bool). Contains (cond b (last_skip (end_of least spans) ∷ []) []) (last_skip (end_of least spans))) (sym (lt-ltb _ _ fin)) (contains_head (last_skip (end_of least spans)) []) in (
+      last_skip (end_of least spans),
       subst (λ (t : List Stretch). Contains t (last_skip (end_of least spans))) (sym (ending_is least spans)) (Contains-append_right (closed_from least spans) (cond (ltb (end_of least spans).time endless) (last_skip (end_of least spans) ∷ []) []) (last_skip (end_of least spans)) here),
-      refl, (above, key_below k key))
+      refl,
+      (above, key_below k key),
+    )
 
 pub told_whole : (H : Stretch → Type 0) (spans : List Span) → ((s : Stretch) → IsSkip s → H s) → All H (closed_from least spans) → All H (stretches spans)
 told_whole H spans skips told = subst (λ (t : List Stretch). All H t) (sym (ending_is least spans))
     (all_append H (closed_from least spans) (cond (ltb (end_of least spans).time endless) (last_skip (end_of least spans) ∷ []) []) told
-      (all_from H (cond (ltb (end_of least spans).time endless) (last_skip (end_of least spans) ∷ []) [])
-        (λ s h. skips s (ap (λ (x : Stretch). x.claim) (sym (in_ending (end_of least spans) (ltb (end_of least spans).time endless) s h))))))
+    (all_from H (cond (ltb (end_of least spans).time endless) (last_skip (end_of least spans) ∷ []) [])
+    (λ s h. skips s (ap (λ (x : Stretch). x.claim) (sym (in_ending (end_of least spans) (ltb (end_of least spans).time endless) s h))))))
 
 -- ---- walking the ranges of a message
 
@@ -270,6 +272,6 @@ stretch_of lower (f ∷ front) r back = contains_tail (stretch_at lower f) (stre
 -- beyond its ranges a message skips
 pub beyond : (lower : Item) (rs : List Span) (k : Item) → IsKey k → place (end_of lower rs) ≤ place k → (s : Stretch) × Contains (stretches_from lower rs) s × IsSkip s × Lies k s
 beyond lower [] k key le =
-    let fin : lower.time < endless = elim (cases_lt lower.time endless) [ | inl f ↦ f | inr inf ↦ absurd (omega (arith, endless_above lower inf, key_below k key, le)) ] in
+    let fin : lower.time < endless = elim (cases_lt lower.time endless) [ inl f ↦ f | inr inf ↦ absurd (omega (arith, endless_above lower inf, key_below k key, le)) ] in
     (last_skip lower, subst (λ (b : Bool). Contains (cond b (last_skip lower ∷ []) []) (last_skip lower)) (sym (lt-ltb _ _ fin)) (contains_head (last_skip lower) []), refl, (le, key_below k key))
 beyond lower (r ∷ rs) k key le = let s = beyond r.upper rs k key le in (s.0, contains_tail (stretch_at lower r) (stretches_from r.upper rs) s.0 s.1, s.2, s.3)

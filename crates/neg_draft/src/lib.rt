@@ -1,2 +1,6 @@
 //! Messages that are written from front to back.
 #![tactic(auto)]
+
+mod draft;
+
+pub use draft::Draft;
