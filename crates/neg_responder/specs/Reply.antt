@@ -1,0 +1,42 @@
+-- What a reply owes to the question beside following the roll.
+use Rattle.std.specs.Prelude.{◌≡◌, ◌≢◌, ◌⊎◌, ◌≤◌, ◌<◌, ℕ, List, [], ◌∷◌, All, Contains, Result, Ok, Err}
+use Rattle.neg_codec.specs.declared.Item.{Item}
+use Rattle.neg_codec.specs.Keys.{place, IsKey}
+use Rattle.neg_codec.specs.Ranges.{print, Span, Stretch, stretches, Lies, IsSkip}
+use Rattle.item_roll.specs.Truth.{IsTrueOf}
+use Rattle.item_roll.specs.Closed.{closed_from}
+use Rattle.neg_draft.specs.Coverage.{Written, passed, told_more, Tells}
+
+-- the stretch is a Skip, or a fingerprint that is the roll's own
+abbrev pub IsSame : List Item → Stretch → Type 0
+IsSame roll t = IsSkip t ⊎ ((p : List ℕ) × (t.claim ≡ print p) × IsTrueOf roll t)
+
+-- each key of such a stretch lies in a Skip of the reply
+abbrev pub SkipsSame : List Item → List Span → List Span → Type 0
+SkipsSame roll asked answered =
+    (t : Stretch) (k : Item) → Contains (stretches asked) t → IsSame roll t → IsKey k → Lies k t → (s : Stretch) × Contains (stretches answered) s × IsSkip s × Lies k s
+
+-- a key that the reply may skip, and one that it must
+abbrev pub MaySkip : List Item → List Span → Item → Type 0
+MaySkip roll asked k = (t : Stretch) × Contains (stretches asked) t × Lies k t × IsTrueOf roll t
+
+abbrev pub MustSkip : List Item → List Span → Item → Type 0
+MustSkip roll asked k = (t : Stretch) × Contains (stretches asked) t × Lies k t × IsSame roll t
+
+abbrev pub begun_at : Item → Span → Stretch
+begun_at lower r = record { lower = lower; upper = r.upper; claim = r.claim }
+
+-- The draft goes past a stretch that is true, or tells what the roll has there where the stretch isn't known as the same.
+pub record TellsRoll (roll : List Item) (old : Written) (r : Span) (new : Written) : Type 0 where
+  pub spans : List Span
+  pub tells : Tells old.end r.upper spans
+  pub holds : All (IsTrueOf roll) (closed_from old.end spans)
+  pub differs : IsSame roll (begun_at old.end r) → ⊥
+  pub now : new ≡ told_more old r.upper spans
+
+pub record Passes (roll : List Item) (old : Written) (r : Span) (new : Written) : Type 0 where
+  pub holds : (k : Item) → Lies k (begun_at old.end r) → IsTrueOf roll (begun_at old.end r)
+  pub now : new ≡ passed old r.upper
+
+abbrev pub Responds : List Item → Written → Span → Written → Type 0
+Responds roll old r new = Passes roll old r new ⊎ TellsRoll roll old r new

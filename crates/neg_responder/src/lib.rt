@@ -1,0 +1,2 @@
+//! The answering side of a session.
+#![tactic(auto)]
