@@ -1,6 +1,7 @@
 //! The asking side of a session.
 #![tactic(auto)]
 
+mod ids;
 mod initiator;
 
 pub use initiator::{InitFault, Initiator, Next};
