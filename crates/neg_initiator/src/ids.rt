@@ -27,5 +27,9 @@ pub fn put(set: &mut BTreeSet<Id>, id: Id) -> Result<(), AllocError>
 pub fn set_of(alloc: Global, ids: &[Id]) -> Result<BTreeSet<Id>, AllocError>
     ensures { IfOk result (λ s. (i : Id) → Contains s.keys i ↔ Contains ids.now i) }
 {
-    ids.iter().copied().collect(alloc)
+    let mut set = BTreeSet::new(alloc);
+    for id in ids {
+        put(&mut set, *id)?;
+    }
+    Ok(set)
 }
