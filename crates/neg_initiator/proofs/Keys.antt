@@ -1,11 +1,13 @@
 -- Sets of ids, as the lists of their keys.
-use Rattle.std.proofs.Common.{◌≡◌, ◌⊎◌, inl, inr, Bool, true, false, ℕ, List, [], ◌∷◌, refl, sym, ap, subst, ◌∙◌}
+use Rattle.std.proofs.Common.{◌≡◌, ◌+◌, ◌<◌, ◌++◌, length, take, get_or, ◌⊎◌, inl, inr, Bool, true, false, ℕ, List, [], ◌∷◌, refl, sym, ap, subst, ◌∙◌}
 use Rattle.std.specs.Prelude.{Contains}
 use Rattle.std.specs.declared.cmp.Ordering.{Ordering}
 use Rattle.std.specs.declared.cmp.Ordering.TheVariants.{Less, Equal, Greater}
 use Rattle.std.specs.Ordering.{nat_cmp, match_ordering}
 use Rattle.std.specs.Cmp.{IsTotalOrder}
 use Rattle.std.specs.BTreeSet.{insert_key}
+use Rattle.std.proofs.lemmas.List.{take_more}
+use Rattle.std.proofs.lemmas.List.Elements.{Contains-append_left, Contains-append_right, Contains-append_cases}
 use Rattle.std.proofs.lemmas.Cmp.{nat_list_cmp_total, on_total}
 use Rattle.std.proofs.lemmas.Map.Lookups.{CmpEqualImpliesEq, exact_bytes}
 use Rattle.neg_codec.proofs.Stretches.{contains_head, contains_tail, contains_cases, contains_none}
@@ -53,3 +55,16 @@ put_there (x ∷ xs) k = go (id_cmp k x) refl (put_there xs k)
     go Less is again = contains_head k (x ∷ xs)
     go Equal is again = subst (λ (y : Id). Contains (x ∷ xs) y) (sym (id_exact k x is)) (contains_head x xs)
     go Greater is again = contains_tail x (insert_key id_cmp xs k) k again
+
+-- one element more of a list
+pub seen_gives : {X : Type 0} → (xs : List X) (n : ℕ) (d x : X) → n < length xs → Contains (take (n + 1) xs) x → Contains (take n xs) x ⊎ (x ≡ get_or xs n d)
+seen_gives {X} xs n d x lt h = elim (Contains-append_cases (take n xs) (get_or xs n d ∷ []) x (subst (λ (t : List X). Contains t x) (take_more xs n d lt) h)) [
+    | inl old ↦ inl old
+    | inr new ↦ elim (contains_cases (get_or xs n d) [] x new) [ | inl e ↦ inr (sym e) | inr n' ↦ absurd (contains_none x n') ]
+    ]
+
+pub seen_keeps : {X : Type 0} → (xs : List X) (n : ℕ) (d x : X) → n < length xs → Contains (take n xs) x → Contains (take (n + 1) xs) x
+seen_keeps {X} xs n d x lt h = subst (λ (t : List X). Contains t x) (sym (take_more xs n d lt)) (Contains-append_left (take n xs) (get_or xs n d ∷ []) x h)
+
+pub seen_there : {X : Type 0} → (xs : List X) (n : ℕ) (d : X) → n < length xs → Contains (take (n + 1) xs) (get_or xs n d)
+seen_there {X} xs n d lt = subst (λ (t : List X). Contains t (get_or xs n d)) (sym (take_more xs n d lt)) (Contains-append_right (take n xs) (get_or xs n d ∷ []) (get_or xs n d) (contains_head (get_or xs n d) []))
