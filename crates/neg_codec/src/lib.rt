@@ -58,9 +58,12 @@ pub enum CodecFault {
 
 mod bounds;
 mod fields;
+mod items;
 mod message;
+mod writing;
 
 pub use message::{Message, decode};
+pub use writing::encode;
 
 impl From<AllocError> for CodecFault {
     ghost use Rattle.std.specs.Prelude.{◌≡◌};
