@@ -1,20 +1,17 @@
 -- What is spelled so is read.
-use Rattle.std.proofs.Common.{◌≡◌, ℕ, zero, suc, ◌+◌, ◌-◌, ◌*◌, ◌^◌, ◌<◌, ◌≤◌, Bool, true, false, cond, ltb, eqb, List, [], ◌∷◌, ◌++◌, length, take, drop, replicate, Result, Ok, Err, refl, sym, ap, subst, ◌∙◌, append_assoc, arith}
+use Rattle.std.proofs.Common.{◌≡◌, ℕ, zero, suc, ◌+◌, ◌-◌, ◌*◌, ◌<◌, ◌≤◌, true, false, ltb, List, [], ◌∷◌, ◌++◌, length, drop, replicate, Result, Ok, refl, sym, ap, ◌∙◌, append_assoc, arith}
 use Rattle.std.specs.Prelude.{All}
 use Rattle.std.specs.List.{flat_map}
-use Rattle.std.proofs.lemmas.Bool.{lt-ltb, le-ltb, eqb-true}
-use Rattle.std.proofs.lemmas.List.{take_at, drop_at, append-nil, length-append}
+use Rattle.std.proofs.lemmas.Bool.{lt-ltb, le-ltb}
+use Rattle.std.proofs.lemmas.List.{take_at, drop_at, length-append}
 use Rattle.std.proofs.lemmas.List.Elements.{All-head, All-tail}
 use Rattle.std.proofs.lemmas.List.Concat.{flat_map-cons}
-use Rattle.neg_varint.specs.declared.VarintFault.{VarintFault}
 use Rattle.neg_varint.specs.Spelling.{IsSpelling}
-use Rattle.neg_varint.specs.Reading.{number_at}
 use Rattle.neg_varint.proofs.Laws.{number_again}
 use Rattle.neg_codec.specs.declared.Id.{Id}
 use Rattle.neg_codec.specs.declared.Item.{Item}
 use Rattle.neg_codec.specs.declared.CodecFault.{CodecFault}
-use Rattle.neg_codec.specs.declared.CodecFault.TheVariants as fault
-use Rattle.neg_codec.specs.Keys.{place, endless, least, infinity, item_of, IsId}
+use Rattle.neg_codec.specs.Keys.{place, endless, least, item_of, IsId}
 use Rattle.neg_codec.specs.Ranges.{Claim, skip, print, ids, Span}
 use Rattle.neg_codec.specs.Text.{IsBound, SpellsBound, SpellsClaim, SpellsRange, SpellsRanges, Spells}
 use Rattle.neg_codec.specs.Reading.{◌>>=◌, place_in, varint_at, front_at, time_of_code, bound_of, bound_at, ids_of, ids_at, payload_at, claim_at, range_at, ranges_at, versioned_at, message_at, longest}

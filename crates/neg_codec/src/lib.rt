@@ -58,10 +58,13 @@ pub enum CodecFault {
 
 mod bounds;
 mod fields;
+mod items;
 mod message;
+mod writing;
 
 pub use bounds::{is_below, lowest};
 pub use message::{Message, decode};
+pub use writing::encode;
 
 impl From<AllocError> for CodecFault {
     ghost use Rattle.std.specs.Prelude.{◌≡◌};
