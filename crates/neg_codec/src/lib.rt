@@ -62,7 +62,6 @@ mod items;
 mod message;
 mod writing;
 
-pub use bounds::{is_below, lowest};
 pub use message::{Message, decode};
 pub use writing::encode;
 

@@ -6,7 +6,7 @@ use Rattle.std.proofs.lemmas.List.Elements.{All-contains, All-head, All-tail, Al
 use Rattle.neg_codec.proofs.Stretches.{contains_head, contains_tail, contains_cases, contains_none, key_below, endless_above, least_below}
 use Rattle.neg_codec.specs.declared.Item.{Item}
 use Rattle.neg_codec.specs.Keys.{place, least, endless, infinity, IsKey}
-use Rattle.neg_codec.specs.Ranges.{Claim, skip, Span, Stretch, stretches, stretches_from, Lies, IsSkip, Ascends}
+use Rattle.neg_codec.specs.Ranges.{Claim, skip, Span, Stretch, stretches, stretches_from, Lies, IsSkip, Ascends, IsEdge}
 use Rattle.item_roll.specs.Closed.{closed_from}
 use Rattle.neg_draft.specs.Coverage.{Written, end_of, gap, passed, told_more, IsOpen, IsDraft, IsLeftOut, Covers, Tells}
 
@@ -275,3 +275,10 @@ beyond lower [] k key le =
     let fin : lower.time < endless = elim (cases_lt lower.time endless) [ inl f ↦ f | inr inf ↦ absurd (omega (arith, endless_above lower inf, key_below k key, le)) ] in
     (last_skip lower, subst (λ (b : Bool). Contains (cond b (last_skip lower ∷ []) []) (last_skip lower)) (sym (lt-ltb _ _ fin)) (contains_head (last_skip lower) []), refl, (le, key_below k key))
 beyond lower (r ∷ rs) k key le = let s = beyond r.upper rs k key le in (s.0, contains_tail (stretch_at lower r) (stretches_from r.upper rs) s.0 s.1, s.2, s.3)
+
+-- ---- bounds
+
+-- no bound stands above infinity
+pub edge_low : (u : Item) → IsEdge u → place u ≤ place infinity
+edge_low u (inl same) = omega (arith, ap place same)
+edge_low u (inr key) = omega (arith, key_below u key)

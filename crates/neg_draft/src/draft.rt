@@ -5,7 +5,7 @@ ghost use Rattle.neg_codec.specs.Keys.{place, least, infinity};
 ghost use Rattle.neg_codec.specs.Ranges.{Span, edge_of, span_of};
 ghost use Rattle.neg_draft.specs.Coverage.{Written, Tells, passed, told_more, end_of, gap, IsDraft};
 
-use neg_codec::{Bound, Payload, Range, is_below, lowest};
+use neg_codec::{Bound, Message, Payload, Range};
 use std::alloc::{AllocError, Global};
 use std::marker::Model;
 
@@ -40,8 +40,8 @@ impl Draft {
     {
         Draft {
             ranges: Vec::new(alloc),
-            written: lowest(),
-            end: lowest(),
+            written: Bound::lowest(),
+            end: Bound::lowest(),
         }
     }
 
@@ -63,16 +63,16 @@ impl Draft {
 
     /// The draft after the keys below a bound, which are skipped.
     pub fn skip(self, upper: Bound) -> Draft
-        requires ahead { place self.end ≤ place (edge_of upper) }
-        requires low { place (edge_of upper) ≤ place infinity }
+        requires { place self.end ≤ place (edge_of upper) }
         ensures { result ≡ passed self (edge_of upper) }
     {
+        let _ = upper.edge();
         let Draft {
             ranges,
             written,
             end,
         } = self;
-        let end = if is_below(&end, &upper) { upper } else { end };
+        let end = if end.is_below(&upper) { upper } else { end };
         Draft {
             ranges,
             written,
@@ -82,10 +82,10 @@ impl Draft {
 
     /// The draft after ranges that begin where it has come to and end at a bound.
     pub fn tell(self, ranges: Vec<Range>, upper: Bound) -> Result<Draft, AllocError>
-        requires low { place (edge_of upper) ≤ place infinity }
-        requires tells { Tells self.end (edge_of upper) (map span_of ranges.items) }
+        requires { Tells self.end (edge_of upper) (map span_of ranges.items) }
         ensures { IfOk result (λ d. d ≡ told_more self (edge_of upper) (map span_of ranges.items)) }
     {
+        let _ = upper.edge();
         let Draft {
             ranges: before,
             written,
@@ -101,6 +101,17 @@ impl Draft {
             end: upper,
         })
     }
+
+    /// The message of what was told.
+    pub fn into_message(self) -> Message
+        ensures { result ≡ self.spans }
+    {
+        let Draft { ranges, .. } = self;
+        match Message::of(ranges) {
+            Ok(message) => message,
+            Err(_) => unreachable!(),
+        }
+    }
 }
 
 /// The ranges with the Skip that is due between their end and a bound.
@@ -108,7 +119,7 @@ fn skipped_to(ranges: Vec<Range>, written: &Bound, end: Bound) -> Result<Vec<Ran
     ensures { IfOk result (λ v. map span_of v.items ≡ map span_of ranges.items ++ gap (edge_of written.now) (edge_of end)) }
 {
     let mut all = ranges;
-    if is_below(written, &end) {
+    if written.is_below(&end) {
         all.push(Range {
             upper: end,
             payload: Payload::Skip,
