@@ -3,6 +3,7 @@ use Rattle.std.specs.Prelude.{◌≡◌, ◌<◌, ◌≤◌, ◌⊎◌, List, []
 use Rattle.neg_codec.specs.declared.Item.{Item}
 use Rattle.neg_codec.specs.Keys.{place, least, infinity, IsKey}
 use Rattle.neg_codec.specs.Ranges.{skip, Span, Stretch, Lies, IsSkip, Ascends}
+use Rattle.item_roll.specs.Truth.{IsTrueOf}
 use Rattle.item_roll.specs.Closed.{closed_from}
 
 -- ranges, and the bound up to which the message has come: from where the ranges end all is skipped
@@ -54,3 +55,10 @@ pub record Tells (lower upper : Item) (spans : List Span) : Type 0 where
   pub ends : end_of lower spans ≡ upper
   pub some : (spans ≡ []) → ⊥
   pub none_skipped : All (λ s. IsSkip s → ⊥) (closed_from lower spans)
+
+-- the draft tells what a roll has from where it has come to up to a bound
+pub record Told (roll : List Item) (old : Written) (upper : Item) (new : Written) : Type 0 where
+  pub spans : List Span
+  pub tells : Tells old.end upper spans
+  pub holds : All (IsTrueOf roll) (closed_from old.end spans)
+  pub now : new ≡ told_more old upper spans

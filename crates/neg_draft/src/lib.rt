@@ -2,5 +2,7 @@
 #![tactic(auto)]
 
 mod draft;
+mod own;
 
 pub use draft::Draft;
+pub use own::is_own_print;

@@ -11,7 +11,7 @@ use Rattle.item_roll.specs.Closed.{closed_from}
 use Rattle.item_roll.proofs.Follow.{follows_from}
 use Rattle.neg_draft.specs.Coverage.{Written, end_of, passed, told_more, IsDraft, Covers, Tells}
 use Rattle.neg_draft.proofs.Covering.{covers_none, covers_passes, covers_tells, end-append, end_above, stretch_of, beyond, told_whole, skipped_left_out, left_out_skipped, passed_place}
-use Rattle.neg_responder.specs.Reply.{IsSame, SkipsSame, MaySkip, MustSkip, begun_at, Passes, TellsRoll, Responds}
+use Rattle.neg_responder.specs.Reply.{IsSame, SkipsSame, MaySkip, MustSkip, begun_at, Passes, Responds}
 
 -- The reply to the ranges before a place of the question.
 pub record Replied (roll : List Item) (asked front : List Span) (d : Written) : Type 0 where
@@ -54,10 +54,10 @@ replied_more roll front r back d new up draft was (inl p) =
       (record { covers = covers; reached = passed_place d r.upper le ∙ ap place (sym (end-append least front (r ∷ []))) })
 replied_more roll front r back d new up draft was (inr t) =
     let le : place d.end ≤ place r.upper = omega (arith, was.reached, ascends_after least front r back up) in
-    let covers = covers_tells (IsTrueOf roll) (MaySkip roll (front ++ (r ∷ back))) (MustSkip roll (front ++ (r ∷ back))) d r.upper t.spans draft le t.tells was.covers (skip_holds roll) t.holds
-      (λ k key ge lt q. t.differs (is_same_lower roll (end_of least front) d.end r (sym was.reached)
+    let covers = covers_tells (IsTrueOf roll) (MaySkip roll (front ++ (r ∷ back))) (MustSkip roll (front ++ (r ∷ back))) d r.upper t.0.spans draft le t.0.tells was.covers (skip_holds roll) t.0.holds
+      (λ k key ge lt q. t.1 (is_same_lower roll (end_of least front) d.end r (sym was.reached)
         (subst (IsSame roll) (one_stretch (front ++ (r ∷ back)) up k q.0 (begun_at (end_of least front) r) q.1 (stretch_of least front r back) q.2 (omega (arith, was.reached, ge), lt)) q.3))) in
-    subst (λ (n : Written). Replied roll (front ++ (r ∷ back)) (front ++ (r ∷ [])) n) (sym t.now)
+    subst (λ (n : Written). Replied roll (front ++ (r ∷ back)) (front ++ (r ∷ [])) n) (sym t.0.now)
       (record { covers = covers; reached = ap place (sym (end-append least front (r ∷ []))) })
 
 -- the Skip that a question implies behind its ranges

@@ -4,8 +4,7 @@ use Rattle.neg_codec.specs.declared.Item.{Item}
 use Rattle.neg_codec.specs.Keys.{place, IsKey}
 use Rattle.neg_codec.specs.Ranges.{print, Span, Stretch, stretches, Lies, IsSkip}
 use Rattle.item_roll.specs.Truth.{IsTrueOf}
-use Rattle.item_roll.specs.Closed.{closed_from}
-use Rattle.neg_draft.specs.Coverage.{Written, passed, told_more, Tells}
+use Rattle.neg_draft.specs.Coverage.{Written, passed, Told}
 
 -- the stretch is a Skip, or a fingerprint that is the roll's own
 abbrev pub IsSame : List Item → Stretch → Type 0
@@ -26,17 +25,11 @@ MustSkip roll asked k = (t : Stretch) × Contains (stretches asked) t × Lies k 
 abbrev pub begun_at : Item → Span → Stretch
 begun_at lower r = record { lower = lower; upper = r.upper; claim = r.claim }
 
--- The draft goes past a stretch that is true, or tells what the roll has there where the stretch isn't known as the same.
-pub record TellsRoll (roll : List Item) (old : Written) (r : Span) (new : Written) : Type 0 where
-  pub spans : List Span
-  pub tells : Tells old.end r.upper spans
-  pub holds : All (IsTrueOf roll) (closed_from old.end spans)
-  pub differs : IsSame roll (begun_at old.end r) → ⊥
-  pub now : new ≡ told_more old r.upper spans
-
+-- the draft goes past a stretch that is true of the roll
 pub record Passes (roll : List Item) (old : Written) (r : Span) (new : Written) : Type 0 where
   pub holds : (k : Item) → Lies k (begun_at old.end r) → IsTrueOf roll (begun_at old.end r)
   pub now : new ≡ passed old r.upper
 
+-- or it tells what the roll has there, where that isn't known as the same
 abbrev pub Responds : List Item → Written → Span → Written → Type 0
-Responds roll old r new = Passes roll old r new ⊎ TellsRoll roll old r new
+Responds roll old r new = Passes roll old r new ⊎ (Told roll old r.upper new × (IsSame roll (begun_at old.end r) → ⊥))

@@ -1,2 +1,7 @@
-//! The answering side of a session.
+//! The answering side of a session (Negentropy protocol V1).
 #![tactic(auto)]
+
+mod answer;
+mod reply;
+
+pub use answer::{AnswerFault, answer};

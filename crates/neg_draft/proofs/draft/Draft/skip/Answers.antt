@@ -9,9 +9,9 @@ use Rattle.neg_draft.proofs.draft.Draft.skip.Goals.{then-is_below, else-is_below
 
 not_below : (a b : ℕ) (t : Bool) → (IsTrue t ↔ a < b) → t ≡ false → b ≤ a
 not_below a b t h e = elim (cases_lt a b) [
-    | inl lt ↦ absurd (let is = h.1 lt in cc)
-    | inr ge ↦ ge
-    ]
+  | inl lt ↦ absurd (let is = h.1 lt in cc)
+  | inr ge ↦ ge
+]
 
 pub invariant_of-result : goal.invariant_of-result
 invariant_of-result c =
@@ -20,9 +20,9 @@ invariant_of-result c =
     let h : IsDraft (passed d (edge_of c.args.upper)) = draft_passes d (edge_of c.args.upper) c.self.invariant.0 low in
     elim c.if-is_below.branch [
       | then-is_below w ↦
-        let lt : place (edge_of c.self.inside.end) < place (edge_of c.args.upper) = c.is_below.ensures.0 w.if-is_below.true in
-        rw w.end-is (rw (lt-ltb _ _ lt) at h, c.self.invariant.1)
+          let lt : place (edge_of c.self.inside.end) < place (edge_of c.args.upper) = c.is_below.ensures.0 w.if-is_below.true in
+          rw w.end-is (rw (lt-ltb _ _ lt) at h, c.self.invariant.1)
       | else-is_below w ↦
-        let ge : place (edge_of c.args.upper) ≤ place (edge_of c.self.inside.end) = not_below _ _ c.is_below.result c.is_below.ensures w.if-is_below.false in
-        rw w.end-is (rw (le-ltb _ _ ge) at h, c.self.invariant.1)
-      ]
+          let ge : place (edge_of c.args.upper) ≤ place (edge_of c.self.inside.end) = not_below _ _ c.is_below.result c.is_below.ensures w.if-is_below.false in
+          rw w.end-is (rw (le-ltb _ _ ge) at h, c.self.invariant.1)
+    ]
