@@ -59,9 +59,11 @@ pub enum CodecFault {
 mod bounds;
 mod fields;
 mod items;
+mod laws;
 mod message;
 mod writing;
 
+pub use laws::{one_message, one_place, one_stretch, order_of_keys, round_trip};
 pub use message::{Message, decode};
 pub use writing::encode;
 
