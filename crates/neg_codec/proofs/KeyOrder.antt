@@ -100,6 +100,7 @@ place_order a b ia ib =
     parts : (a b : Item) → Bytes 32 a.id.0 → Bytes 32 b.id.0 → (a.time < b.time) ⊎ ((a.time ≡ b.time) × (number_of_bytes a.id.0 < number_of_bytes b.id.0)) → ComesBefore a b
     parts a b ha hb (inl less) = inl less
     parts a b ha hb (inr h) = inr (h.0, bytes_below 32 a.id.0 b.id.0 ha hb h.1)
+
     numbers : (a b : Item) → Bytes 32 a.id.0 → Bytes 32 b.id.0 → ComesBefore a b → (a.time < b.time) ⊎ ((a.time ≡ b.time) × (number_of_bytes a.id.0 < number_of_bytes b.id.0))
     numbers a b ha hb (inl less) = inl less
     numbers a b ha hb (inr h) = inr (h.0, below_bytes 32 a.id.0 b.id.0 ha hb h.1)
