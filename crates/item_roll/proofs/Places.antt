@@ -66,3 +66,17 @@ count_at xs b i up le low high = omega (arith, least i refl, most)
       | inl lt ↦ high_item xs i b b up lt (high i b (omega arith) lt)
       | inr ge ↦ omega (arith, count_most xs b)
     ]
+
+-- the higher the bound, the more items stand below it
+pub count_rises : (xs : List Item) (a b : Item) → place a ≤ place b → count_below xs a ≤ count_below xs b
+unfolding count_below
+count_rises [] a b le = omega arith
+count_rises (x ∷ xs) a b le = go (cases_lt (place x) (place a)) (cases_lt (place x) (place b)) (count_rises xs a b le)
+  where
+    go : (place x < place a) ⊎ (place a ≤ place x) → (place x < place b) ⊎ (place b ≤ place x)
+        → length (filter (λ k. ltb (place k) (place a)) xs) ≤ length (filter (λ k. ltb (place k) (place b)) xs)
+        → length (filter (λ k. ltb (place k) (place a)) (x ∷ xs)) ≤ length (filter (λ k. ltb (place k) (place b)) (x ∷ xs))
+    go (inl la) (inl lb) ih = rw (lt-ltb (place x) (place a) la, lt-ltb (place x) (place b) lb) (omega (arith, ih))
+    go (inl la) (inr lb) ih = absurd (omega arith)
+    go (inr la) (inl lb) ih = rw (le-ltb (place x) (place a) la, lt-ltb (place x) (place b) lb) (omega (arith, ih))
+    go (inr la) (inr lb) ih = rw (le-ltb (place x) (place a) la, le-ltb (place x) (place b) lb) (omega (arith, ih))

@@ -44,7 +44,7 @@ cmp_shift c a b = elim (three a b) [
 ]
 
 -- a high part, then a low part below the unit
-high_low : (p x y a b : ℕ) → a < p → b < p → x < y → x * p + a < y * p + b
+pub high_low : (p x y a b : ℕ) → a < p → b < p → x < y → x * p + a < y * p + b
 high_low p x y a b la lb lt =
     let m : suc x * p ≤ y * p = mul-le-mul_right p (let h : suc x ≤ y = omega arith in h) in
     let e : suc x * p ≡ x * p + p = omega arith in

@@ -6,15 +6,19 @@ ghost use Rattle.neg_varint.specs.Spelling.{IsSpelling, OneSpelling, spelling};
 ghost use Rattle.neg_varint.specs.Reading.{GivesNumber};
 
 use std::alloc::AllocError;
+use thiserror::Error;
 
-/// Why the bytes begin with no number: the first fault from left to right.
-#[derive(Clone, Copy, Debug, PartialEq, Eq)]
+/// Why bytes begin with no number: the first fault from left to right.
+#[derive(Clone, Copy, Debug, PartialEq, Eq, Error)]
 pub enum VarintFault {
     /// The bytes end before the last digit.
+    #[error("a number is cut short")]
     Truncated,
     /// The first of several digits is 0.
+    #[error("a number begins with a digit 0")]
     Padded,
     /// The number reaches 2^64.
+    #[error("a number is 2^64 or more")]
     TooLarge,
 }
 
