@@ -64,7 +64,8 @@ impl Draft {
     /// The draft after the keys below a bound, which are skipped.
     pub fn skip(self, upper: Bound) -> Draft
         requires { place self.end ≤ place (edge_of upper) }
-        ensures { result ≡ passed self (edge_of upper) }
+        ensures now { result ≡ passed self (edge_of upper) }
+        ensures draft { IsDraft self }
     {
         let _ = upper.edge();
         let Draft {

@@ -48,31 +48,36 @@ replied_more roll front r back d new up draft was (inl p) =
     let asked = front ++ (r ∷ back) in
     let le : place d.end ≤ place r.upper = omega (arith, was.reached, ascends_after least front r back up) in
     let covers = covers_passes (IsTrueOf roll) (MaySkip roll (front ++ (r ∷ back))) (MustSkip roll (front ++ (r ∷ back))) d r.upper draft le was.covers
-      (λ k key ge lt. (begun_at (end_of least front) r, stretch_of least front r back, (omega (arith, was.reached, ge), lt),
-        same_lower roll d.end (end_of least front) r was.reached (p.holds k (ge, lt)))) in
+    (λ k key ge lt. (
+      begun_at (end_of least front) r,
+      stretch_of least front r back,
+      (omega (arith, was.reached, ge), lt),
+      same_lower roll d.end (end_of least front) r was.reached (p.holds k (ge, lt)),
+    )) in
     subst (λ (n : Written). Replied roll (front ++ (r ∷ back)) (front ++ (r ∷ [])) n) (sym p.now)
-      (record { covers = covers; reached = passed_place d r.upper le ∙ ap place (sym (end-append least front (r ∷ []))) })
+    (record { covers = covers; reached = passed_place d r.upper le ∙ ap place (sym (end-append least front (r ∷ []))) })
 replied_more roll front r back d new up draft was (inr t) =
     let le : place d.end ≤ place r.upper = omega (arith, was.reached, ascends_after least front r back up) in
     let covers = covers_tells (IsTrueOf roll) (MaySkip roll (front ++ (r ∷ back))) (MustSkip roll (front ++ (r ∷ back))) d r.upper t.0.spans draft le t.0.tells was.covers (skip_holds roll) t.0.holds
-      (λ k key ge lt q. t.1 (is_same_lower roll (end_of least front) d.end r (sym was.reached)
-        (subst (IsSame roll) (one_stretch (front ++ (r ∷ back)) up k q.0 (begun_at (end_of least front) r) q.1 (stretch_of least front r back) q.2 (omega (arith, was.reached, ge), lt)) q.3))) in
+    (λ k key ge lt q. t.1 (is_same_lower roll (end_of least front) d.end r (sym was.reached)
+    (subst (IsSame roll) (one_stretch (front ++ (r ∷ back)) up k q.0 (begun_at (end_of least front) r) q.1 (stretch_of least front r back) q.2 (omega (arith, was.reached, ge), lt)) q.3))) in
     subst (λ (n : Written). Replied roll (front ++ (r ∷ back)) (front ++ (r ∷ [])) n) (sym t.0.now)
-      (record { covers = covers; reached = ap place (sym (end-append least front (r ∷ []))) })
+    (record { covers = covers; reached = ap place (sym (end-append least front (r ∷ []))) })
 
 -- the Skip that a question implies behind its ranges
 pub replied_all : (roll : List Item) (asked : List Span) (d : Written) → IsDraft d → Replied roll asked asked d
     → Covers (IsTrueOf roll) (MaySkip roll asked) (MustSkip roll asked) (passed d infinity)
 replied_all roll asked d draft was =
     covers_passes (IsTrueOf roll) (MaySkip roll asked) (MustSkip roll asked) d infinity draft draft.low was.covers
-      (λ k key ge lt. let s = beyond least asked k key (omega (arith, was.reached, ge)) in (s.0, s.1, s.3, skip_holds roll s.0 s.2))
+    (λ k key ge lt. let s = beyond least asked k key (omega (arith, was.reached, ge)) in (s.0, s.1, s.3, skip_holds roll s.0 s.2))
 
 -- what the message says that is written of it
 pub replied_follows : (roll : List Item) (asked : List Span) (d : Written) → Ascends least asked → place d.end ≡ place infinity
     → Covers (IsTrueOf roll) (MaySkip roll asked) (MustSkip roll asked) d → Follows roll asked d.spans × SkipsSame roll asked d.spans
 replied_follows roll asked d up end c = (
-    follows_from roll asked d.spans up (record {
-      told = told_whole (IsTrueOf roll) d.spans (skip_holds roll) c.told;
-      skips = λ k s key h is_skip lies. c.may k key (omega (arith, end, key_below k key)) (skipped_left_out d.spans k s h is_skip lies);
-    }),
-    λ t k h same key lies. left_out_skipped d.spans k key (c.must k key (omega (arith, end, key_below k key)) (t, h, lies, same)))
+  follows_from roll asked d.spans up (record {
+    told = told_whole (IsTrueOf roll) d.spans (skip_holds roll) c.told;
+    skips = λ k s key h is_skip lies. c.may k key (omega (arith, end, key_below k key)) (skipped_left_out d.spans k s h is_skip lies);
+  }),
+  λ t k h same key lies. left_out_skipped d.spans k key (c.must k key (omega (arith, end, key_below k key)) (t, h, lies, same)),
+)

@@ -3,6 +3,8 @@ use Rattle.std.specs.Prelude.{◌≡◌, ◌≢◌, ◌⊎◌, ◌≤◌, ◌<�
 use Rattle.neg_codec.specs.declared.Item.{Item}
 use Rattle.neg_codec.specs.Keys.{place, IsKey}
 use Rattle.neg_codec.specs.Ranges.{print, Span, Stretch, stretches, Lies, IsSkip}
+use Rattle.neg_codec.specs.declared.CodecFault.{CodecFault}
+use Rattle.neg_codec.specs.declared.CodecFault.TheVariants as codec
 use Rattle.item_roll.specs.Truth.{IsTrueOf}
 use Rattle.neg_draft.specs.Coverage.{Written, passed, Told}
 
@@ -33,3 +35,9 @@ pub record Passes (roll : List Item) (old : Written) (r : Span) (new : Written) 
 -- or it tells what the roll has there, where that isn't known as the same
 abbrev pub Responds : List Item → Written → Span → Written → Type 0
 Responds roll old r new = Passes roll old r new ⊎ (Told roll old r.upper new × (IsSame roll (begun_at old.end r) → ⊥))
+
+-- a fault of the reader that refuses a query: another version is answered, and want of memory is no fault of the query
+abbrev pub Refuses : CodecFault → Type 0
+Refuses (codec.Version b) = ⊥
+Refuses codec.Memory = ⊥
+Refuses _ = Unit {0}

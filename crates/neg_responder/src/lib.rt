@@ -1,7 +1,7 @@
 //! The answering side of a session (Negentropy protocol V1).
 #![tactic(auto)]
 
-mod answer;
-mod reply;
+mod answering;
+mod ranges;
 
-pub use answer::{AnswerFault, answer};
+pub use answering::{AnswerFault, answer};
