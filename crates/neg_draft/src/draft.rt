@@ -103,9 +103,10 @@ impl Draft {
         })
     }
 
-    /// The message of what was told.
+    /// The message of what was told: behind it all is skipped.
     pub fn into_message(self) -> Message
-        ensures { result ≡ self.spans }
+        ensures value { result ≡ self.spans }
+        ensures draft { IsDraft self }
     {
         let Draft { ranges, .. } = self;
         match Message::of(ranges) {

@@ -1,10 +1,12 @@
 -- A reply, range by range of the question.
-use Rattle.std.proofs.Common.{◌≡◌, ℕ, ◌<◌, ◌≤◌, ◌⊎◌, inl, inr, ltb, leb, ◌&&◌, List, [], ◌∷◌, ◌++◌, length, take, drop, refl, sym, ap, subst, ◌∙◌, arith}
+use Rattle.std.proofs.Common.{◌≡◌, ℕ, zero, suc, ◌+◌, map, get_or, ◌<◌, ◌≤◌, ◌⊎◌, inl, inr, ltb, leb, ◌&&◌, List, [], ◌∷◌, ◌++◌, length, take, drop, refl, sym, ap, subst, ◌∙◌, arith}
 use Rattle.std.specs.Prelude.{Contains, All, filter}
+use Rattle.std.proofs.lemmas.List.{take_all, take_more, map-append}
+use Rattle.neg_codec.specs.declared.Range.{Range}
 use Rattle.neg_codec.proofs.Stretches.{one_stretch, least_below, key_below}
 use Rattle.neg_codec.specs.declared.Item.{Item}
 use Rattle.neg_codec.specs.Keys.{place, least, endless, infinity, IsKey}
-use Rattle.neg_codec.specs.Ranges.{Claim, skip, print, Span, Stretch, stretches, Lies, IsSkip, Ascends}
+use Rattle.neg_codec.specs.Ranges.{Claim, skip, print, Span, Stretch, stretches, Lies, IsSkip, Ascends, span_of}
 use Rattle.item_roll.specs.Truth.{Says, IsTrueOf, Follows}
 use Rattle.item_roll.specs.Parts.{part}
 use Rattle.item_roll.specs.Closed.{closed_from}
@@ -81,3 +83,46 @@ replied_follows roll asked d up end c = (
   }),
   λ t k h same key lies. left_out_skipped d.spans k key (c.must k key (omega (arith, end, key_below k key)) (t, h, lies, same)),
 )
+
+-- ---- the range at a place of a list
+
+split_there : {X : Type 0} → (xs : List X) (i : ℕ) (d : X) → i < length xs → xs ≡ take i xs ++ (get_or xs i d ∷ drop (suc i) xs)
+split_there [] i d lt = absurd (omega arith)
+split_there (x ∷ xs) zero d lt = refl
+split_there {X} (x ∷ xs) (suc i) d lt = ap (λ (t : List X). x ∷ t) (split_there xs i d (omega (arith, lt)))
+
+pub ranges_at : (ranges : List Range) (i : ℕ) (r : Range) → i < length ranges → r ≡ get_or ranges i r
+    → map span_of ranges ≡ map span_of (take i ranges) ++ (span_of r ∷ map span_of (drop (suc i) ranges))
+ranges_at ranges i r lt is =
+    ap (map span_of) (split_there ranges i r lt) ∙ map-append span_of (take i ranges) (get_or ranges i r ∷ drop (suc i) ranges)
+    ∙ ap (λ (x : Range). map span_of (take i ranges) ++ (span_of x ∷ map span_of (drop (suc i) ranges))) (sym is)
+
+pub ranges_upto : (ranges : List Range) (i : ℕ) (r : Range) → i < length ranges → r ≡ get_or ranges i r
+    → map span_of (take (i + 1) ranges) ≡ map span_of (take i ranges) ++ (span_of r ∷ [])
+ranges_upto ranges i r lt is =
+    ap (map span_of) (take_more ranges i r lt) ∙ map-append span_of (take i ranges) (get_or ranges i r ∷ [])
+    ∙ ap (λ (x : Range). map span_of (take i ranges) ++ (span_of x ∷ [])) (sym is)
+
+pub replied_at : (roll : List Item) (ranges : List Range) (i : ℕ) (r : Range) (d new : Written) → i < length ranges → r ≡ get_or ranges i r → Ascends least (map span_of ranges) → IsDraft d
+    → Replied roll (map span_of ranges) (map span_of (take i ranges)) d → Responds roll d (span_of r) new → Replied roll (map span_of ranges) (map span_of (take (i + 1) ranges)) new
+replied_at roll ranges i r d new lt is up draft was step =
+    let front = map span_of (take i ranges) in
+    let back = map span_of (drop (suc i) ranges) in
+    let e = ranges_at ranges i r lt is in
+    let more = replied_more roll (map span_of (take i ranges)) (span_of r) (map span_of (drop (suc i) ranges)) d new
+    (subst (λ (x : List Span). Ascends least x) e up) draft (subst (λ (x : List Span). Replied roll x (map span_of (take i ranges)) d) e was) step in
+    subst (λ (x : List Span). Replied roll x (map span_of (take (i + 1) ranges)) new) (sym e)
+    (subst (λ (x : List Span). Replied roll (map span_of (take i ranges) ++ (span_of r ∷ map span_of (drop (suc i) ranges))) x new) (sym (ranges_upto ranges i r lt is)) more)
+
+pub ahead_at : (roll : List Item) (ranges : List Range) (i : ℕ) (r : Range) (d : Written) → i < length ranges → r ≡ get_or ranges i r → Ascends least (map span_of ranges)
+    → Replied roll (map span_of ranges) (map span_of (take i ranges)) d → place d.end ≤ place (span_of r).upper
+ahead_at roll ranges i r d lt is up was =
+    omega (arith, was.reached, ascends_after least (map span_of (take i ranges)) (span_of r) (map span_of (drop (suc i) ranges)) (subst (λ (x : List Span). Ascends least x) (ranges_at ranges i r lt is) up))
+
+-- the whole reply
+pub replied_whole : (roll : List Item) (ranges : List Range) (n : ℕ) (d out : Written) → length ranges ≤ n → Ascends least (map span_of ranges) → IsDraft d
+    → Replied roll (map span_of ranges) (map span_of (take n ranges)) d → out ≡ passed d infinity → Follows roll (map span_of ranges) out.spans × SkipsSame roll (map span_of ranges) out.spans
+replied_whole roll ranges n d out le up draft was e =
+    let all = subst (λ (x : List Range). Replied roll (map span_of ranges) (map span_of x) d) (take_all n ranges le) was in
+    subst (λ (w : Written). Follows roll (map span_of ranges) w.spans × SkipsSame roll (map span_of ranges) w.spans) (sym e)
+    (replied_follows roll (map span_of ranges) (passed d infinity) up (passed_place d infinity draft.low) (replied_all roll (map span_of ranges) d draft all))

@@ -58,6 +58,20 @@ fn answer_message(alloc: Global, roll: &Roll, asked: &Message) -> Result<Vec<u8>
     Ok(bytes)
 }
 
+/// The answer to bytes that aren't read as a message.
+fn answer_fault(alloc: Global, fault: CodecFault) -> Result<Vec<u8>, AnswerFault>
+    ensures bad { (f : CodecFault) → result ≡ Err (AnswerFault.Bad f) → (f ≡ fault) × Refuses fault }
+    ensures refused { Refuses fault → result ≡ Err (AnswerFault.Bad fault) }
+    ensures version { (b : ℕ) → fault ≡ codec.Version b → IfOk result (λ v. v.items ≡ 0x61 ∷ []) }
+    ensures others { IfOk result (λ v. (b : ℕ) × (fault ≡ codec.Version b)) }
+{
+    match fault {
+        CodecFault::Version(_) => own_version(alloc),
+        CodecFault::Memory => Err(AnswerFault::Memory),
+        other => Err(AnswerFault::Bad(other)),
+    }
+}
+
 /// The answer of a roll to a query (Negentropy protocol V1). A query of another version is answered by
 /// the one byte 61, the version that is spoken here. It costs a pass over the query and, for each
 /// fingerprint and list in it, a pass over the items that it tells of.
@@ -69,7 +83,7 @@ pub fn answer(
 ) -> Result<Vec<u8>, AnswerFault>
     requires { 4096 ≤ _limit }
     // The answer follows the roll, and skips what is the same on both sides.
-    ensures follows { IfOk result (λ v. (q : List Span) → Spells query.now q → (r : List Span) × Spells v.items r × Follows roll.now q r × SkipsSame roll.now q r) }
+    ensures follows { IfOk result (λ v. (q : List Span) → length query.now ≤ longest → Spells query.now q → (r : List Span) × Spells v.items r × Follows roll.now q r × SkipsSame roll.now q r) }
     // A query is refused just where it is no message, and by that fault.
     ensures bad { (f : CodecFault) → result ≡ Err (AnswerFault.Bad f) → (message_at query.now ≡ Err f) × Refuses f }
     ensures refused { (f : CodecFault) → message_at query.now ≡ Err f → Refuses f → result ≡ Err (AnswerFault.Bad f) }
@@ -78,8 +92,6 @@ pub fn answer(
 {
     match decode(alloc, query) {
         Ok(asked) => answer_message(alloc, roll, &asked),
-        Err(CodecFault::Version(_)) => own_version(alloc),
-        Err(CodecFault::Memory) => Err(AnswerFault::Memory),
-        Err(fault) => Err(AnswerFault::Bad(fault)),
+        Err(fault) => answer_fault(alloc, fault),
     }
 }

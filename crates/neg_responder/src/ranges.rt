@@ -8,7 +8,7 @@ ghost use Rattle.neg_draft.specs.Coverage.{IsDraft};
 ghost use Rattle.neg_responder.specs.Reply.{SkipsSame, Responds};
 
 use item_roll::Roll;
-use neg_codec::{Bound, Message, Payload, Range};
+use neg_codec::{Message, Payload, Range};
 use neg_draft::{Draft, is_own_print};
 use std::alloc::{AllocError, Global};
 
@@ -43,5 +43,5 @@ pub fn reply(alloc: Global, roll: &Roll, asked: &Message) -> Result<Message, All
     for range in asked.ranges() {
         draft = reply_range(alloc, roll, draft, range)?;
     }
-    Ok(draft.skip(Bound::Infinite).into_message())
+    Ok(draft.into_message())
 }
