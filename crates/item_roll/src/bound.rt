@@ -5,7 +5,6 @@ ghost use Rattle.neg_codec.specs.Keys.{number_of_bytes, place, endless};
 ghost use Rattle.neg_codec.specs.Ranges.{edge_of};
 ghost use Rattle.item_roll.specs.Splits.{common_len, minimal_bound_of};
 
-use crate::order::known_id;
 use neg_codec::{Bound, Id, Item, Key};
 
 /// How many first bytes are the same.
@@ -43,8 +42,8 @@ pub fn minimal_bound(first: &Item, second: &Item) -> Bound
     ensures above { place first.now < place (edge_of result) }
     ensures upto { place (edge_of result) ≤ place second.now }
 {
-    known_id(&first.id.0);
-    known_id(&second.id.0);
+    let _ = first.id.as_bytes();
+    let _ = second.id.as_bytes();
     let id = if first.time == second.time {
         front_apart(&first.id.0, &second.id.0)
     } else {

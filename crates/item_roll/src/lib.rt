@@ -4,6 +4,7 @@
 mod bound;
 mod order;
 mod roll;
+mod sorting;
 mod split;
 
 pub use bound::minimal_bound;

@@ -13,7 +13,6 @@ use sha2::{Digest, Sha256};
 pub fn print(sum: Sum, count: u64) -> [u8; 16]
     ensures { result ≡ print_by (total_of sum) count }
 {
-    neg_varint::one_spelling();
     let (spelling, len) = neg_varint::spell(count);
     let mut hasher = Sha256::new();
     hasher.update(&sum.to_bytes());

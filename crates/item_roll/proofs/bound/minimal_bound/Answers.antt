@@ -23,10 +23,10 @@ returns-clause-value c = value c
 
 pub returns-clause-above : goal.returns-clause-above
 returns-clause-above c =
-    let b = bound_between c.args.first.now c.args.second.now (record { time = c.requires.first; id = c.known_id.ensures }) (record { time = c.requires.second; id = c.known_id-2.ensures }) c.requires.order in
+    let b = bound_between c.args.first.now c.args.second.now (record { time = c.requires.first; id = c.as_bytes.ensures.whole }) (record { time = c.requires.second; id = c.as_bytes-2.ensures.whole }) c.requires.order in
     subst (λ (k : Item). place c.args.first.now < place k) (sym (value c)) b.above
 
 pub returns-clause-upto : goal.returns-clause-upto
 returns-clause-upto c =
-    let b = bound_between c.args.first.now c.args.second.now (record { time = c.requires.first; id = c.known_id.ensures }) (record { time = c.requires.second; id = c.known_id-2.ensures }) c.requires.order in
+    let b = bound_between c.args.first.now c.args.second.now (record { time = c.requires.first; id = c.as_bytes.ensures.whole }) (record { time = c.requires.second; id = c.as_bytes-2.ensures.whole }) c.requires.order in
     subst (λ (k : Item). place k ≤ place c.args.second.now) (sym (value c)) b.upto
