@@ -8,8 +8,9 @@ use Rattle.neg_initiator.proofs.ids.put.Goals as goal
 
 pub returns-clause-ok : goal.returns-clause-ok
 returns-clause-ok c = rw c.in_ok-insert.ensures.keys (λ i. (
-    λ h. put_gives c.args.set.now.keys c.args.id i h,
-    λ h. elim h [
-      | inl old ↦ put_keeps c.args.set.now.keys c.args.id i old
-      | inr e ↦ subst (λ (y : Id). Contains (insert_key id_cmp c.args.set.now.keys c.args.id) y) (sym e) (put_there c.args.set.now.keys c.args.id)
-      ]))
+  λ h. put_gives c.args.set.now.keys c.args.id i h,
+  λ h. elim h [
+    | inl old ↦ put_keeps c.args.set.now.keys c.args.id i old
+    | inr e ↦ subst (λ (y : Id). Contains (insert_key id_cmp c.args.set.now.keys c.args.id) y) (sym e) (put_there c.args.set.now.keys c.args.id)
+  ],
+))

@@ -17,8 +17,9 @@ loop-id-preserved c =
       λ h. elim ((c.in_ok-put.ensures.ok i).0 h) [
         | inl old ↦ seen_keeps ids n no_id i lt ((c.loop-id.invariant i).0 old)
         | inr e ↦ subst (λ (y : Id). Contains (take (n + 1) ids) y) (sym e) (seen_there ids n no_id lt)
-        ],
-      λ h. (c.in_ok-put.ensures.ok i).1 (elim (seen_gives ids n no_id i lt h) [ | inl old ↦ inl ((c.loop-id.invariant i).1 old) | inr e ↦ inr e ]))
+      ],
+      λ h. (c.in_ok-put.ensures.ok i).1 (elim (seen_gives ids n no_id i lt h) [ inl old ↦ inl ((c.loop-id.invariant i).1 old) | inr e ↦ inr e ]),
+    )
 
 pub returns : goal.returns
 returns c =
