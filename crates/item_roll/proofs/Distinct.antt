@@ -5,12 +5,12 @@ use Rattle.std.specs.List.{IsDistinct, AllByRecursion}
 use Rattle.std.specs.List.Sorted.{IsNonDecreasingBy}
 use Rattle.std.proofs.lemmas.Bool.{cases_lt, cases_eq, ltb-true, ltb-false, eq-eqb, ne_eqb}
 use Rattle.std.proofs.lemmas.List.Elements.{All-head, All-tail, All-cons, All-nil}
-use Rattle.std.proofs.lemmas.List.Sorted.{IsPermutation-sym}
+use Rattle.std.proofs.lemmas.List.Sorted.{IsPermutation-sym, All-permutation, length_permutation}
 use Rattle.std.proofs.lemmas.Map.Keys.{IsDistinct-IsPermutation, IsDistinct-cons, apart_from_distinct}
 use Rattle.neg_codec.specs.declared.Item.{Item}
 use Rattle.neg_codec.specs.Keys.{place, IsKey, item_of}
 use Rattle.neg_codec.specs.Laws.{OnePlace}
-use Rattle.item_roll.specs.Parts.{Ascending}
+use Rattle.item_roll.specs.Parts.{Ascending, IsRoll}
 use Rattle.item_roll.specs.Repeats.{HasRepeat}
 use Rattle.item_roll.proofs.Truths.{order_at}
 
@@ -37,7 +37,7 @@ search_for x (y ∷ ys) = elim (cases_eq (place x) (place y)) [
 ]
 
 -- the element at an index, whatever is given for an index past the end
-at_any : (xs : List Item) (i : ℕ) (d e : Item) → i < length xs → get_or xs i d ≡ get_or xs i e
+pub at_any : (xs : List Item) (i : ℕ) (d e : Item) → i < length xs → get_or xs i d ≡ get_or xs i e
 at_any [] i d e lt = absurd (omega arith)
 at_any (x ∷ xs) zero d e lt = refl
 at_any (x ∷ xs) (suc i) d e lt = at_any xs i d e (omega arith)
@@ -136,3 +136,14 @@ keys_more items i keys lt key k d l = elim (cases_lt k i) [
       let here : k ≡ i = omega arith in
       rw here (subst IsKey (at_any items i (item_of 0 []) d lt) key)
 ]
+
+-- ---- a list that was sorted
+
+pub sorted_roll : (items sorted list : List Item) → All IsKey items → IsPermutation items sorted → list ≡ sorted → Ascending list → IsRoll sorted
+sorted_roll items sorted list keys moved same up = record { keys = All-permutation IsKey items sorted moved keys; ascending = subst Ascending same up }
+
+pub never_twice : (items sorted : List Item) → OnePlace → IsRoll sorted → IsPermutation items sorted → HasRepeat items → ⊥
+never_twice items sorted one roll moved again = none_twice sorted roll.ascending (twice_permuted items sorted one roll.keys moved again)
+
+pub sorted_len : (items sorted list : List Item) (len n : ℕ) → IsPermutation items sorted → list ≡ sorted → length list ≡ len → n ≡ len → n ≡ length items
+sorted_len items sorted list len n moved same e f = f ∙ sym e ∙ ap (λ (xs : List Item). length xs) same ∙ length_permutation items sorted moved

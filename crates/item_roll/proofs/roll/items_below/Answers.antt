@@ -5,8 +5,8 @@ use Rattle.neg_codec.specs.Keys.{place}
 use Rattle.item_roll.proofs.Places.{rises, count_at}
 use Rattle.item_roll.proofs.roll.items_below.Goals as goal
 
-pub returns : goal.returns
-returns c =
+pub returns-clause-value : goal.returns-clause-value
+returns-clause-value c =
     let parted = IsPartitionedBy-ltb place c.args.items.now (place c.args.edge.now) (rises c.args.items.now c.requires) in
     let point = IsPartitionPoint-from_clause (λ y. ltb (place y) (place c.args.edge.now)) _ _ c.partition_point.ensures.partitioned parted (λ a r q k. search rules) in
     count_at c.args.items.now c.args.edge.now c.partition_point.result c.requires c.partition_point.ensures.bound

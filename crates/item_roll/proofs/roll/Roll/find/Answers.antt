@@ -8,7 +8,7 @@ use Rattle.item_roll.proofs.Places.{count_most}
 use Rattle.item_roll.proofs.roll.Roll.find.Goals as goal
 
 value : (c : goal.After-items_below) → c.items_below.result ≡ count_below c.args.self.now (edge_of c.args.bound.now)
-value c = c.items_below.ensures ∙ ap (λ (xs : List Item). count_below xs c.edge.result) (c.deref.ensures.value ∙ c.self.view_is) ∙ ap (λ (b : Item). count_below c.args.self.now b) c.edge.ensures.value
+value c = c.items_below.ensures.value ∙ ap (λ (xs : List Item). count_below xs c.edge.result) (c.deref.ensures.value ∙ c.self.view_is) ∙ ap (λ (b : Item). count_below c.args.self.now b) c.edge.ensures.value
 
 pub returns-clause-value : goal.returns-clause-value
 returns-clause-value c = value c
