@@ -5,6 +5,7 @@ mod found;
 mod ids;
 mod initiator;
 mod phase;
+mod trust;
 
 pub use initiator::{InitFault, Initiator, Next, Outcome};
 pub use phase::Phase;
