@@ -16,10 +16,10 @@ use Rattle.neg_initiator.proofs.trust.trust_skipped.Goals as goal
 
 pub loop-range-init : goal.loop-range-init
 loop-range-init c = record {
-    at = rw (c.lowest-from.ensures, c.lowest-lower.ensures, c.ranges-rest.ensures.value) (at_start c.args.answered.now);
-    lower = c.lowest-lower.ensures;
-    trusts = trusts_none (map span_of c.ranges-range-items.result.now) c.args.answered.now (map pair_of c.args.trusted.now.items);
-  }
+  at = rw (c.lowest-from.ensures, c.lowest-lower.ensures, c.ranges-rest.ensures.value) (at_start c.args.answered.now);
+  lower = c.lowest-lower.ensures;
+  trusts = trusts_none (map span_of c.ranges-range-items.result.now) c.args.answered.now (map pair_of c.args.trusted.now.items);
+}
 
 pub pass-passed-requires-clause-ascends : goal.pass-passed-requires-clause-ascends
 pass-passed-requires-clause-ascends c =
@@ -47,14 +47,14 @@ loop-range-preserved c =
     let all = ranges_at c.ranges-range-items.result.now c.loop-range.range-index c.range-item.result lt c.range-item.is in
     let rest : List Span = map span_of c.loop-range.rest.now in
     let parts : map span_of c.loop-range.rest.now ≡ map span_of (take c.pass-passed.result.count c.loop-range.rest.now) ++ map span_of (drop c.pass-passed.result.count c.loop-range.rest.now) =
-      ap (map span_of) (sym (take-append-drop c.pass-passed.result.count c.loop-range.rest.now)) ∙ map-append span_of (take c.pass-passed.result.count c.loop-range.rest.now) (drop c.pass-passed.result.count c.loop-range.rest.now) in
+    ap (map span_of) (sym (take-append-drop c.pass-passed.result.count c.loop-range.rest.now)) ∙ map-append span_of (take c.pass-passed.result.count c.loop-range.rest.now) (drop c.pass-passed.result.count c.loop-range.rest.now) in
     let at = at_more c.args.answered.now (map span_of (take c.pass-passed.result.count c.loop-range.rest.now)) (map span_of (drop c.pass-passed.result.count c.loop-range.rest.now)) (map span_of c.loop-range.rest.now)
-      (edge_of c.loop-range.from) (edge_of c.loop-range.lower) (edge_of c.pass-passed.result.end) (edge_of c.range-item.result.upper) c.loop-range.invariant.at parts c.pass-passed.ensures.end c.pass-passed.ensures.behind in
+    (edge_of c.loop-range.from) (edge_of c.loop-range.lower) (edge_of c.pass-passed.result.end) (edge_of c.range-item.result.upper) c.loop-range.invariant.at parts c.pass-passed.ensures.end c.pass-passed.ensures.behind in
     let met = met_is c.args.answered.now (map span_of c.loop-range.rest.now) (edge_of c.loop-range.from) (edge_of c.loop-range.lower) (edge_of c.range-item.result.upper) c.pass-passed.result.met
-      c.ranges-rest.ensures.ordered.ascends c.loop-range.invariant.at c.pass-passed.ensures.met in
+    c.ranges-rest.ensures.ordered.ascends c.loop-range.invariant.at c.pass-passed.ensures.met in
     let trusts = trusts_more front (span_of c.range-item.result) back c.args.answered.now (map pair_of c.args.trusted.now.items) (map pair_of c.loop-range.trusted.items) (map pair_of c.trust_one.new.trusted.items) c.pass-passed.result.met
-      (subst (λ (x : List Span). TrustsSkipped x c.args.answered.now (closed_from least (map span_of (take c.loop-range.range-index c.ranges-range-items.result.now))) (map pair_of c.args.trusted.now.items) (map pair_of c.loop-range.trusted.items)) all c.loop-range.invariant.trusts)
-      (rw c.loop-range.invariant.lower at met) (rw c.loop-range.invariant.lower at c.in_ok-trust_one.ensures) in
+    (subst (λ (x : List Span). TrustsSkipped x c.args.answered.now (closed_from least (map span_of (take c.loop-range.range-index c.ranges-range-items.result.now))) (map pair_of c.args.trusted.now.items) (map pair_of c.loop-range.trusted.items)) all c.loop-range.invariant.trusts)
+    (rw c.loop-range.invariant.lower at met) (rw c.loop-range.invariant.lower at c.in_ok-trust_one.ensures) in
     record {
       at = rw c.split_at.ensures.back at;
       lower = rw upto (sym (end-append least front (span_of c.range-item.result ∷ [])));

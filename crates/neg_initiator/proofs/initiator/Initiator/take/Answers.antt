@@ -1,7 +1,7 @@
 use Rattle.std.proofs.Common.{◌≡◌, Result, Err}
 use Rattle.neg_codec.specs.declared.CodecFault.{CodecFault}
-use Rattle.neg_initiator.specs.declared.initiator.InitFault.{InitFault}
-use Rattle.neg_initiator.specs.declared.initiator.InitFault.TheVariants as fault
+use Rattle.neg_initiator.specs.declared.fault.InitFault.{InitFault}
+use Rattle.neg_initiator.specs.declared.fault.InitFault.TheVariants as fault
 use Rattle.neg_initiator.specs.declared.initiator.Next.{Next}
 use Rattle.neg_initiator.proofs.initiator.Initiator.take.Goals as goal
 
