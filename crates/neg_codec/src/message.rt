@@ -14,7 +14,8 @@ use crate::{Bound, CodecFault, Id, Payload, Range};
 use std::alloc::{AllocError, Global};
 use std::marker::Model;
 
-/// Ranges whose bounds don't descend, none of them after an infinite bound.
+/// Ranges whose bounds don't descend, none of them after an infinite bound (Negentropy protocol V1,
+/// "Message").
 #[derive(Debug, Drop)]
 pub struct Message {
     ranges: Vec<Range>,
@@ -206,6 +207,7 @@ fn scan_ranges(total: usize, bytes: &[u8]) -> Result<(), CodecFault>
     Ok(())
 }
 
+/// The ranges of the message that the bytes spell.
 fn message_ranges(alloc: Global, bytes: &[u8]) -> Result<Vec<Range>, CodecFault>
     ensures reads { Gives (λ v. map span_of v.items) result (message_at bytes.now) }
     ensures first { (f : CodecFault) → message_at bytes.now ≡ Err f → result ≡ Err f }
@@ -227,7 +229,8 @@ fn message_ranges(alloc: Global, bytes: &[u8]) -> Result<Vec<Range>, CodecFault>
     }
 }
 
-/// The message that the bytes spell.
+/// The message that the bytes spell, at most 1,048,576 of them (Negentropy protocol V1, "Message"),
+/// or the first fault from left to right with its place. Every fault is found before memory is taken.
 pub fn decode(alloc: Global, bytes: &[u8]) -> Result<Message, CodecFault>
     // What is read is spelled so.
     ensures found { IfOk result (λ m. (length bytes.now ≤ longest) × Spells bytes.now m) }
