@@ -1,9 +1,9 @@
 //! Messages, and how they are read.
 
-ghost use Rattle.std.specs.Prelude.{All, None, Some, IfNone, IfSome, ◌≡◌, ℕ, ◌+◌, ◌*◌, ◌<◌, ◌≤◌, List, ◌⊎◌, length, map, Ok, Err, Result, IfOk, IfErr, OnOk, IsOk};
+ghost use Rattle.std.specs.Prelude.{All, None, Some, IfNone, IfSome, ◌≡◌, ℕ, ◌+◌, ◌*◌, ◌<◌, ◌≤◌, ◌↔◌, List, ◌⊎◌, length, map, Ok, Err, Result, IfOk, IfErr, OnOk, IsOk};
 ghost use Rattle.neg_codec.specs.Keys.{least, IsId};
 ghost use Rattle.neg_codec.specs.declared.CodecFault.{CodecFault};
-ghost use Rattle.neg_codec.specs.Ranges.{Claim, print, Span, edge_of, span_of, claim_of, IsSpan, IsClaim, IsMessage};
+ghost use Rattle.neg_codec.specs.Ranges.{Claim, print, Span, edge_of, span_of, claim_of, Ascends, IsSpan, IsClaim, IsMessage};
 ghost use Rattle.neg_codec.specs.Misplaced.{first_misplaced};
 ghost use Rattle.neg_codec.specs.Text.{Spells};
 ghost use Rattle.neg_codec.specs.Lending.{claim_lent, IsWhole};
@@ -95,7 +95,7 @@ impl Message {
     /// `AfterInfinity`. It takes no memory.
     pub fn of(ranges: Vec<Range>) -> Result<Message, (CodecFault, Vec<Range>)>
         ensures keeps { IfOk result (λ m. m ≡ map span_of ranges.items) }
-        ensures in_place { IfOk result (λ m. first_misplaced (map span_of ranges.items) ≡ None) }
+        ensures in_place { IsOk result ↔ Ascends least (map span_of ranges.items) }
         ensures fault { IfErr result (λ e. first_misplaced (map span_of ranges.items) ≡ Some e.0) }
         ensures hands_back { IfErr result (λ e. e.1 ≡ ranges) }
     {
