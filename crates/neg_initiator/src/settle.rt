@@ -1,19 +1,22 @@
 //! What is done with the stretches of a reply.
 
-ghost use Rattle.std.specs.Prelude.{◌≡◌, ◌<◌, ◌≤◌, ◌⊎◌, IfOk, IfErr, OnOk, Err};
+ghost use Rattle.std.specs.Prelude.{◌≡◌, ◌<◌, ◌≤◌, ◌⊎◌, [], IfOk, IfErr, OnOk, Err};
 ghost use Rattle.neg_codec.specs.Keys.{place};
 ghost use Rattle.neg_codec.specs.Ranges.{ids, edge_of, span_of};
 ghost use Rattle.item_roll.specs.Parts.{part, ids_of};
 ghost use Rattle.neg_draft.specs.Coverage.{IsDraft};
 ghost use Rattle.neg_initiator.specs.Notes.{Passes};
+ghost use Rattle.neg_initiator.specs.Listed.{PassesMost};
+ghost use Rattle.neg_initiator.specs.Made.{asking};
+ghost use Rattle.neg_initiator.specs.Session.{IsSound, Taken, HasOpen};
 ghost use Rattle.neg_initiator.specs.Settling.{AccountsFor, Finds, Settles, ListsTooMany};
 ghost use Rattle.neg_initiator.specs.Findings.{findings_of};
 
 use crate::InitFault;
 use crate::found::{Found, compare};
-use crate::trust::trust;
+use crate::trust::{trust, trust_skipped};
 use item_roll::Roll;
-use neg_codec::{Bound, Id, Payload, Range};
+use neg_codec::{Bound, Id, Message, Payload, Range};
 use neg_draft::{Draft, is_own_print};
 use std::alloc::Global;
 
@@ -79,4 +82,32 @@ pub fn settle_range(
             }
         }
     }
+}
+
+/// The next ask, after a reply to the last one: what the reply leaves open. Ask and reply are walked
+/// once, each list of ids is put in order, and each fingerprint costs a pass over the items it tells of.
+pub fn settle(
+    alloc: Global,
+    roll: &Roll,
+    asked: &Message,
+    answered: &Message,
+    found: &mut Found,
+) -> Result<Message, InitFault>
+    requires { IsSound (asking roll.now asked.now (findings_of found.old) found.old.most) }
+    ensures taken { IfOk result (λ next. Taken answered.now (asking roll.now asked.now (findings_of found.old) found.old.most) (asking roll.now next (findings_of found.new) found.new.most)) }
+    ensures leaves_open { IfOk result (λ next. (next ≡ []) ⊎ HasOpen next) }
+    ensures full { result ≡ Err InitFault.NeedFull → PassesMost roll.now answered.now found.old.need.keys found.old.most }
+    ensures fault { IfErr result (λ e. (e ≡ InitFault.NeedFull) ⊎ (e ≡ InitFault.Memory)) }
+{
+    trust_skipped(asked, answered, &mut found.trusted)?;
+    let mut draft = Draft::new(alloc);
+    let mut lower = Bound::lowest();
+    for range in answered.ranges() {
+        draft = match settle_range(alloc, roll, found, draft, &lower, range) {
+            Ok(next) => next,
+            Err(fault) => return Err(fault),
+        };
+        lower = range.upper;
+    }
+    Ok(draft.into_message())
 }
