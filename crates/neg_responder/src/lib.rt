@@ -5,3 +5,6 @@ mod answering;
 mod ranges;
 
 pub use answering::{AnswerFault, answer};
+
+#[cfg(test)]
+mod tests;
