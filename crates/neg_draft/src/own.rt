@@ -14,7 +14,7 @@ use neg_codec::{Bound, Payload, Range};
 use std::alloc::{AllocError, Global};
 
 /// Whether a fingerprint is the roll's own between two bounds, the lower inclusive (Negentropy protocol
-/// V1, "Fingerprint Algorithm"). It adds up the ids of the items there.
+/// V1, "Fingerprint"). It adds up the ids of the items there.
 pub fn is_own_print(roll: &Roll, lower: &Bound, upper: &Bound, print: &[u8; 16]) -> bool
     requires { place (edge_of lower.now) ≤ place (edge_of upper.now) }
     ensures { IsTrue result ↔ (print.now ≡ print_of (ids_of (part roll.now (edge_of lower.now) (edge_of upper.now)))) }

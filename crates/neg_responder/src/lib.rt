@@ -1,4 +1,4 @@
-//! The answering side of a session (Negentropy protocol V1).
+//! The answering side of a session (Negentropy protocol V1): it keeps nothing between two queries.
 #![tactic(auto)]
 
 mod answering;
