@@ -1,3 +1,5 @@
+ghost use Rattle.std.specs.Prelude.{◌<◌};
+
 use super::*;
 use item_roll::Roll;
 use neg_codec::{CodecFault, Id, Item};
