@@ -16,6 +16,8 @@ use Rattle.neg_draft.specs.Coverage.{Written, end_of, gap, told_more, IsDraft, I
 use Rattle.neg_draft.proofs.Covering.{stretch_of, draft_none, end_above}
 use Rattle.neg_draft.proofs.Walking.{ranges_at, ranges_upto}
 use Rattle.neg_initiator.specs.Listed.{IsListed, PassesMost}
+use Rattle.neg_initiator.specs.declared.phase.Phase.{Phase}
+use Rattle.std.proofs.lemmas.Bool.{le-ltb}
 use Rattle.neg_initiator.specs.Made.{asking}
 use Rattle.neg_initiator.specs.Session.{Session, Starts, Taken, Advances, HasOpen}
 use Rattle.neg_initiator.specs.Settled.{HasOnePrint}
@@ -120,3 +122,50 @@ in_closed spans s h = go least spans h
 
 pub open_of : (d : Written) → IsDraft d → (d.spans ≡ []) ⊎ HasOpen d.spans
 open_of d draft = elim draft.open_unless_blank [ inl e ↦ inl e | inr o ↦ inr (o.0, in_closed d.spans o.0 o.1, o.2) ]
+
+-- whether a session asks has no part in what a reply does
+pub taken_any : (answered : List Span) (o n : Session) (p q : Phase) → Taken answered o n → Taken answered (record o { phase = p }) (record n { phase = q })
+taken_any answered o n p q t = record {
+    roll = t.roll;
+    most = t.most;
+    sound = record { roll = t.sound.roll; ascends = t.sound.ascends; truth = t.sound.truth };
+    not_again = t.not_again;
+    need_from = t.need_from;
+    trusted_kept = t.trusted_kept;
+    advances = λ b rb follows. let a = t.advances b rb follows in record { one_print = a.one_print; settled = a.settled };
+  }
+
+-- ---- the first ask
+
+pub least_low : place least < place infinity
+unfolding place
+least_low = omega arith
+
+gap_same : (x : Item) → gap x x ≡ []
+gap_same x = rw (le-ltb (place x) (place x) (omega arith)) refl
+
+all_told : (P : Stretch → Type 0) (rs : List Span) → end_of least rs ≡ infinity → All P (closed_from least rs) → All P (stretches rs)
+all_told P rs ends h =
+    let e : stretches rs ≡ closed_from least rs ++ stretches_from infinity [] =
+      ap stretches (sym (append_nil rs)) ∙ stretches-append least rs [] ∙ ap (λ (x : Item). closed_from least rs ++ stretches_from x []) ends in
+    subst (λ (ss : List Stretch). All P ss) (sym (e ∙ append_nil_stretches (closed_from least rs))) h
+  where
+    append_nil : (xs : List Span) → xs ++ [] ≡ xs
+    append_nil [] = refl
+    append_nil (x ∷ xs) = ap (λ (t : List Span). x ∷ t) (append_nil xs)
+    append_nil_stretches : (xs : List Stretch) → xs ++ [] ≡ xs
+    append_nil_stretches [] = refl
+    append_nil_stretches (x ∷ xs) = ap (λ (t : List Stretch). x ∷ t) (append_nil_stretches xs)
+
+pub record Begun (a : List Item) (asked : List Span) : Type 0 where
+  pub truth : All (IsTrueOf a) (stretches asked)
+  pub skips_nothing : All (λ s. IsSkip s → ⊥) (stretches asked)
+
+pub begun : (a : List Item) (d e : Written) → e ≡ record { spans = []; end = least } → Told a e infinity d → Begun a d.spans
+begun a d e is told =
+    let t = subst (λ (w : Written). Told a w infinity d) is told in
+    let spans : d.spans ≡ t.spans = ap (λ (w : Written). w.spans) t.now ∙ ap (λ (g : List Span). g ++ t.spans) (gap_same least) in
+    subst (Begun a) (sym spans) (record {
+      truth = all_told (IsTrueOf a) t.spans t.tells.ends t.holds;
+      skips_nothing = all_told (λ s. IsSkip s → ⊥) t.spans t.tells.ends t.tells.none_skipped;
+    })

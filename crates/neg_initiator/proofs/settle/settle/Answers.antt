@@ -23,11 +23,11 @@ use Rattle.neg_initiator.proofs.settle.settle.Goals as goal
 
 pub loop-range-init : goal.loop-range-init
 loop-range-init c = record {
-    progress = rw c.new-draft.ensures (progress_none c.args.roll.now c.args.asked.now (map span_of c.ranges-range-items.result.now)
+  progress = rw c.new-draft.ensures (progress_none c.args.roll.now c.args.asked.now (map span_of c.ranges-range-items.result.now)
       (record { need = c.args.found.now.need.keys; have = c.args.found.now.have.keys; trusted = map pair_of c.trust_skipped.new.trusted.items }));
-    lower = c.lowest-lower.ensures;
-    most = refl;
-  }
+  lower = c.lowest-lower.ensures;
+  most = refl;
+}
 
 pub settle_range-requires-clause-ahead : goal.settle_range-requires-clause-ahead
 settle_range-requires-clause-ahead c =
@@ -44,23 +44,23 @@ returns-in-Err-clause-full c = λ e.
     let full = c.in-Err.ensures.full (let same = full_is c.in-Err.fault e in ap Err same) in
     let full' = rw (c.loop-range.invariant.lower, c.loop-range.invariant.most) at full in
     rw (← c.ranges-range-items.ensures.value)
-      (too_many_at c.args.roll.now c.ranges-range-items.result.now c.loop-range.range-index c.range-item.result c.args.found.now.need.keys
-        (record { need = c.args.found.now.need.keys; have = c.args.found.now.have.keys; trusted = map pair_of c.trust_skipped.new.trusted.items })
-        (findings_of c.loop-range.found) c.args.found.now.most lt c.range-item.is c.loop-range.invariant.progress.found refl full')
+    (too_many_at c.args.roll.now c.ranges-range-items.result.now c.loop-range.range-index c.range-item.result c.args.found.now.need.keys
+    (record { need = c.args.found.now.need.keys; have = c.args.found.now.have.keys; trusted = map pair_of c.trust_skipped.new.trusted.items })
+    (findings_of c.loop-range.found) c.args.found.now.most lt c.range-item.is c.loop-range.invariant.progress.found refl full')
 
 pub loop-range-preserved : goal.loop-range-preserved
 loop-range-preserved c =
     let lt : c.loop-range.range-index < length c.ranges-range-items.result.now = omega arith in
     let up : Ascends least (map span_of c.ranges-range-items.result.now) = rw c.ranges-range-items.ensures.value c.ranges-range-items.ensures.ordered.ascends in
     let trusts : TrustsSkipped c.args.asked.now (map span_of c.ranges-range-items.result.now) (stretches c.args.asked.now) (map pair_of c.args.found.now.trusted.items) (map pair_of c.trust_skipped.new.trusted.items) =
-      rw c.ranges-range-items.ensures.value c.in_ok-trust_skipped.ensures in
+    rw c.ranges-range-items.ensures.value c.in_ok-trust_skipped.ensures in
     record {
       progress = progress_at c.args.roll.now c.args.asked.now c.ranges-range-items.result.now c.loop-range.range-index c.range-item.result (map pair_of c.args.found.now.trusted.items)
-        (record { need = c.args.found.now.need.keys; have = c.args.found.now.have.keys; trusted = map pair_of c.trust_skipped.new.trusted.items })
-        (findings_of c.loop-range.found) (findings_of c.settle_range.new.found) c.loop-range.draft c.in-Ok.next lt c.range-item.is up c.in-Ok.ensures.draft trusts c.loop-range.invariant.progress
-        (rw c.loop-range.invariant.lower at c.in-Ok.ensures.finds) (rw c.loop-range.invariant.lower at c.in-Ok.ensures.settles);
+          (record { need = c.args.found.now.need.keys; have = c.args.found.now.have.keys; trusted = map pair_of c.trust_skipped.new.trusted.items })
+          (findings_of c.loop-range.found) (findings_of c.settle_range.new.found) c.loop-range.draft c.in-Ok.next lt c.range-item.is up c.in-Ok.ensures.draft trusts c.loop-range.invariant.progress
+          (rw c.loop-range.invariant.lower at c.in-Ok.ensures.finds) (rw c.loop-range.invariant.lower at c.in-Ok.ensures.settles);
       lower = rw (ranges_upto c.ranges-range-items.result.now c.loop-range.range-index c.range-item.result lt c.range-item.is)
-        (sym (end-append least (map span_of (take c.loop-range.range-index c.ranges-range-items.result.now)) (span_of c.range-item.result ∷ [])));
+          (sym (end-append least (map span_of (take c.loop-range.range-index c.ranges-range-items.result.now)) (span_of c.range-item.result ∷ [])));
       most = c.in-Ok.ensures.most ∙ c.loop-range.invariant.most;
     }
 
@@ -71,8 +71,8 @@ returns-clause-taken c =
     let mid : Findings = record { need = c.args.found.now.need.keys; have = c.args.found.now.have.keys; trusted = map pair_of c.trust_skipped.new.trusted.items } in
     let w = walked c.args.roll.now c.args.asked.now c.args.answered.now (map pair_of c.args.found.now.trusted.items) mid (findings_of c.loop-range.found) c.loop-range.draft c.into_message.ensures.draft c.in_ok-trust_skipped.ensures all in
     rw (c.into_message.ensures.value, c.loop-range.invariant.most)
-      (taken_from c.args.roll.now c.args.asked.now c.args.answered.now c.loop-range.draft.spans (findings_of c.args.found.now) mid (findings_of c.loop-range.found) c.args.found.now.most
-        c.requires.roll c.requires.ascends c.requires.truth c.in_ok-trust_skipped.ensures refl refl c.into_message.ensures.draft.ascends w)
+    (taken_from c.args.roll.now c.args.asked.now c.args.answered.now c.loop-range.draft.spans (findings_of c.args.found.now) mid (findings_of c.loop-range.found) c.args.found.now.most
+    c.requires.roll c.requires.ascends c.requires.truth c.in_ok-trust_skipped.ensures refl refl c.into_message.ensures.draft.ascends w)
 
 pub returns-clause-leaves_open : goal.returns-clause-leaves_open
 returns-clause-leaves_open c = rw c.into_message.ensures.value (open_of c.loop-range.draft c.into_message.ensures.draft)
