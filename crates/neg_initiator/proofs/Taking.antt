@@ -126,14 +126,14 @@ open_of d draft = elim draft.open_unless_blank [ inl e ↦ inl e | inr o ↦ inr
 -- whether a session asks has no part in what a reply does
 pub taken_any : (answered : List Span) (o n : Session) (p q : Phase) → Taken answered o n → Taken answered (record o { phase = p }) (record n { phase = q })
 taken_any answered o n p q t = record {
-    roll = t.roll;
-    most = t.most;
-    sound = record { roll = t.sound.roll; ascends = t.sound.ascends; truth = t.sound.truth };
-    not_again = t.not_again;
-    need_from = t.need_from;
-    trusted_kept = t.trusted_kept;
-    advances = λ b rb follows. let a = t.advances b rb follows in record { one_print = a.one_print; settled = a.settled };
-  }
+  roll = t.roll;
+  most = t.most;
+  sound = record { roll = t.sound.roll; ascends = t.sound.ascends; truth = t.sound.truth };
+  not_again = t.not_again;
+  need_from = t.need_from;
+  trusted_kept = t.trusted_kept;
+  advances = λ b rb follows. let a = t.advances b rb follows in record { one_print = a.one_print; settled = a.settled };
+}
 
 -- ---- the first ask
 
@@ -147,12 +147,13 @@ gap_same x = rw (le-ltb (place x) (place x) (omega arith)) refl
 all_told : (P : Stretch → Type 0) (rs : List Span) → end_of least rs ≡ infinity → All P (closed_from least rs) → All P (stretches rs)
 all_told P rs ends h =
     let e : stretches rs ≡ closed_from least rs ++ stretches_from infinity [] =
-      ap stretches (sym (append_nil rs)) ∙ stretches-append least rs [] ∙ ap (λ (x : Item). closed_from least rs ++ stretches_from x []) ends in
+    ap stretches (sym (append_nil rs)) ∙ stretches-append least rs [] ∙ ap (λ (x : Item). closed_from least rs ++ stretches_from x []) ends in
     subst (λ (ss : List Stretch). All P ss) (sym (e ∙ append_nil_stretches (closed_from least rs))) h
   where
     append_nil : (xs : List Span) → xs ++ [] ≡ xs
     append_nil [] = refl
     append_nil (x ∷ xs) = ap (λ (t : List Span). x ∷ t) (append_nil xs)
+
     append_nil_stretches : (xs : List Stretch) → xs ++ [] ≡ xs
     append_nil_stretches [] = refl
     append_nil_stretches (x ∷ xs) = ap (λ (t : List Stretch). x ∷ t) (append_nil_stretches xs)
