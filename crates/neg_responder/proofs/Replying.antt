@@ -1,19 +1,18 @@
 -- A reply, range by range of the question.
-use Rattle.std.proofs.Common.{◌≡◌, ℕ, zero, suc, ◌+◌, map, get_or, ◌<◌, ◌≤◌, ◌⊎◌, inl, inr, ltb, leb, ◌&&◌, List, [], ◌∷◌, ◌++◌, length, take, drop, refl, sym, ap, subst, ◌∙◌, arith}
-use Rattle.std.specs.Prelude.{Contains, All, filter}
+use Rattle.std.proofs.Common.{◌≡◌, ℕ, zero, suc, ◌+◌, map, get_or, ◌<◌, ◌≤◌, inl, inr, ltb, leb, ◌&&◌, List, [], ◌∷◌, ◌++◌, length, take, drop, refl, sym, ap, subst, ◌∙◌, arith}
+use Rattle.std.specs.Prelude.{Contains, filter}
 use Rattle.std.proofs.lemmas.List.{take_all, take_more, map-append}
 use Rattle.neg_codec.specs.declared.Range.{Range}
-use Rattle.neg_codec.proofs.Stretches.{one_stretch, least_below, key_below}
+use Rattle.neg_codec.proofs.Stretches.{one_stretch, key_below}
 use Rattle.neg_codec.specs.declared.Item.{Item}
-use Rattle.neg_codec.specs.Keys.{place, least, endless, infinity, IsKey}
-use Rattle.neg_codec.specs.Ranges.{Claim, skip, print, Span, Stretch, stretches, Lies, IsSkip, Ascends, span_of}
+use Rattle.neg_codec.specs.Keys.{place, least, infinity}
+use Rattle.neg_codec.specs.Ranges.{Claim, Span, Stretch, stretches, Lies, IsSkip, Ascends, span_of}
 use Rattle.item_roll.specs.Truth.{Says, IsTrueOf, Follows}
 use Rattle.item_roll.specs.Parts.{part}
-use Rattle.item_roll.specs.Closed.{closed_from}
 use Rattle.item_roll.proofs.Follow.{follows_from}
-use Rattle.neg_draft.specs.Coverage.{Written, end_of, passed, told_more, IsDraft, Covers, Tells}
-use Rattle.neg_draft.proofs.Covering.{covers_none, covers_passes, covers_tells, end-append, end_above, stretch_of, beyond, told_whole, skipped_left_out, left_out_skipped, passed_place}
-use Rattle.neg_responder.specs.Reply.{IsSame, SkipsSame, begun_at, Passes, Responds}
+use Rattle.neg_draft.specs.Coverage.{Written, end_of, passed, IsDraft, Covers}
+use Rattle.neg_draft.proofs.Covering.{covers_none, covers_passes, covers_tells, end-append, stretch_of, beyond, told_whole, skipped_left_out, left_out_skipped, passed_place}
+use Rattle.neg_responder.specs.Reply.{IsSame, SkipsSame, begun_at, Responds}
 
 -- a key of which the reply may say nothing: what the question says of it is true of the roll
 abbrev pub MaySkip : List Item → List Span → Item → Type 0
