@@ -31,10 +31,10 @@ bytes_at name n d s t fits also p q = encode_lower-injective s t fits.1 also.1 (
 
 event_of : List ℕ → List ℕ → ℕ → ℕ → List (List (List ℕ)) → List ℕ → List ℕ → EventView
 event_of id pubkey created_at kind tags content sig = record {
-    id = record { 0 = id };
-    draft = record { pubkey = pubkey; created_at = created_at; kind = kind; tags = tags; content = content };
-    sig = sig;
-  }
+  id = record { 0 = id };
+  draft = record { pubkey = pubkey; created_at = created_at; kind = kind; tags = tags; content = content };
+  sig = sig;
+}
 
 pub one_event : (d : Data) (a b : EventView) → HasFields d a → HasFields d b → b ≡ a
 unfolding event_of
@@ -47,7 +47,7 @@ one_event d a b p q =
     let content = text_at (codes "content") d b.draft.content a.draft.content q.content p.content in
     let sig = bytes_at (codes "sig") 64 d b.sig a.sig q.in_range.sig p.in_range.sig q.sig p.sig in
     let same : event_of b.id.0 b.draft.pubkey b.draft.created_at b.draft.kind b.draft.tags b.draft.content b.sig
-        ≡ event_of a.id.0 a.draft.pubkey a.draft.created_at a.draft.kind a.draft.tags a.draft.content a.sig = cc in
+    ≡ event_of a.id.0 a.draft.pubkey a.draft.created_at a.draft.kind a.draft.tags a.draft.content a.sig = cc in
     same
 
 shapes_pass : (d : Data) (e : EventView) → HasFields d e → first_failing (shape_tests d) ≡ None

@@ -68,11 +68,19 @@ impl Event {
 fn is_id_of(alloc: Global, id: &Id, draft: &Draft) -> Result<bool, AllocError>
     ensures { IfOk result (λ b. IsTrue b ↔ IsIdOf id.now draft.now) }
 {
-    Ok(*id == id_of(alloc, draft, Spelling::Plain)? || *id == id_of(alloc, draft, Spelling::Escaped)?)
+    Ok(
+        *id == id_of(alloc, draft, Spelling::Plain)?
+            || *id == id_of(alloc, draft, Spelling::Escaped)?,
+    )
 }
 
 // The event of these parts, if the id is the draft's.
-pub fn checked(alloc: Global, id: Id, draft: Draft, sig: [u8; 64]) -> Result<Option<Event>, AllocError>
+pub fn checked(
+    alloc: Global,
+    id: Id,
+    draft: Draft,
+    sig: [u8; 64],
+) -> Result<Option<Event>, AllocError>
     requires { IsInRange (record { id = id; draft = draft; sig = sig }) }
     ensures made { IfOk result (λ o. IfSome o (λ e. (e ≡ record { id = id; draft = draft; sig = sig }) × IsIdOf id draft)) }
     ensures refused { IfOk result (λ o. o ≡ None → ¬ IsIdOf id draft) }

@@ -23,7 +23,11 @@ pub fn text_at<'v>(value: &'v Value, field: EventField, name: &str) -> Result<&'
 }
 
 // The number of the field.
-pub fn number_at<'v>(value: &'v Value, field: EventField, name: &str) -> Result<&'v Number, EventFault>
+pub fn number_at<'v>(
+    value: &'v Value,
+    field: EventField,
+    name: &str,
+) -> Result<&'v Number, EventFault>
     ensures ok { IfOk result (λ n. get name.now (view value.now) ≡ Some (number (number_view n.now))) }
     ensures tested { is_ok result ≡ is_number_at name.now (view value.now) }
     ensures err { IfErr result (λ e. e ≡ EventFault.Shape field) }

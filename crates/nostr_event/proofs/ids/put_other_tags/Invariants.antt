@@ -4,6 +4,6 @@ use Rattle.nostr_event.proofs.ids.put_other_tags.Given as goal
 
 abbrev pub invariant-loop-tag : goal.invariant-loop-tag
 invariant-loop-tag l = record {
-    text : l.out.items ≡ l.initial.out.items ++ flat_map (λ v. 44 ∷ tag_text l.spelling v) (take l.tag-index l.tags);
-    utf8 : IsUtf8 l.initial.out.items → IsUtf8 l.out.items;
-  }
+  text : l.out.items ≡ l.initial.out.items ++ flat_map (λ v. 44 ∷ tag_text l.spelling v) (take l.tag-index l.tags);
+  utf8 : IsUtf8 l.initial.out.items → IsUtf8 l.out.items;
+}

@@ -35,9 +35,11 @@ returns-in_err-created_at-clause-err c =
     let i = c.in_ok-id.ensures.ok in
     let k = c.in_ok-pubkey.ensures.ok in
     let s = c.in_ok-sig.ensures.ok in
-    rw (p.1, p.2, c.in_err-created_at.ensures.err.0)
-    (shapes_pass (view c.args.value.now) _ h, (hex_at (codes "id") 32 (view c.args.value.now) _ _ h.id i.0 i.1, hex_at (codes "pubkey") 32 (view c.args.value.now) _ _ h.pubkey k.0 k.1, hex_at (codes "sig") 64 (view c.args.value.now) _ _ h.sig s.0 s.1),
-      rw (h.created_at, c.in_err-created_at.ensures.err.1) refl)
+    rw (p.1, p.2, c.in_err-created_at.ensures.err.0) (
+      shapes_pass (view c.args.value.now) _ h,
+      (hex_at (codes "id") 32 (view c.args.value.now) _ _ h.id i.0 i.1, hex_at (codes "pubkey") 32 (view c.args.value.now) _ _ h.pubkey k.0 k.1, hex_at (codes "sig") 64 (view c.args.value.now) _ _ h.sig s.0 s.1),
+      rw (h.created_at, c.in_err-created_at.ensures.err.1) refl,
+    )
 
 pub returns-in_err-kind-clause-err : goal.returns-in_err-kind-clause-err
 returns-in_err-kind-clause-err c =
@@ -48,6 +50,8 @@ returns-in_err-kind-clause-err c =
     let s = c.in_ok-sig.ensures.ok in
     let t = c.in_ok-created_at.ensures.ok in
     let early : nat_lt c.in_ok-created_at.created_at 18446744073709551615 ≡ true = search rules in
-    rw (p.1, p.2, c.in_err-kind.ensures.err.0)
-    (shapes_pass (view c.args.value.now) _ h, (hex_at (codes "id") 32 (view c.args.value.now) _ _ h.id i.0 i.1, hex_at (codes "pubkey") 32 (view c.args.value.now) _ _ h.pubkey k.0 k.1, hex_at (codes "sig") 64 (view c.args.value.now) _ _ h.sig s.0 s.1),
-      rw (h.created_at, t.0, early, h.kind, c.in_err-kind.ensures.err.1) refl)
+    rw (p.1, p.2, c.in_err-kind.ensures.err.0) (
+      shapes_pass (view c.args.value.now) _ h,
+      (hex_at (codes "id") 32 (view c.args.value.now) _ _ h.id i.0 i.1, hex_at (codes "pubkey") 32 (view c.args.value.now) _ _ h.pubkey k.0 k.1, hex_at (codes "sig") 64 (view c.args.value.now) _ _ h.sig s.0 s.1),
+      rw (h.created_at, t.0, early, h.kind, c.in_err-kind.ensures.err.1) refl,
+    )
