@@ -135,7 +135,7 @@ abbrev pub texts_data : List (List ℕ) → Data
 texts_data texts = array (items_of (map string texts))
 
 abbrev pub hex_data : List (List ℕ) → Data
-hex_data values = texts_data (hex_texts values)
+hex_data values = array (items_of (map (λ bytes. string (encode_lower bytes)) values))
 
 abbrev pub kinds_data : List ℕ → Data
 kinds_data kinds = array (items_of (map (λ k. number (unsigned k)) kinds))

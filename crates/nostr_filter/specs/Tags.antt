@@ -5,7 +5,7 @@ use Rattle.std.specs.declared.vec.Vec.{Vec}
 use Rattle.nostr_filter.specs.declared.conditions.TagCondition.{TagCondition}
 
 -- the letters that a condition may have, in the order of their codes
-abbrev pub letters : List ℕ
+unfoldable pub letters : List ℕ
 letters = codes "ABCDEFGHIJKLMNOPQRSTUVWXYZabcdefghijklmnopqrstuvwxyz"
 
 -- the ys stand among the xs, in this order

@@ -1,5 +1,5 @@
 // The fields of a filter's object.
-ghost use Rattle.std.specs.Prelude.{◌≡◌, ◌<◌, ◌⊎◌, List, ℕ, IfOk, IfErr, option_map, All};
+ghost use Rattle.std.specs.Prelude.{◌≡◌, ◌<◌, ◌⊎◌, List, ℕ, Option, IfOk, IfErr, option_map, All};
 ghost use Rattle.serde_json.specs.Find.{as_str};
 ghost use Rattle.serde_json.specs.View.{view, items_view};
 ghost use Rattle.nostr_event.specs.EventView.{IsBytesOf};

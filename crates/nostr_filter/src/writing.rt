@@ -1,6 +1,7 @@
 // A filter written as its JSON object.
 ghost use Rattle.std.specs.Prelude.{◌≡◌, ◌<◌, ◌^◌, true, IfOk, OnOk, option_map, All};
-ghost use Rattle.serde_json.specs.Data.{put as put_member};
+ghost use Rattle.hex.specs.Hex.{encode_lower};
+ghost use Rattle.serde_json.specs.Data.{put as put_member, string};
 ghost use Rattle.serde_json.specs.View.{view, members_view};
 ghost use Rattle.nostr_event.specs.EventView.{IsBytesOf};
 ghost use Rattle.nostr_filter.specs.Tags.{are_in_order, tag_name};
@@ -21,14 +22,24 @@ fn texts_value(alloc: Global, texts: &Texts) -> Result<Value, AllocError>
     Ok(Value::Array(values))
 }
 
+// The text of the bytes.
+fn hex_text(alloc: Global, bytes: &[u8; 32]) -> Result<Value, AllocError>
+    ensures value { IfOk result (λ v. view v ≡ string (encode_lower bytes.now)) }
+    ensures bytes { IfOk result (λ _. IsBytesOf 32 bytes.now) }
+{
+    let bytes = *bytes;
+    let text = hex::encode(alloc, bytes.as_slice())?;
+    let value = Value::try_from_str(alloc, text.as_str())?;
+    Ok(value)
+}
+
 fn hex_value(alloc: Global, list: &Bytes32List) -> Result<Value, AllocError>
     ensures value { IfOk result (λ v. view v ≡ hex_data list.now) }
     ensures bytes { IfOk result (λ _. All (IsBytesOf 32) list.now) }
 {
     let mut values = Vec::new(alloc);
     for bytes in list.as_slice() {
-        let text = hex::encode(alloc, bytes.as_slice())?;
-        values.push(Value::try_from_str(alloc, text.as_str())?)?;
+        values.push(hex_text(alloc, bytes)?)?;
     }
     Ok(Value::Array(values))
 }
