@@ -57,9 +57,10 @@ impl Event {
         ensures value { result ≡ item_of self.now }
         ensures finite { result.time < endless }
     {
+        let Event { id, draft, .. } = self;
         Item {
-            time: self.draft.created_at,
-            id: self.id,
+            time: draft.created_at,
+            id: *id,
         }
     }
 }

@@ -174,7 +174,47 @@ fn whole(alloc: Global, members: &str, id: &str) -> Result<String, Fail> {
     Ok(format!(in alloc; "{{{members},\"id\":\"{id}\",\"sig\":\"{SIG}\"}}")?)
 }
 
-// Both ids are accepted, another isn't, and the texts, their lengths and what is written are Python's.
+// An event with that id of its draft is read, and the id's text has that length.
+fn check_id(
+    rt: &(impl AllocGlobal + Abort),
+    members: &str,
+    hex: &str,
+    spelling: Spelling,
+    len: usize,
+) -> Result<(), Fail> {
+    let alloc = rt.alloc();
+    let event = read(alloc, whole(alloc, members, hex)?.as_str())?;
+    let id = id_of(alloc, event.draft(), spelling)?;
+    assert!(rt; event.id() == id);
+    assert!(rt; bytes32_of(hex) == Some(id.0));
+    assert_eq!(rt; id_text(alloc, event.draft(), spelling)?.len(), len);
+    Ok(())
+}
+
+// What is written of the event reads as an event of its time and id.
+fn check_written(rt: &(impl AllocGlobal + Abort), members: &str, hex: &str) -> Result<(), Fail> {
+    let alloc = rt.alloc();
+    let event = read(alloc, whole(alloc, members, hex)?.as_str())?;
+    let again = read(alloc, written(alloc, &event)?.as_str())?;
+    assert!(rt; again.item() == event.item());
+    Ok(())
+}
+
+// With another last digit the id is wrong.
+fn check_wrong(rt: &(impl AllocGlobal + Abort), members: &str, hex: &str) -> Result<(), Fail> {
+    let alloc = rt.alloc();
+    let last = if hex.as_bytes().ends_with(b"0") {
+        "1"
+    } else {
+        "0"
+    };
+    let front = hex.get(..63).ok_or("too short")?;
+    let wrong = format!(in alloc; "{front}{last}")?;
+    let text = whole(alloc, members, wrong.as_str())?;
+    assert_eq!(rt; fault_of(alloc, text.as_str())?, Some(EventFault::WrongId));
+    Ok(())
+}
+
 fn check_event(
     rt: &(impl AllocGlobal + Abort),
     members: &str,
@@ -182,39 +222,14 @@ fn check_event(
     escaped: &str,
     lengths: (usize, usize),
 ) -> Result<(), Fail> {
-    let alloc = rt.alloc();
-    let event = read(alloc, whole(alloc, members, plain)?.as_str())?;
-    let other = read(alloc, whole(alloc, members, escaped)?.as_str())?;
-    assert!(rt; bytes32_of(plain) == Some(event.id().0));
-    assert!(rt; bytes32_of(escaped) == Some(other.id().0));
-    assert!(rt; id_of(alloc, event.draft(), Spelling::Plain)? == event.id());
-    assert!(rt; id_of(alloc, event.draft(), Spelling::Escaped)? == other.id());
-    assert_eq!(rt;
-        id_text(alloc, event.draft(), Spelling::Plain)?.len(),
-        lengths.0
-    );
-    assert_eq!(rt;
-        id_text(alloc, event.draft(), Spelling::Escaped)?.len(),
-        lengths.1
-    );
-    let again = read(alloc, written(alloc, &event)?.as_str())?;
-    assert!(rt; again.item() == event.item());
-    let last = if plain.as_bytes().ends_with(b"0") {
-        "1"
-    } else {
-        "0"
-    };
-    let wrong = format!(in alloc; "{}{last}", plain.split_at(63).0)?;
-    assert_eq!(rt;
-        fault_of(alloc, whole(alloc, members, wrong.as_str())?.as_str())?,
-        Some(EventFault::WrongId)
-    );
-    Ok(())
+    check_id(rt, members, plain, Spelling::Plain, lengths.0)?;
+    check_id(rt, members, escaped, Spelling::Escaped, lengths.1)?;
+    check_written(rt, members, plain)?;
+    check_wrong(rt, members, plain)
 }
 
 #[test]
 fn events_from_outside(rt: HostRuntime) -> Result<(), Fail> {
-    let alloc = rt.alloc();
     for vector in &VECTORS {
         check_event(
             &rt,
@@ -223,6 +238,14 @@ fn events_from_outside(rt: HostRuntime) -> Result<(), Fail> {
             vector.escaped,
             vector.lengths,
         )?;
+    }
+    Ok(())
+}
+
+#[test]
+fn texts_as_python_writes_them(rt: HostRuntime) -> Result<(), Fail> {
+    let alloc = rt.alloc();
+    for vector in &VECTORS {
         let event = read(alloc, whole(alloc, vector.draft, vector.plain)?.as_str())?;
         let digest = Sha256::digest(written(alloc, &event)?.as_bytes());
         assert!(rt; bytes32_of(vector.written) == Some(digest));
@@ -247,18 +270,21 @@ fn a_large_event(rt: HostRuntime) -> Result<(), Fail> {
     )
 }
 
-#[test]
-fn a_control_character(rt: HostRuntime) -> Result<(), Fail> {
-    let alloc = rt.alloc();
-    let mut texts = Vec::new(alloc);
-    texts.push(Text::new(String::from_str(alloc, "t")?))?;
-    let mut draft = Draft {
+// The worked draft: 64 digits 1, time 1, kind 1, no tags, the content U+0001.
+fn control_draft(alloc: Global, tags: Tags) -> Result<Draft, Fail> {
+    Ok(Draft {
         pubkey: [0x11; 32],
         created_at: 1,
         kind: 1,
-        tags: Tags::new(Vec::new(alloc)),
+        tags,
         content: Text::new(String::from_str(alloc, "\u{1}")?),
-    };
+    })
+}
+
+#[test]
+fn a_control_character(rt: HostRuntime) -> Result<(), Fail> {
+    let alloc = rt.alloc();
+    let draft = control_draft(alloc, Tags::new(Vec::new(alloc)))?;
     let plain = id_text(alloc, &draft, Spelling::Plain)?;
     let escaped = id_text(alloc, &draft, Spelling::Escaped)?;
     assert_eq!(rt; plain.len(), 81);
@@ -267,17 +293,23 @@ fn a_control_character(rt: HostRuntime) -> Result<(), Fail> {
     assert!(rt; escaped.as_str().ends_with("1\",1,1,[],\"\\u0001\"]"));
     assert!(rt; bytes32_of(CONTROL_PLAIN) == Some(id_of(alloc, &draft, Spelling::Plain)?.0));
     assert!(rt; bytes32_of(CONTROL_ESCAPED) == Some(id_of(alloc, &draft, Spelling::Escaped)?.0));
+    Ok(())
+}
+
+#[test]
+fn tags_of_a_draft(rt: HostRuntime) -> Result<(), Fail> {
+    let alloc = rt.alloc();
+    let mut texts = Vec::new(alloc);
+    texts.push(Text::new(String::from_str(alloc, "t")?))?;
     let mut tags = Vec::new(alloc);
     tags.push(Tag::new(texts))?;
-    draft.tags = Tags::new(tags);
+    let draft = control_draft(alloc, Tags::new(tags))?;
     assert!(rt;
         id_text(alloc, &draft, Spelling::Plain)?
             .as_str()
             .ends_with(",[[\"t\"]],\"\u{1}\"]")
     );
-    let tags = draft.tags.into_vec();
-    assert_eq!(rt; tags.len(), 1);
-    for tag in tags {
+    for tag in draft.tags.into_vec() {
         for text in tag.into_vec() {
             assert_eq!(rt; text.into_string().as_str(), "t");
         }
@@ -287,8 +319,7 @@ fn a_control_character(rt: HostRuntime) -> Result<(), Fail> {
 
 #[test]
 fn parts_of_an_event(rt: HostRuntime) -> Result<(), Fail> {
-    let alloc = rt.alloc();
-    let event = read(alloc, CONTROL)?;
+    let event = read(rt.alloc(), CONTROL)?;
     let id = Id(bytes32_of(CONTROL_PLAIN).ok_or("no id")?);
     assert!(rt; event.id() == id);
     assert!(rt; event.item() == Item { time: 1, id });
@@ -300,49 +331,66 @@ fn parts_of_an_event(rt: HostRuntime) -> Result<(), Fail> {
     Ok(())
 }
 
+// The fault of CONTROL with `to` in place of the first `from`.
+fn fault_after(alloc: Global, from: &str, to: &str) -> Result<Option<EventFault>, Fail> {
+    let text = CONTROL.replacen(alloc, from, to, 1)?;
+    fault_of(alloc, text.as_str())
+}
+
 #[test]
-fn faults_in_their_order(rt: HostRuntime) -> Result<(), Fail> {
-    let alloc = rt.alloc();
+fn one_fault(rt: HostRuntime) -> Result<(), Fail> {
     for (from, to, fault) in &FAULTS {
-        let text = CONTROL.replacen(alloc, *from, *to, 1)?;
         assert_eq!(rt;
-            fault_of(alloc, text.as_str())?,
+            fault_after(rt.alloc(), *from, *to)?,
             Some(*fault),
             "{from} {to}"
         );
     }
-    // All shapes come before all digits, and these before all ranges.
-    let text = CONTROL
-        .replacen(alloc, "b605", "B605", 1)?
-        .replacen(alloc, "\"kind\":1", "\"kind\":65536", 1)?;
+    Ok(())
+}
+
+// All shapes come before all digits, and these before all ranges.
+#[test]
+fn the_first_fault(rt: HostRuntime) -> Result<(), Fail> {
+    let alloc = rt.alloc();
+    let digits = CONTROL.replacen(alloc, "b605", "B605", 1)?;
+    let both = digits.replacen(alloc, "\"kind\":1", "\"kind\":65536", 1)?;
     assert_eq!(rt;
-        fault_of(alloc, text.as_str())?,
+        fault_of(alloc, both.as_str())?,
         Some(EventFault::Hex(EventField::Id))
     );
-    let text = text.replacen(alloc, "\"sig\"", "\"gis\"", 1)?;
+    let all = both.replacen(alloc, "\"sig\"", "\"gis\"", 1)?;
     assert_eq!(rt;
-        fault_of(alloc, text.as_str())?,
+        fault_of(alloc, all.as_str())?,
         Some(EventFault::Shape(EventField::Sig))
     );
     Ok(())
 }
 
+// Unknown fields are passed over, of a key that comes twice the last value stays, and an escape spells its character.
 #[test]
-fn what_the_reader_of_json_does(rt: HostRuntime) -> Result<(), Fail> {
+fn other_members(rt: HostRuntime) -> Result<(), Fail> {
     let alloc = rt.alloc();
-    // Unknown fields are passed over, and of a key that comes twice the last value stays.
-    let text = CONTROL.replacen(
-        alloc,
-        "\"kind\":1",
-        "\"kind\":{\"a\":[1.5,-3]},\"ok\":null,\"kind\":1",
-        1,
-    )?;
-    assert!(rt; read(alloc, text.as_str())?.item() == read(alloc, CONTROL)?.item());
-    let text = CONTROL.replacen(alloc, "\"kind\":1", "\"kind\":1,\"kind\":2", 1)?;
-    assert_eq!(rt; fault_of(alloc, text.as_str())?, Some(EventFault::WrongId));
-    // An escape spells the character that it names.
-    let text = CONTROL.replacen(alloc, "\"id\"", "\"\\u0069d\"", 1)?;
-    assert!(rt; read(alloc, text.as_str())?.item() == read(alloc, CONTROL)?.item());
+    let kind = "\"kind\":1";
+    assert_eq!(rt;
+        fault_after(
+            alloc,
+            kind,
+            "\"kind\":{\"a\":[1.5,-3]},\"ok\":null,\"kind\":1"
+        )?,
+        None
+    );
+    assert_eq!(rt;
+        fault_after(alloc, kind, "\"kind\":1,\"kind\":2")?,
+        Some(EventFault::WrongId)
+    );
+    assert_eq!(rt; fault_after(alloc, "\"id\"", "\"\\u0069d\"")?, None);
+    Ok(())
+}
+
+#[test]
+fn what_is_json(rt: HostRuntime) -> Result<(), Fail> {
+    let alloc = rt.alloc();
     for (from, to, good) in &TEXTS {
         let text = CONTROL.replacen(alloc, *from, *to, 1)?;
         assert_eq!(rt;

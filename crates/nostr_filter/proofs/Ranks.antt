@@ -48,5 +48,5 @@ eqb_turned x y = grind (arith, nat_tests)
 pub parts_tie : (x y : Rank) → ((x.time.0 == y.time.0) && (bytes_eq x.id.0 y.id.0 && (x.place == y.place))) ≡ eq_by_cmp newest_first x y
 parts_tie x y =
     sym (then_eq (nat_cmp y.time.0 x.time.0) _
-      ∙ ap₂ (λ a b. a && b) (unsigned_tied y.time.0 x.time.0 ∙ eqb_turned x.time.0 y.time.0)
-      (then_eq (slice_cmp nat_cmp x.id.0 y.id.0) _ ∙ ap₂ (λ a b. a && b) (is_eq-slice_cmp x.id.0 y.id.0) (unsigned_tied x.place y.place)))
+    ∙ ap₂ (λ a b. a && b) (unsigned_tied y.time.0 x.time.0 ∙ eqb_turned x.time.0 y.time.0)
+    (then_eq (slice_cmp nat_cmp x.id.0 y.id.0) _ ∙ ap₂ (λ a b. a && b) (is_eq-slice_cmp x.id.0 y.id.0) (unsigned_tied x.place y.place)))

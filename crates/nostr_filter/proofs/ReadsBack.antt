@@ -126,12 +126,16 @@ whole_read (Some n) = refl
 -- the members but for the conditions, one by one
 abbrev from_until : Filter → Members
 from_until f = put_given (codes "until") (option_map whole_data f.until) no_members
+
 abbrev from_since : Filter → Members
 from_since f = put_given (codes "since") (option_map whole_data f.since) (from_until f)
+
 abbrev from_limit : Filter → Members
 from_limit f = put_given (codes "limit") (option_map whole_data f.limit) (from_since f)
+
 abbrev from_kinds : Filter → Members
 from_kinds f = put_given (codes "kinds") (option_map kinds_data f.kinds) (from_limit f)
+
 abbrev from_ids : Filter → Members
 from_ids f = put_given (codes "ids") (option_map hex_data f.ids) (from_kinds f)
 
@@ -210,14 +214,14 @@ until_at f =
 
 pub object_of-Reads : (f : Filter) → are_in_order f.tags ≡ true → All32 f.authors → All32 f.ids → AllKinds f.kinds → Reads (object_of f) f
 object_of-Reads f up author_bytes id_bytes kinds = record {
-    object = refl;
-    tags = conditions_back (object_of f) letters f.tags letters_rise up (λ k below. tag_at f (get_or letters k 0));
-    authors = ap (optional texts_of) (authors_at f) ∙ hex_read f.authors;
-    ids = ap (optional texts_of) (ids_at f) ∙ hex_read f.ids;
-    kinds = ap (optional kinds_of) (kinds_at f) ∙ kinds_read f.kinds kinds;
-    limit = ap (optional whole_of) (limit_at f) ∙ whole_read f.limit;
-    since = ap (optional whole_of) (since_at f) ∙ whole_read f.since;
-    until = ap (optional whole_of) (until_at f) ∙ whole_read f.until;
-    author_bytes = author_bytes;
-    id_bytes = id_bytes;
-  }
+  object = refl;
+  tags = conditions_back (object_of f) letters f.tags letters_rise up (λ k below. tag_at f (get_or letters k 0));
+  authors = ap (optional texts_of) (authors_at f) ∙ hex_read f.authors;
+  ids = ap (optional texts_of) (ids_at f) ∙ hex_read f.ids;
+  kinds = ap (optional kinds_of) (kinds_at f) ∙ kinds_read f.kinds kinds;
+  limit = ap (optional whole_of) (limit_at f) ∙ whole_read f.limit;
+  since = ap (optional whole_of) (since_at f) ∙ whole_read f.since;
+  until = ap (optional whole_of) (until_at f) ∙ whole_read f.until;
+  author_bytes = author_bytes;
+  id_bytes = id_bytes;
+}

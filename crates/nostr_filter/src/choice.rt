@@ -73,13 +73,17 @@ fn pick(alloc: Global, filter: &Filter, events: &[Arc<Event>]) -> Result<Vec<Ran
 
 /// The places of the events that the filters choose, in the order in which they are sent: each filter chooses the newest that it
 /// matches, as many as the lesser of its limit and 5,000, and each event comes once.
-pub fn choose(alloc: Global, filters: &[Filter], events: &[Arc<Event>]) -> Result<Vec<usize>, AllocError>
+pub fn choose(
+    alloc: Global,
+    filters: &[Filter],
+    events: &[Arc<Event>],
+) -> Result<Vec<usize>, AllocError>
     ensures { IfOk result (λ v. v.items ≡ chosen filters.now events.now) }
 {
-    let mut ranks = Vec::new(alloc);
+    let mut all = Vec::new(alloc);
     for filter in filters {
-        ranks.append(&mut pick(alloc, filter, events)?)?;
+        all.append(&mut pick(alloc, filter, events)?)?;
     }
-    put_in_order(&mut ranks);
-    ranks.iter().map(|rank| rank.place).collect(alloc)
+    put_in_order(&mut all);
+    all.iter().map(|rank| rank.place).collect(alloc)
 }

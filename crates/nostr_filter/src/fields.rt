@@ -53,7 +53,12 @@ fn kind_at(value: &Value) -> Option<u16>
 }
 
 // The texts of the field, if it is there.
-pub fn texts_at(alloc: Global, value: &Value, at: FilterField, name: &str) -> Result<Option<Texts>, FilterFault>
+pub fn texts_at(
+    alloc: Global,
+    value: &Value,
+    at: FilterField,
+    name: &str,
+) -> Result<Option<Texts>, FilterFault>
     ensures ok { IfOk result (λ t. read_field texts_of name.now (view value.now) ≡ Some t) }
     ensures err { IfErr result (λ e. (e ≡ FilterFault.Memory) ⊎ ((e ≡ FilterFault.Shape at) × (read_field texts_of name.now (view value.now) ≡ None))) }
 {
@@ -142,7 +147,11 @@ fn bytes_in(alloc: Global, texts: &[Text], at: FilterField) -> Result<Bytes32Lis
 }
 
 // The bytes that the field's texts spell.
-pub fn bytes_of(alloc: Global, texts: &Option<Texts>, at: FilterField) -> Result<Option<Bytes32List>, FilterFault>
+pub fn bytes_of(
+    alloc: Global,
+    texts: &Option<Texts>,
+    at: FilterField,
+) -> Result<Option<Bytes32List>, FilterFault>
     ensures ok { IfOk result (λ v. (texts.now ≡ option_map hex_texts v) × All32 v) }
     ensures err { IfErr result (λ e. (e ≡ FilterFault.Memory)
         ⊎ ((e ≡ FilterFault.Hex at) × ((values : Option (List (List ℕ))) → All32 values → ¬ (texts.now ≡ option_map hex_texts values)))) }

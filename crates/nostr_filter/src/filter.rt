@@ -56,7 +56,11 @@ impl Filter {
             Some(kinds) => kinds.as_slice().contains(&draft.kind),
             None => true,
         };
-        named && by_author && of_kind && tags_met(self.tags.as_slice(), draft.tags.as_slice()) && self.is_within(draft.created_at)
+        named
+            && by_author
+            && of_kind
+            && tags_met(self.tags.as_slice(), draft.tags.as_slice())
+            && self.is_within(draft.created_at)
     }
 
     fn is_within(&self, time: u64) -> bool
@@ -92,7 +96,8 @@ fn tag_met(condition: &TagCondition, tag: &Tag) -> bool
     ensures { result ≡ tag_meets condition.now tag.now }
 {
     match tag.texts() {
-        [name, value, ..] => name.as_str().as_bytes() == [condition.letter].as_slice() && has_value(&condition.values, value.as_str()),
+        [name, value, ..] => name.as_str().as_bytes() == [condition.letter].as_slice()
+            && has_value(&condition.values, value.as_str()),
         _ => false,
     }
 }
@@ -108,5 +113,7 @@ fn condition_met(condition: &TagCondition, tags: &[Tag]) -> bool
 fn tags_met(conditions: &[TagCondition], tags: &[Tag]) -> bool
     ensures { result ≡ list_all (tags_meet tags.now) conditions.now }
 {
-    conditions.iter().all(|condition| condition_met(condition, tags))
+    conditions
+        .iter()
+        .all(|condition| condition_met(condition, tags))
 }

@@ -14,3 +14,6 @@ pub use choice::choose;
 pub use conditions::{Bytes32List, Kinds, TagCondition, TagConditions, Texts};
 pub use fault::{FilterFault, FilterField};
 pub use filter::Filter;
+
+#[cfg(test)]
+mod tests;

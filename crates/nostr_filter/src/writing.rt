@@ -86,7 +86,12 @@ fn whole_given(number: Option<u64>) -> Option<Value>
 }
 
 // Puts the value at the name, if it is given.
-fn put_value(map: &mut Map<String, Value>, alloc: Global, name: &str, value: Option<Value>) -> Result<(), AllocError>
+fn put_value(
+    map: &mut Map<String, Value>,
+    alloc: Global,
+    name: &str,
+    value: Option<Value>,
+) -> Result<(), AllocError>
     ensures { OnOk result (members_view map.new.entries ≡ put_given name.now (option_map view value) (members_view map.old.entries)) }
 {
     if let Some(value) = value {
@@ -115,7 +120,11 @@ fn named_map(alloc: Global, filter: &Filter) -> Result<Map<String, Value>, Alloc
     Ok(map)
 }
 
-fn put_condition(map: &mut Map<String, Value>, alloc: Global, condition: &TagCondition) -> Result<(), AllocError>
+fn put_condition(
+    map: &mut Map<String, Value>,
+    alloc: Global,
+    condition: &TagCondition,
+) -> Result<(), AllocError>
     requires { condition.now.letter < 128 }
     ensures { OnOk result (members_view map.new.entries
         ≡ put_member (tag_name condition.now.letter) (texts_data condition.now.values) (members_view map.old.entries)) }
@@ -128,7 +137,11 @@ fn put_condition(map: &mut Map<String, Value>, alloc: Global, condition: &TagCon
     }
 }
 
-fn put_all(map: &mut Map<String, Value>, alloc: Global, conditions: &[TagCondition]) -> Result<(), AllocError>
+fn put_all(
+    map: &mut Map<String, Value>,
+    alloc: Global,
+    conditions: &[TagCondition],
+) -> Result<(), AllocError>
     requires { are_in_order conditions.now ≡ true }
     ensures { OnOk result (members_view map.new.entries ≡ put_conditions conditions.now (members_view map.old.entries)) }
 {

@@ -5,6 +5,6 @@ use Rattle.nostr_filter.proofs.fields.bytes_in.Given as goal
 
 abbrev pub invariant-loop-text : goal.invariant-loop-text
 invariant-loop-text l = record {
-    texts : take l.text-index l.texts ≡ hex_texts l.values.items;
-    bytes : All (IsBytesOf 32) l.values.items;
-  }
+  texts : take l.text-index l.texts ≡ hex_texts l.values.items;
+  bytes : All (IsBytesOf 32) l.values.items;
+}

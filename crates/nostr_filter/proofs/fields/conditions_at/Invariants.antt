@@ -7,6 +7,6 @@ use Rattle.nostr_filter.proofs.fields.conditions_at.Given as goal
 
 abbrev pub invariant-loop-letter : goal.invariant-loop-letter
 invariant-loop-letter l = record {
-    read : conditions_of letters (view l.value) ≡ after l.conditions.items (conditions_of (drop l.letter-index letters) (view l.value));
-    passed : first_failing (tag_tests letters (view l.value)) ≡ first_failing (tag_tests (drop l.letter-index letters) (view l.value));
-  }
+  read : conditions_of letters (view l.value) ≡ after l.conditions.items (conditions_of (drop l.letter-index letters) (view l.value));
+  passed : first_failing (tag_tests letters (view l.value)) ≡ first_failing (tag_tests (drop l.letter-index letters) (view l.value));
+}

@@ -18,13 +18,13 @@ loop-letter-preserved c =
           let one = step_same letters c.args.list.now i n (get_or letters i 0) w.index-list-next.result (omega (arith, fifty_two)) w.if-next-list.true refl (sym w.index-list-next.is) is in
           record { within = omega arith; left = rw w.next-is (so_far ∙ one) }
       | else-next-list w ↦ elim w.else-next-list.branch [
-          | else-next-list-via-then-next-list+else-list-next v ↦
-              let other : ¬ (v.index-list-next.result.letter ≡ get_or letters i 0) = λ e. v.if-list-next.false (sym (ap (λ (t : TagCondition). t.letter) v.index-list-next.is) ∙ e ∙ read) in
-              let one = step_other letters c.args.list.now i n (get_or letters i 0) v.index-list-next.result (omega (arith, fifty_two)) v.if-next-list.true refl (sym v.index-list-next.is) other in
-              record { within = omega arith; left = rw w.next-is (so_far ∙ one) }
-          | else-next-list-via-else-next-list v ↦
-              record { within = omega arith; left = rw w.next-is (so_far ∙ step_end letters c.args.list.now i n v.if-next-list.false) }
-        ]
+        | else-next-list-via-then-next-list+else-list-next v ↦
+            let other : ¬ (v.index-list-next.result.letter ≡ get_or letters i 0) = λ e. v.if-list-next.false (sym (ap (λ (t : TagCondition). t.letter) v.index-list-next.is) ∙ e ∙ read) in
+            let one = step_other letters c.args.list.now i n (get_or letters i 0) v.index-list-next.result (omega (arith, fifty_two)) v.if-next-list.true refl (sym v.index-list-next.is) other in
+            record { within = omega arith; left = rw w.next-is (so_far ∙ one) }
+        | else-next-list-via-else-next-list v ↦
+            record { within = omega arith; left = rw w.next-is (so_far ∙ step_end letters c.args.list.now i n v.if-next-list.false) }
+      ]
     ]
 
 pub returns : goal.returns

@@ -7,6 +7,6 @@ use Rattle.nostr_filter.proofs.writing.hex_value.Given as goal
 
 abbrev pub invariant-loop-bytes : goal.invariant-loop-bytes
 invariant-loop-bytes l = record {
-    values : map view l.values.items ≡ map (λ b. string (encode_lower b)) (take l.bytes-index l.bytes-items);
-    bytes : All (IsBytesOf 32) (take l.bytes-index l.bytes-items);
-  }
+  values : map view l.values.items ≡ map (λ b. string (encode_lower b)) (take l.bytes-index l.bytes-items);
+  bytes : All (IsBytesOf 32) (take l.bytes-index l.bytes-items);
+}

@@ -5,6 +5,6 @@ use Rattle.nostr_filter.proofs.writing.kinds_value.Given as goal
 
 abbrev pub invariant-loop-kind : goal.invariant-loop-kind
 invariant-loop-kind l = record {
-    values : map view l.values.items ≡ map (λ k. number (unsigned k)) (take l.kind-index l.kind-items);
-    fits : All (λ k. k < 2 ^ 16) (take l.kind-index l.kind-items);
-  }
+  values : map view l.values.items ≡ map (λ k. number (unsigned k)) (take l.kind-index l.kind-items);
+  fits : All (λ k. k < 2 ^ 16) (take l.kind-index l.kind-items);
+}

@@ -5,9 +5,9 @@ use Rattle.nostr_filter.proofs.writing.put_all.Given as goal
 
 abbrev pub invariant-loop-left : goal.invariant-loop-left
 invariant-loop-left l = record {
-    within : l.left ≤ length l.conditions;
-    members : members_view l.map.entries ≡ put_conditions (drop l.left l.conditions) (members_view l.initial.map.entries);
-  }
+  within : l.left ≤ length l.conditions;
+  members : members_view l.map.entries ≡ put_conditions (drop l.left l.conditions) (members_view l.initial.map.entries);
+}
 
 abbrev pub decreases-loop-left : goal.decreases-loop-left
 decreases-loop-left l = l.left
