@@ -1,15 +1,14 @@
 -- Items of JSON arrays that read as one thing each.
-use Rattle.std.proofs.Common.{◌≡◌, ℕ, zero, suc, ◌<◌, ◌^◌, List, [], ◌∷◌, length, get_or, map, Option, None, Some, option_map, option_and_then, All, nat_lt, true, refl, sym, ap, ◌∙◌, arith, rules}
-use Rattle.std.proofs.lemmas.List.{get_or-map, get_or_default, length-map}
+use Rattle.std.proofs.Common.{◌≡◌, ℕ, zero, suc, ◌<◌, ◌^◌, List, [], ◌∷◌, length, get_or, map, Option, None, Some, option_map, option_and_then, All, nat_lt, true, refl, ap, ◌∙◌, arith}
+use Rattle.std.proofs.lemmas.List.{get_or-map, length-map}
 use Rattle.std.proofs.lemmas.List.Elements.{All-head, All-tail}
 use Rattle.std.proofs.lemmas.Bool.{lt-ltb}
 use Rattle.hex.specs.Hex.{encode_lower}
-use Rattle.serde_json.specs.Data.{Data, string, number, unsigned}
-use Rattle.serde_json.specs.Find.{as_str}
-use Rattle.serde_json.specs.View.{view, items_view, items_of}
+use Rattle.serde_json.specs.Data.{Data}
+use Rattle.serde_json.specs.View.{view, items_view}
 use Rattle.serde_json.specs.declared.value.Value.{Value}
 use Rattle.nostr_event.specs.EventView.{IsBytesOf}
-use Rattle.nostr_filter.specs.FilterJson.{each_item, kind_of, texts_of, texts_data, kinds_of, kinds_data, hex_texts, hex_data}
+use Rattle.nostr_filter.specs.FilterJson.{each_item, texts_of, texts_data, kinds_of, kinds_data, hex_texts, hex_data}
 
 pub each_some : {X : Type 0} (p : Data → Option X) (vs : List Value) (xs : List X) → map (λ v. p (view v)) vs ≡ map Some xs → each_item p (items_view vs) ≡ Some xs
 each_some p [] [] e = refl

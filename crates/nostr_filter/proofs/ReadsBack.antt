@@ -1,18 +1,16 @@
 -- What is written of a filter reads as that filter.
-use Rattle.std.proofs.Common.{◌≡◌, ◌≢◌, ℕ, zero, suc, ◌<◌, ◌^◌, ◌==◌, ◌&&◌, Bool, true, false, nat_lt, List, [], ◌∷◌, length, get_or, map, Option, None, Some, option_map, All, codes, refl, sym, ap, ◌∙◌, subst, arith, inl, inr, bytes_eq, true≢false, if◌then◌else◌}
+use Rattle.std.proofs.Common.{◌≡◌, ◌≢◌, ℕ, zero, suc, ◌<◌, ◌==◌, ◌&&◌, Bool, true, false, nat_lt, List, [], ◌∷◌, length, get_or, Option, None, Some, option_map, codes, refl, sym, ap, ◌∙◌, arith, inl, inr, bytes_eq, true≢false, if◌then◌else◌}
 use Rattle.std.proofs.lemmas.Bool.{and_parts, cases_eq, ltb-true}
 use Rattle.std.proofs.lemmas.Bool.Decides.{nat_tests}
-use Rattle.std.proofs.lemmas.List.Elements.{All-head, All-tail}
 use Rattle.std.proofs.lemmas.Slice.Eq.{bytes_eq-Decides}
 use Rattle.std.specs.List.{list_all}
-use Rattle.hex.specs.Hex.{encode_lower}
-use Rattle.serde_json.specs.Data.{Data, string, array, object, Members, no_members, put}
+use Rattle.serde_json.specs.Data.{Data, Members, no_members}
 use Rattle.serde_json.specs.Find.{get, get_member}
 use Rattle.serde_json.proofs.Views.{get_member-put, get_member-put_other}
 use Rattle.nostr_filter.specs.declared.conditions.TagCondition.{TagCondition}
 use Rattle.nostr_filter.specs.declared.filter.Filter.{Filter}
 use Rattle.nostr_filter.specs.Tags.{letters, stand_among, are_in_order, tag_name}
-use Rattle.nostr_filter.specs.FilterJson.{Reads, All32, AllKinds, field, optional, texts_of, kinds_of, whole_of, conditions_of, with_condition, hex_texts, texts_data, hex_data, kinds_data, whole_data, put_given, put_conditions, named_members, object_of}
+use Rattle.nostr_filter.specs.FilterJson.{Reads, All32, AllKinds, field, optional, texts_of, kinds_of, whole_of, conditions_of, hex_texts, texts_data, hex_data, kinds_data, whole_data, put_given, put_conditions, named_members, object_of}
 use Rattle.nostr_filter.proofs.Items.{texts_back, hex_back, kinds_back}
 use Rattle.nostr_filter.proofs.Standing.{letters_of, none_among, all_among}
 

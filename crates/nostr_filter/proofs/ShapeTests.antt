@@ -1,5 +1,5 @@
 -- From what was read to what the tests of the shapes say.
-use Rattle.std.proofs.Common.{◌≡◌, ◌⊎◌, inl, inr, ℕ, true, List, Option, None, Some, is_some, option_map, codes, All, refl, ap, ◌∙◌}
+use Rattle.std.proofs.Common.{◌≡◌, ◌⊎◌, inl, inr, ℕ, true, List, Option, None, Some, is_some, option_map, refl, ap, ◌∙◌}
 use Rattle.serde_json.specs.Data.{Data}
 use Rattle.serde_json.specs.Find.{as_object}
 use Rattle.nostr_filter.specs.declared.fault.FilterField.{FilterField}

@@ -1,14 +1,13 @@
 -- Reading the conditions on tags, letter by letter.
-use Rattle.std.proofs.Common.{◌≡◌, ℕ, ◌+◌, ◌<◌, Bool, true, false, cond, List, [], ◌∷◌, ◌++◌, length, get_or, drop, map, Option, None, Some, is_some, option_map, option_and_then, refl, sym, ap, ◌∙◌, append_assoc, append-nil, arith}
+use Rattle.std.proofs.Common.{◌≡◌, ℕ, ◌+◌, ◌<◌, Bool, true, false, cond, List, [], ◌∷◌, ◌++◌, length, get_or, drop, Option, None, Some, is_some, option_map, option_and_then, refl, sym, ap, ◌∙◌, append_assoc, append-nil}
 use Rattle.std.proofs.lemmas.List.{drop_more}
 use Rattle.serde_json.specs.Data.{Data}
-use Rattle.serde_json.specs.Find.{get}
 use Rattle.nostr_filter.specs.declared.conditions.TagCondition.{TagCondition}
 use Rattle.nostr_filter.specs.declared.fault.FilterField.{FilterField}
 use Rattle.nostr_filter.specs.declared.fault.FilterField.TheVariants.{Tag}
 use Rattle.nostr_filter.specs.Tags.{letters, stand_among, are_in_order, tag_name}
 use Rattle.nostr_filter.specs.FilterJson.{texts_of, field, conditions_of, with_condition, first_failing, tag_tests}
-use Rattle.nostr_filter.proofs.Standing.{letters_of, none_among, more_among, first_among}
+use Rattle.nostr_filter.proofs.Standing.{letters_of, more_among, first_among}
 
 -- the conditions read so far, before what the rest reads as
 abbrev pub after : List TagCondition → Option (List TagCondition) → Option (List TagCondition)

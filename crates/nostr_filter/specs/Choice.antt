@@ -1,5 +1,5 @@
 -- Which of the matching events are sent, and in which order (NIP-01).
-use Rattle.std.specs.Prelude.{ℕ, List, [], ◌∷◌, ◌++◌, map, flat_map, min, take, unwrap_or}
+use Rattle.std.specs.Prelude.{ℕ, List, [], ◌∷◌, map, flat_map, min, take, unwrap_or}
 use Rattle.std.specs.List.{filter, enumerate_from}
 use Rattle.std.specs.Ordering.{nat_cmp, ordering_then, match_ordering}
 use Rattle.std.specs.declared.cmp.Ordering.{Ordering}

@@ -1,5 +1,5 @@
 -- Filters as JSON objects (NIP-01).
-use Rattle.std.specs.Prelude.{◌≡◌, ◌<◌, ◌^◌, ◌++◌, ℕ, List, [], ◌∷◌, map, Bool, true, false, if◌then◌else◌, nat_lt, Option, Some, None, is_some, option_map, option_and_then, codes, ⊤, All, IfSome}
+use Rattle.std.specs.Prelude.{◌≡◌, ◌<◌, ◌^◌, ◌++◌, ℕ, List, [], ◌∷◌, map, Bool, true, if◌then◌else◌, nat_lt, Option, Some, None, is_some, option_map, option_and_then, codes, ⊤, All, IfSome}
 use Rattle.hex.specs.Hex.{encode_lower}
 use Rattle.serde_json.specs.Data.{unsigned, Data, number, string, array, object, Items, no_items, item, Members, no_members, put}
 use Rattle.serde_json.specs.Find.{get, as_str, as_number, as_array, as_object, as_u64}

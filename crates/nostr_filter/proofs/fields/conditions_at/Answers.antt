@@ -1,4 +1,4 @@
-use Rattle.std.proofs.Common.{◌≡◌, ◌∙◌, List, ℕ, Some, get_or, inl, inr, refl, sym, ap, arith}
+use Rattle.std.proofs.Common.{◌∙◌, List, ℕ, Some, get_or, inl, inr, refl, sym, ap, arith}
 use Rattle.std.proofs.lemmas.List.{drop_all}
 use Rattle.std.proofs.lemmas.Result.{err_from_is_err_and}
 use Rattle.serde_json.specs.View.{view}

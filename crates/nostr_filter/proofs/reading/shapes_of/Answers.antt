@@ -1,5 +1,5 @@
-use Rattle.std.proofs.Common.{◌≡◌, inl, inr, true, Some, is_some, refl, sym, ◌∙◌, rules}
-use Rattle.std.proofs.lemmas.Result.{err_from_is_err_and, IfErr-at_err}
+use Rattle.std.proofs.Common.{◌≡◌, inl, inr, true, Some, is_some, refl, rules}
+use Rattle.std.proofs.lemmas.Result.{err_from_is_err_and}
 use Rattle.serde_json.specs.Find.{as_object}
 use Rattle.serde_json.specs.View.{view}
 use Rattle.nostr_filter.specs.declared.fault.FilterField.TheVariants.{Authors, Ids, Kinds, Limit, Since, Until}

@@ -1,5 +1,4 @@
 use Rattle.std.proofs.Common.{arith}
-use Rattle.std.proofs.lemmas.Result.{MatchResult-at_err}
 use Rattle.nostr_event.proofs.Utf8.{ascii_then}
 use Rattle.std.proofs.lemmas.Str.{IsUtf8-nil}
 use Rattle.nostr_filter.proofs.writing.put_condition.Goals as goal
