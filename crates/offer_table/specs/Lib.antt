@@ -1,0 +1,2 @@
+pub mod Relays
+pub mod RelayBits
