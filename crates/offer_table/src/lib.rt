@@ -8,3 +8,6 @@ mod table;
 pub use faults::OfferFault;
 pub use relays::RelaySet;
 pub use table::OfferTable;
+
+#[cfg(test)]
+mod tests;
