@@ -105,7 +105,7 @@ same_bytes (x ∷ xs) (y ∷ ys) h =
     let both : (nat_cmp x y ≡ Equal) × (slice_cmp nat_cmp xs ys ≡ Equal) = equal_then (nat_cmp x y) (slice_cmp nat_cmp xs ys) h in
     ap (λ z. z ∷ xs) (ranked x y Equal (sym both.0)) ∙ ap (λ zs. y ∷ zs) (same_bytes xs ys both.1)
 
-is_equal : (o : Ordering) → is_eq o ≡ true → o ≡ Equal
+pub is_equal : (o : Ordering) → is_eq o ≡ true → o ≡ Equal
 is_equal Less h = absurd (false≢true h)
 is_equal Equal h = refl
 is_equal Greater h = absurd (false≢true h)

@@ -12,6 +12,9 @@ ghost use Rattle.sharing.specs.Sharing.{IsSharing, load, IsGreatest, Shows, None
 /// A relay is a number below this.
 pub const RELAYS: u16 = 64;
 
+/// As many places as there are relays, for tables that a relay's number reads.
+pub const SLOTS: usize = 64;
+
 /// The most ids that a table of offers may hold.
 pub const MOST_IDS: usize = 200_000;
 
