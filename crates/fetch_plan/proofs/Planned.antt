@@ -33,8 +33,12 @@ load_givens (s ∷ ss) r =
 alone_givens : (shares : List Share) (group : List ℕ) → alone group (givens shares) ≡ alone group (offers_of shares)
 alone_givens [] group = refl
 alone_givens (s ∷ ss) group =
-    omega (arith, alone_givens ss group, sum_by-cons (λ (p : ℕ × List ℕ). cond (list_all (is_among group) p.1) 1 0) (s.relay, s.relays) (givens ss),
-      sum_by-cons (λ (p : Id × List ℕ). cond (list_all (is_among group) p.1) 1 0) (s.id, s.relays) (offers_of ss))
+    omega (
+      arith,
+      alone_givens ss group,
+      sum_by-cons (λ (p : ℕ × List ℕ). cond (list_all (is_among group) p.1) 1 0) (s.relay, s.relays) (givens ss),
+      sum_by-cons (λ (p : Id × List ℕ). cond (list_all (is_among group) p.1) 1 0) (s.id, s.relays) (offers_of ss),
+    )
 
 -- what is settled shows its busiest load
 pub shows : (shares : List Share) (most : ℕ) (marked : List Bool) (group : List ℕ) → AreOffered shares → 0 < most → IsSettled shares most marked → Distinct group → ((r : ℕ) → is_among group r ≡ is_marked marked r) → Shows group (offers_of shares) most
@@ -43,14 +47,14 @@ shows shares most marked group offers some h distinct same =
     let is : held shares one ≡ most = h.greatest.1.1 in
     let small : one < RELAYS = elim (cases_lt one RELAYS) [ inl lt ↦ lt | inr ge ↦ absurd (omega (arith, none_held shares one offers.small ge, is)) ] in
     let keeps : All (λ (p : ℕ × List ℕ). is_among group p.0 ≡ true → (r : ℕ) → is_among p.1 r ≡ true → is_among group r ≡ true) (givens shares) =
-        All-map (λ (p : ℕ × List ℕ). is_among group p.0 ≡ true → (r : ℕ) → is_among p.1 r ≡ true → is_among group r ≡ true) (λ (s : Share). (s.relay, s.relays)) shares
-          (λ k d lt m r among. same r ∙ h.closed k r lt
-            (sym (same (given shares k)) ∙ ap (is_among group) (given_is shares k (get_or shares k d) d lt refl) ∙ m)
-            (ap (λ rs. is_among rs r) (offered_is shares k (get_or shares k d) d lt refl) ∙ among)) in
+    All-map (λ (p : ℕ × List ℕ). is_among group p.0 ≡ true → (r : ℕ) → is_among p.1 r ≡ true → is_among group r ≡ true) (λ (s : Share). (s.relay, s.relays)) shares
+    (λ k d lt m r among. same r ∙ h.closed k r lt
+    (sym (same (given shares k)) ∙ ap (is_among group) (given_is shares k (get_or shares k d) d lt refl) ∙ m)
+    (ap (λ rs. is_among rs r) (offered_is shares k (get_or shares k d) d lt refl) ∙ among)) in
     let found : Shows group (givens shares) most =
-        shows_from_closed (λ x. x) (givens shares) group most one distinct keeps (λ r m. omega (arith, h.high r (sym (same r) ∙ m), load_givens shares r)) some (same one ∙ h.busiest one small is) (load_givens shares one ∙ is) in
+    shows_from_closed (λ x. x) (givens shares) group most one distinct keeps (λ r m. omega (arith, h.high r (sym (same r) ∙ m), load_givens shares r)) some (same one ∙ h.busiest one small is) (load_givens shares one ∙ is) in
     elim found [
-      inl none ↦ inl none
+      | inl none ↦ inl none
       | inr more ↦ inr (more.0, omega (arith, more.1, alone_givens shares group))
     ]
 
@@ -62,21 +66,26 @@ module _ (f : Id → ℕ) where
   load_agrees : (shares : List Share) → Agrees f shares → (r : ℕ) → load f (offers_of shares) r ≡ held shares r
   load_agrees [] agrees r = refl
   load_agrees (s ∷ ss) agrees r =
-      omega (arith, load_agrees ss (All-tail (λ (s : Share). f s.id ≡ s.relay) s ss agrees) r, sum_by-cons (λ (p : Id × List ℕ). cond (f p.0 == r) 1 0) (s.id, s.relays) (offers_of ss), sum_by-cons (λ (x : Share). cond (x.relay == r) 1 0) s ss,
-        ap {B = ℕ} (λ x. cond (x == r) 1 0) (All-head (λ (s : Share). f s.id ≡ s.relay) s ss agrees))
+      omega (
+        arith,
+        load_agrees ss (All-tail (λ (s : Share). f s.id ≡ s.relay) s ss agrees) r,
+        sum_by-cons (λ (p : Id × List ℕ). cond (f p.0 == r) 1 0) (s.id, s.relays) (offers_of ss),
+        sum_by-cons (λ (x : Share). cond (x.relay == r) 1 0) s ss,
+        ap {B = ℕ} (λ x. cond (x == r) 1 0) (All-head (λ (s : Share). f s.id ≡ s.relay) s ss agrees),
+      )
 
   sharing_agrees : (shares : List Share) → Agrees f shares → AreOffered shares → IsSharing f (offers_of shares)
   sharing_agrees shares agrees offers =
       All-map (λ (p : Id × List ℕ). is_among p.1 (f p.0) ≡ true) (λ (s : Share). (s.id, s.relays)) shares
-        (λ k d lt. ap (is_among (get_or shares k d).relays) (agrees k d lt ∙ sym (given_is shares k (get_or shares k d) d lt refl))
-          ∙ ap (λ rs. is_among rs (given shares k)) (sym (offered_is shares k (get_or shares k d) d lt refl)) ∙ offers.offer k lt)
+      (λ k d lt. ap (is_among (get_or shares k d).relays) (agrees k d lt ∙ sym (given_is shares k (get_or shares k d) d lt refl))
+      ∙ ap (λ rs. is_among rs (given shares k)) (sym (offered_is shares k (get_or shares k d) d lt refl)) ∙ offers.offer k lt)
 
   keeps_agrees : (shares : List Share) (test : ℕ → Bool) → Agrees f shares → IsClosedTest shares test → KeepsTo f (offers_of shares) test
   keeps_agrees shares test agrees closed =
       All-map (λ (p : Id × List ℕ). test (f p.0) ≡ true → (r : ℕ) → is_among p.1 r ≡ true → test r ≡ true) (λ (s : Share). (s.id, s.relays)) shares
-        (λ k d lt m r among. closed k r lt
-          (ap test (given_is shares k (get_or shares k d) d lt refl ∙ sym (agrees k d lt)) ∙ m)
-          (ap (λ rs. is_among rs r) (offered_is shares k (get_or shares k d) d lt refl) ∙ among))
+      (λ k d lt m r among. closed k r lt
+      (ap test (given_is shares k (get_or shares k d) d lt refl ∙ sym (agrees k d lt)) ∙ m)
+      (ap (λ rs. is_among rs r) (offered_is shares k (get_or shares k d) d lt refl) ∙ among))
 
   -- a test that moves by f keep is kept by moves of the shares
   closed_agrees : (shares : List Share) (test : ℕ → Bool) → Agrees f shares → KeepsTo f (offers_of shares) test → IsClosedTest shares test
@@ -84,7 +93,7 @@ module _ (f : Id → ℕ) where
       let s : Share = get_or shares k no_share in
       let pair : get_or (offers_of shares) k (s.id, s.relays) ≡ (s.id, s.relays) = get_or-map (λ (s : Share). (s.id, s.relays)) shares k no_share (s.id, s.relays) lt in
       let here : test (f s.id) ≡ true → (r : ℕ) → is_among s.relays r ≡ true → test r ≡ true =
-          subst (λ (p : Id × List ℕ). test (f p.0) ≡ true → (r : ℕ) → is_among p.1 r ≡ true → test r ≡ true) pair (keeps k (s.id, s.relays) (omega (arith, length-map {A = Share} {B = Id × List ℕ}))) in
+      subst (λ (p : Id × List ℕ). test (f p.0) ≡ true → (r : ℕ) → is_among p.1 r ≡ true → test r ≡ true) pair (keeps k (s.id, s.relays) (omega (arith, length-map {A = Share} {B = Id × List ℕ}))) in
       here (ap test (agrees k no_share lt ∙ sym (given_is shares k s no_share lt refl)) ∙ m) r (ap (λ rs. is_among rs r) (sym (offered_is shares k s no_share lt refl)) ∙ among)
 
   pub is_least : (shares : List Share) (most : ℕ) (marked : List Bool) (group : List ℕ) → AreOffered shares → 0 < most → IsSettled shares most marked → Distinct group → ((r : ℕ) → is_among group r ≡ is_marked marked r) → Agrees f shares → IsLeast f (offers_of shares) most group
@@ -98,8 +107,8 @@ module _ (f : Id → ℕ) where
         reached = λ _. record {
           busiest = λ r e. (let held_is : held shares r ≡ most = sym (load_agrees shares agrees r) ∙ e in same r ∙ h.busiest r (busy r held_is) held_is);
           keeps = keeps_agrees shares (is_among group) agrees (λ k r lt m among. same r ∙ h.closed k r lt (sym (same (given shares k)) ∙ m) among);
-          least = λ test begin keeps r m. h.least test (λ r e. begin r (load_agrees shares agrees r ∙ e)) (closed_agrees shares test agrees keeps) r (sym (same r) ∙ m)
-        }
+          least = λ test begin keeps r m. h.least test (λ r e. begin r (load_agrees shares agrees r ∙ e)) (closed_agrees shares test agrees keeps) r (sym (same r) ∙ m);
+        };
       }
 
 -- two greatest loads are one
@@ -113,7 +122,7 @@ ids_of_shares shares = map_twice (λ (g : Id × ℕ). g.0) (λ (s : Share). (s.i
 relays_small : (shares : List Share) → AreOffered shares → All (λ g. g.1 < RELAYS) (gives_of shares)
 relays_small shares offers =
     All-map (λ (g : Id × ℕ). g.1 < RELAYS) (λ (s : Share). (s.id, s.relay)) shares
-      (λ k d lt. subst (λ r. r < RELAYS) (given_is shares k (get_or shares k d) d lt refl) (offers.small k lt))
+    (λ k d lt. subst (λ r. r < RELAYS) (given_is shares k (get_or shares k d) d lt refl) (offers.small k lt))
 
 module _ (offers : List (Id × List ℕ)) (shares : List Share) (most : ℕ) (group : List ℕ) (same : offers_of shares ≡ offers) (ordered : Ascend (map (λ p. p.0) offers)) (few : length offers ≤ MOST_IDS) (given_ok : AreOffered shares) (relays : AreRelays group) where
   abbrev pub made : Planned
@@ -127,7 +136,7 @@ module _ (offers : List (Id × List ℕ)) (shares : List Share) (most : ℕ) (gr
     ascend = subst Ascend (sym ids_same) ordered;
     few = omega (arith, few, ap length same, length-map {A = Share} {B = Id × List ℕ}, length-map {A = Share} {B = Id × ℕ});
     relays = relays_small shares given_ok;
-    group_ok = relays
+    group_ok = relays;
   }
 
   agrees_gives : Agrees (relay_in (gives_of shares)) shares
@@ -138,13 +147,13 @@ module _ (offers : List (Id × List ℕ)) (shares : List Share) (most : ℕ) (gr
     ids = ids_same;
     loads = λ r. load_by_gives (relay_in (gives_of shares)) offers (gives_of shares) r (sym ids_same) (gives_agree (gives_of shares) is_plan.ascend);
     least = least;
-    plan_ok = is_plan
+    plan_ok = is_plan;
   }
 
   pub settled_plan : (marked : List Bool) → 0 < most → IsSettled shares most marked → ((r : ℕ) → is_among group r ≡ is_marked marked r) → IsPlanOf offers made
   settled_plan marked some h members =
       is_plan_of (subst (λ os. IsLeast (relay_in (gives_of shares)) os most group) same
-        (is_least (relay_in (gives_of shares)) shares most marked group given_ok some h (distinct_sorted group relays.ascend) members agrees_gives))
+      (is_least (relay_in (gives_of shares)) shares most marked group given_ok some h (distinct_sorted group relays.ascend) members agrees_gives))
 
 -- where nothing is offered
 pub nothing_least : (f : Id → ℕ) → IsLeast f [] 0 []
@@ -153,7 +162,7 @@ nothing_least f = record {
   greatest = (λ r. omega arith, (0, refl));
   shows = inl refl;
   reached = λ lt. absurd (omega arith);
-  none = λ e. refl
+  none = λ e. refl;
 }
 
 pub no_relays : AreRelays []
@@ -168,7 +177,7 @@ pub nothing_planned : (offers : List (Id × List ℕ)) (shares : List Share) (gr
 nothing_planned offers shares group same ordered few given_ok none e =
     let empty : offers ≡ [] = sym same ∙ ap offers_of (nothing shares none) in
     let least : IsLeast (relay_in (gives_of shares)) offers 0 group =
-        subst (λ g. IsLeast (relay_in (gives_of shares)) offers 0 g) (sym e) (subst (λ os. IsLeast (relay_in (gives_of shares)) os 0 []) (sym empty) (nothing_least (relay_in (gives_of shares)))) in
+    subst (λ g. IsLeast (relay_in (gives_of shares)) offers 0 g) (sym e) (subst (λ os. IsLeast (relay_in (gives_of shares)) os 0 []) (sym empty) (nothing_least (relay_in (gives_of shares)))) in
     is_plan_of offers shares 0 group same ordered few given_ok (subst AreRelays (sym e) no_relays) least
 
 pub none_given : (gives : List (Id × ℕ)) (r : ℕ) → All (λ g. g.1 < RELAYS) gives → RELAYS ≤ r → 0 ≡ given_load gives r

@@ -27,12 +27,12 @@ held-le-length shares r = count_by-le-length (λ s. s.relay == r) shares
 pub loads_push : (shares : List Share) (loads : List ℕ) (s : Share) → length loads ≡ RELAYS → s.relay < RELAYS → AreLoads shares loads → AreLoads (shares ++ s ∷ []) (set loads s.relay (get_or loads s.relay 0 + 1))
 loads_push shares loads s wide small are r lt =
     elim (cases_eq r s.relay) [
-      inl e ↦
-        (let a : get_or (set loads s.relay (get_or loads s.relay 0 + 1)) r 0 ≡ get_or loads s.relay 0 + 1 = ap (λ r. get_or (set loads s.relay (get_or loads s.relay 0 + 1)) r 0) e ∙ get_or-set_same loads s.relay (get_or loads s.relay 0 + 1) 0 (omega arith) in
-         omega (arith, a, are r lt, ap (λ r. get_or loads r 0) e, sum_by_push (λ (x : Share). cond (x.relay == r) 1 0) shares s, ap {B = ℕ} (λ b. cond b 1 0) (eq-eqb s.relay r (sym e))))
+      | inl e ↦
+          (let a : get_or (set loads s.relay (get_or loads s.relay 0 + 1)) r 0 ≡ get_or loads s.relay 0 + 1 = ap (λ r. get_or (set loads s.relay (get_or loads s.relay 0 + 1)) r 0) e ∙ get_or-set_same loads s.relay (get_or loads s.relay 0 + 1) 0 (omega arith) in
+          omega (arith, a, are r lt, ap (λ r. get_or loads r 0) e, sum_by_push (λ (x : Share). cond (x.relay == r) 1 0) shares s, ap {B = ℕ} (λ b. cond b 1 0) (eq-eqb s.relay r (sym e))))
       | inr ne ↦
-        (let a : get_or (set loads s.relay (get_or loads s.relay 0 + 1)) r 0 ≡ get_or loads r 0 = get_or-set_other loads s.relay r (get_or loads s.relay 0 + 1) 0 ne in
-         omega (arith, a, are r lt, sum_by_push (λ (x : Share). cond (x.relay == r) 1 0) shares s, ap {B = ℕ} (λ b. cond b 1 0) (ne_eqb s.relay r (λ e. ne (sym e)))))
+          (let a : get_or (set loads s.relay (get_or loads s.relay 0 + 1)) r 0 ≡ get_or loads r 0 = get_or-set_other loads s.relay r (get_or loads s.relay 0 + 1) 0 ne in
+          omega (arith, a, are r lt, sum_by_push (λ (x : Share). cond (x.relay == r) 1 0) shares s, ap {B = ℕ} (λ b. cond b 1 0) (ne_eqb s.relay r (λ e. ne (sym e)))))
     ]
 
 module _ (shares : List Share) (s : Share) where
@@ -55,15 +55,15 @@ module _ (shares : List Share) (s : Share) where
   pub offered_push : is_among s.relays s.relay ≡ true → s.relay < RELAYS → AreOffered shares → AreOffered (shares ++ s ∷ [])
   offered_push among small h = record {
     offer = λ k lt. elim (cases_lt k (length shares)) [
-      inl below ↦ ap (λ rs. is_among rs (given (shares ++ s ∷ []) k)) (offered_before k below) ∙ ap (is_among (offered shares k)) (given_before k below) ∙ h.offer k below
+      | inl below ↦ ap (λ rs. is_among rs (given (shares ++ s ∷ []) k)) (offered_before k below) ∙ ap (is_among (offered shares k)) (given_before k below) ∙ h.offer k below
       | inr above ↦
-        (let e : length shares ≡ k = omega (arith, length_push shares s) in
-         ap (λ rs. is_among rs (given (shares ++ s ∷ []) k)) (offered_last k e) ∙ ap (is_among s.relays) (given_last k e) ∙ among)
+          (let e : length shares ≡ k = omega (arith, length_push shares s) in
+          ap (λ rs. is_among rs (given (shares ++ s ∷ []) k)) (offered_last k e) ∙ ap (is_among s.relays) (given_last k e) ∙ among)
     ];
     small = λ k lt. elim (cases_lt k (length shares)) [
-      inl below ↦ subst (λ r. r < RELAYS) (sym (given_before k below)) (h.small k below)
+      | inl below ↦ subst (λ r. r < RELAYS) (sym (given_before k below)) (h.small k below)
       | inr above ↦ (let e : length shares ≡ k = omega (arith, length_push shares s) in subst (λ r. r < RELAYS) (sym (given_last k e)) small)
-    ]
+    ];
   }
 
 -- ids with the relays that offer them

@@ -47,9 +47,9 @@ module _ (gives : List (Id × ℕ)) (id : Id) (low high middle : ℕ) (h : IsBet
     apart = from;
     below = h.below;
     above = λ k le lt. elim (cases_eq k middle) [
-      inl e ↦ ap (λ k. id_cmp id (id_at gives k)) e ∙ less
+      | inl e ↦ ap (λ k. id_cmp id (id_at gives k)) e ∙ less
       | inr ne ↦ id_total.trans id (id_at gives middle) (id_at gives k) less (earlier gives middle k ordered (omega arith) lt)
-    ]
+    ];
   }
 
   pub go_up : id_cmp id (id_at gives middle) ≡ Greater → IsBetween gives id (middle + 1) high
@@ -59,10 +59,10 @@ module _ (gives : List (Id × ℕ)) (id : Id) (low high middle : ℕ) (h : IsBet
         within = h.within;
         apart = omega arith;
         below = λ k lt. elim (cases_eq k middle) [
-          inl e ↦ ap (λ k. id_cmp (id_at gives k) id) e ∙ less
+          | inl e ↦ ap (λ k. id_cmp (id_at gives k) id) e ∙ less
           | inr ne ↦ id_total.trans (id_at gives k) (id_at gives middle) id (earlier gives k middle ordered (omega arith) (omega (arith, h.within))) less
         ];
-        above = h.above
+        above = h.above;
       }
 
 -- the id at the place is the one that is sought
@@ -81,7 +81,7 @@ not_beside (g ∷ gs) id h = ap (λ b. cond b (Some g.1) (beside gs id)) (h 0 (o
 pub not_found : (gives : List (Id × ℕ)) (id : Id) (low high : ℕ) → IsBetween gives id low high → high ≤ low → None ≡ beside gives id
 not_found gives id low high h met =
     sym (not_beside gives id (λ k lt. elim (cases_lt k low) [
-      inl below ↦ ap is_eq (id_total.antisymm id (id_at gives k) ∙ ap ordering_reverse (h.below k below))
+      | inl below ↦ ap is_eq (id_total.antisymm id (id_at gives k) ∙ ap ordering_reverse (h.below k below))
       | inr above ↦ ap is_eq (h.above k (omega arith) lt)
     ]))
 

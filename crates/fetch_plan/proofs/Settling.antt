@@ -17,7 +17,7 @@ use Rattle.fetch_plan.proofs.Trails.{relay_kept, from_kept}
 pub start_load : (loads : List ℕ) (most : ℕ) (first steps : List Step) (k : ℕ) → AreStarts loads most first → Extends first steps → k < length steps → from_at steps k ≡ None → get_or loads (relay_at steps k) 0 ≡ most
 start_load loads most first steps k starts more lt none =
     elim (cases_lt k (length first)) [
-      inl early ↦ ap (λ r. get_or loads r 0) (relay_kept first steps k more early) ∙ starts.busiest k early
+      | inl early ↦ ap (λ r. get_or loads r 0) (relay_kept first steps k more early) ∙ starts.busiest k early
       | inr late ↦ absurd (false≢true (sym (ap is_some none) ∙ more.linked k late lt))
     ]
 
@@ -26,8 +26,8 @@ square_step x y le =
     let d : ℕ = x - (y + 2) in
     let e : x ≡ y + 2 + d = omega arith in
     subst (λ x. (x - 1) * (x - 1) + (y + 1) * (y + 1) < x * x + y * y) (sym e)
-      (let f : y + 2 + d - 1 ≡ y + 1 + d = omega arith in
-       subst (λ z. z * z + (y + 1) * (y + 1) < (y + 2 + d) * (y + 2 + d) + y * y) (sym f) (omega arith))
+    (let f : y + 2 + d - 1 ≡ y + 1 + d = omega arith in
+    subst (λ z. z * z + (y + 1) * (y + 1) < (y + 2 + d) * (y + 2 + d) + y * y) (sym f) (omega arith))
 
 module _ (loads : List ℕ) (from to : ℕ) (inside : from < length loads) (inside' : to < length loads) (gap : get_or loads to 0 + 2 ≤ get_or loads from 0) where
   abbrev pub once : List ℕ
@@ -45,32 +45,37 @@ module _ (loads : List ℕ) (from to : ℕ) (inside : from < length loads) (insi
   pub squares_fall : squares twice < squares loads
   squares_fall =
       let fits : to < length once = omega (arith, length-set loads from (get_or loads from 0 - 1)) in
-      omega (arith, sum_by-set (λ x. x * x) loads from (get_or loads from 0 - 1) 0 inside,
-        sum_by-set (λ x. x * x) once to (get_or once to 0 + 1) 0 fits, ap {B = ℕ} (λ x. x * x) once_to, ap {B = ℕ} (λ x. (x + 1) * (x + 1)) once_to,
-        square_step (get_or loads from 0) (get_or loads to 0) gap)
+      omega (
+        arith,
+        sum_by-set (λ x. x * x) loads from (get_or loads from 0 - 1) 0 inside,
+        sum_by-set (λ x. x * x) once to (get_or once to 0 + 1) 0 fits,
+        ap {B = ℕ} (λ x. x * x) once_to,
+        ap {B = ℕ} (λ x. (x + 1) * (x + 1)) once_to,
+        square_step (get_or loads from 0) (get_or loads to 0) gap,
+      )
 
   pub twice_at : (r : ℕ) → get_or twice r 0 + cond (from == r) 1 0 ≡ get_or loads r 0 + cond (to == r) 1 0
   twice_at r =
       let fits : to < length once = omega (arith, length-set loads from (get_or loads from 0 - 1)) in
       elim (cases_eq r to) [
-        inl e ↦
-          (let a : get_or twice r 0 ≡ get_or once to 0 + 1 = ap (λ r. get_or twice r 0) e ∙ get_or-set_same once to (get_or once to 0 + 1) 0 fits in
-           let b : (from == r) ≡ false = ne_eqb from r (λ f. apart (sym e ∙ sym f)) in
-           let c : (to == r) ≡ true = eq-eqb to r (sym e) in
-           omega (arith, a, once_to, ap (λ r. get_or loads r 0) e, ap {B = ℕ} (λ b. cond b 1 0) b, ap {B = ℕ} (λ b. cond b 1 0) c))
+        | inl e ↦
+            (let a : get_or twice r 0 ≡ get_or once to 0 + 1 = ap (λ r. get_or twice r 0) e ∙ get_or-set_same once to (get_or once to 0 + 1) 0 fits in
+            let b : (from == r) ≡ false = ne_eqb from r (λ f. apart (sym e ∙ sym f)) in
+            let c : (to == r) ≡ true = eq-eqb to r (sym e) in
+            omega (arith, a, once_to, ap (λ r. get_or loads r 0) e, ap {B = ℕ} (λ b. cond b 1 0) b, ap {B = ℕ} (λ b. cond b 1 0) c))
         | inr ne ↦
-          (let c : (to == r) ≡ false = ne_eqb to r (λ f. ne (sym f)) in
-           let a : get_or twice r 0 ≡ get_or once r 0 = get_or-set_other once to r (get_or once to 0 + 1) 0 ne in
-           elim (cases_eq r from) [
-             inl e ↦
-               (let b : (from == r) ≡ true = eq-eqb from r (sym e) in
-                let d : get_or once r 0 ≡ get_or loads from 0 - 1 = ap (λ r. get_or once r 0) e ∙ get_or-set_same loads from (get_or loads from 0 - 1) 0 inside in
-                omega (arith, a, d, gap, ap (λ r. get_or loads r 0) e, ap {B = ℕ} (λ b. cond b 1 0) b, ap {B = ℕ} (λ b. cond b 1 0) c))
-             | inr other ↦
-               (let b : (from == r) ≡ false = ne_eqb from r (λ f. other (sym f)) in
-                let d : get_or once r 0 ≡ get_or loads r 0 = get_or-set_other loads from r (get_or loads from 0 - 1) 0 other in
-                omega (arith, a, d, ap {B = ℕ} (λ b. cond b 1 0) b, ap {B = ℕ} (λ b. cond b 1 0) c))
-           ])
+            (let c : (to == r) ≡ false = ne_eqb to r (λ f. ne (sym f)) in
+            let a : get_or twice r 0 ≡ get_or once r 0 = get_or-set_other once to r (get_or once to 0 + 1) 0 ne in
+            elim (cases_eq r from) [
+              | inl e ↦
+                  (let b : (from == r) ≡ true = eq-eqb from r (sym e) in
+                  let d : get_or once r 0 ≡ get_or loads from 0 - 1 = ap (λ r. get_or once r 0) e ∙ get_or-set_same loads from (get_or loads from 0 - 1) 0 inside in
+                  omega (arith, a, d, gap, ap (λ r. get_or loads r 0) e, ap {B = ℕ} (λ b. cond b 1 0) b, ap {B = ℕ} (λ b. cond b 1 0) c))
+              | inr other ↦
+                  (let b : (from == r) ≡ false = ne_eqb from r (λ f. other (sym f)) in
+                  let d : get_or once r 0 ≡ get_or loads r 0 = get_or-set_other loads from r (get_or loads from 0 - 1) 0 other in
+                  omega (arith, a, d, ap {B = ℕ} (λ b. cond b 1 0) b, ap {B = ℕ} (λ b. cond b 1 0) c))
+            ])
       ]
 
   pub loads_moved : (old new : List Share) → AreLoads old loads → IsMoved old new from to → AreLoads new twice
@@ -96,12 +101,13 @@ some_held shares loads most are offers bound some =
     omega (arith, held_first shares some, are (given shares 0) small, bound (given shares 0) small)
 
 pub greatest_held : (shares : List Share) (loads : List ℕ) (most : ℕ) → AreLoads shares loads → AreOffered shares → ((r : ℕ) → r < RELAYS → get_or loads r 0 ≤ most) → (r : ℕ) × (r < RELAYS) × (get_or loads r 0 ≡ most) → IsGreatest (held shares) most
-greatest_held shares loads most are offers bound one =
-    (λ r. elim (cases_lt r RELAYS) [
-       inl lt ↦ omega (arith, are r lt, bound r lt)
-       | inr ge ↦ omega (arith, none_held shares r offers.small ge)
-     ],
-     (one.0, sym (are one.0 one.1) ∙ one.2))
+greatest_held shares loads most are offers bound one = (
+  λ r. elim (cases_lt r RELAYS) [
+    | inl lt ↦ omega (arith, are r lt, bound r lt)
+    | inr ge ↦ omega (arith, none_held shares r offers.small ge)
+  ],
+  (one.0, sym (are one.0 one.1) ∙ one.2),
+)
 
 by_link : (shares : List Share) (steps : List Step) (test : ℕ → Bool) (k : ℕ) (o : Option Link) → from_at steps k ≡ o → IsTrail shares steps → k < length steps →
     (from_at steps k ≡ None → test (relay_at steps k) ≡ true) → ((p : ℕ) → p < k → test (relay_at steps p) ≡ true) → IsClosedTest shares test → test (relay_at steps k) ≡ true
@@ -116,9 +122,9 @@ passed : (shares : List Share) (loads : List ℕ) (most : ℕ) (first steps : Li
 passed shares loads most first steps test trail starts more begin closed zero k below lt = absurd (omega arith)
 passed shares loads most first steps test trail starts more begin closed (suc n) k below lt =
     by_link shares steps test k (from_at steps k) refl trail lt
-      (λ none. begin (relay_at steps k) (trail.small k lt) (start_load loads most first steps k starts more lt none))
-      (λ p early. passed shares loads most first steps test trail starts more begin closed n p (omega arith) (omega arith))
-      closed
+    (λ none. begin (relay_at steps k) (trail.small k lt) (start_load loads most first steps k starts more lt none))
+    (λ p early. passed shares loads most first steps test trail starts more begin closed n p (omega arith) (omega arith))
+    closed
 
 pub settled : (shares : List Share) (loads : List ℕ) (most : ℕ) (first steps : List Step) (before marked : List Bool) → AreLoads shares loads → AreOffered shares →
     ((r : ℕ) → r < RELAYS → get_or loads r 0 ≤ most) → (r : ℕ) × (r < RELAYS) × (get_or loads r 0 ≡ most) →
@@ -133,6 +139,6 @@ settled shares loads most first steps before marked are offers bound one starts 
       closed = closed;
       high = λ r m. omega (arith, high r m, are r (small r m));
       least = λ test begin keeps r m.
-        (let w = marks.found r m in
-         ap test (sym w.2) ∙ passed shares loads most first steps test trail starts more (λ r lt e. begin r (sym (are r lt) ∙ e)) keeps (suc w.0) w.0 (omega arith) w.1)
+          (let w = marks.found r m in
+          ap test (sym w.2) ∙ passed shares loads most first steps test trail starts more (λ r lt e. begin r (sym (are r lt) ∙ e)) keeps (suc w.0) w.0 (omega arith) w.1);
     }

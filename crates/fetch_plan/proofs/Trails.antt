@@ -39,7 +39,7 @@ module _ (steps : List Step) (s : Step) where
   each_push : (P : ℕ → Type 0) → ((k : ℕ) → k < length steps → P k) → P (length steps) → (k : ℕ) → k < length (steps ++ s ∷ []) → P k
   each_push P old new k lt =
       elim (cases_lt k (length steps)) [
-        inl below ↦ old k below
+        | inl below ↦ old k below
         | inr above ↦ (let e : length steps ≡ k = omega (arith, length_push steps s) in subst P e new)
       ]
 
@@ -50,7 +50,7 @@ module _ (steps : List Step) (s : Step) where
         earlier = h.earlier;
         placed = h.placed;
         giver = h.giver ∙ sym (relay_before link.parent early);
-        taker = ap (is_among (offered shares link.place)) (relay_before k lt) ∙ h.taker
+        taker = ap (is_among (offered shares link.place)) (relay_before k lt) ∙ h.taker;
       }
 
 -- one more step with a link, to a relay that is not marked
@@ -62,23 +62,23 @@ push_trail shares steps marked relay link trail marks lt new parent placed giver
     let after : List Step = steps ++ s ∷ [] in
     record {
       small = each_push steps s (λ k. relay_at after k < RELAYS)
-        (λ k h. subst (λ r. r < RELAYS) (sym (relay_before steps s k h)) (trail.small k h))
-        (subst (λ r. r < RELAYS) (sym (relay_last steps s (length steps) refl)) lt);
+          (λ k h. subst (λ r. r < RELAYS) (sym (relay_before steps s k h)) (trail.small k h))
+          (subst (λ r. r < RELAYS) (sym (relay_last steps s (length steps) refl)) lt);
       links = λ k l h e. each_push steps s (λ k. (l : Link) → from_at after k ≡ Some l → IsLink shares after k l)
-        (λ k h l e. link_before steps s shares k l h (trail.links k l h (sym (from_before steps s k h) ∙ e)))
-        (λ l e.
+          (λ k h l e. link_before steps s shares k l h (trail.links k l h (sym (from_before steps s k h) ∙ e)))
+          (λ l e.
           let same : link ≡ l = (let o : from_at after (length steps) ≡ Some link = from_last steps s (length steps) refl in cc) in
           subst (λ l. IsLink shares after (length steps) l) same (record {
             earlier = parent;
             placed = placed;
             giver = giver ∙ sym (relay_before steps s link.parent parent);
-            taker = ap (is_among (offered shares link.place)) (relay_last steps s (length steps) refl) ∙ taker
+            taker = ap (is_among (offered shares link.place)) (relay_last steps s (length steps) refl) ∙ taker;
           }))
-        k h l e;
+          k h l e;
       apart = λ j k jk h. each_push steps s (λ k. (j : ℕ) → j < k → relay_at after j ≢ relay_at after k)
-        (λ k h j jk e. trail.apart j k jk h (sym (relay_before steps s j (omega arith)) ∙ e ∙ relay_before steps s k h))
-        (λ j jk e. false≢true (sym new ∙ ap (is_marked marked) (sym (relay_last steps s (length steps) refl) ∙ sym e ∙ relay_before steps s j jk) ∙ marks.noted j jk))
-        k h j jk
+          (λ k h j jk e. trail.apart j k jk h (sym (relay_before steps s j (omega arith)) ∙ e ∙ relay_before steps s k h))
+          (λ j jk e. false≢true (sym new ∙ ap (is_marked marked) (sym (relay_last steps s (length steps) refl) ∙ sym e ∙ relay_before steps s j jk) ∙ marks.noted j jk))
+          k h j jk;
     }
 
 module _ (marked : List Bool) (relay : ℕ) (lt : relay < length marked) where
@@ -93,7 +93,7 @@ module _ (marked : List Bool) (relay : ℕ) (lt : relay < length marked) where
   pub marked_stay : StayMarked marked (set marked relay true)
   marked_stay r h =
       elim (cases_eq r relay) [
-        inl e ↦ ap (is_marked (set marked relay true)) e ∙ marked_here
+        | inl e ↦ ap (is_marked (set marked relay true)) e ∙ marked_here
         | inr ne ↦ marked_there r ne ∙ h
       ]
 
@@ -108,22 +108,22 @@ push_marks steps marked s marks lt new =
     record {
       wide = length-set marked s.relay true ∙ marks.wide;
       noted = each_push steps s (λ k. is_marked (set marked s.relay true) (relay_at after k) ≡ true)
-        (λ k h. marked_stay marked s.relay fits _ (ap (is_marked marked) (relay_before steps s k h) ∙ marks.noted k h))
-        (ap (is_marked (set marked s.relay true)) (relay_last steps s (length steps) refl) ∙ marked_here marked s.relay fits);
+          (λ k h. marked_stay marked s.relay fits _ (ap (is_marked marked) (relay_before steps s k h) ∙ marks.noted k h))
+          (ap (is_marked (set marked s.relay true)) (relay_last steps s (length steps) refl) ∙ marked_here marked s.relay fits);
       found = λ r h. elim (cases_eq r s.relay) [
-        inl e ↦ (length steps, omega (arith, length_push steps s), relay_last steps s (length steps) refl ∙ sym e)
+        | inl e ↦ (length steps, omega (arith, length_push steps s), relay_last steps s (length steps) refl ∙ sym e)
         | inr ne ↦
-          (let w : (k : ℕ) × (k < length steps) × (relay_at steps k ≡ r) = marks.found r (sym (marked_there marked s.relay fits r ne) ∙ h) in
-           (w.0, omega (arith, length_push steps s, w.1), relay_before steps s w.0 w.1 ∙ w.2))
+            (let w : (k : ℕ) × (k < length steps) × (relay_at steps k ≡ r) = marks.found r (sym (marked_there marked s.relay fits r ne) ∙ h) in
+            (w.0, omega (arith, length_push steps s, w.1), relay_before steps s w.0 w.1 ∙ w.2))
       ];
-      counted = omega (arith, marks.counted, count_marked marked s.relay fits new, length_push steps s)
+      counted = omega (arith, marks.counted, count_marked marked s.relay fits new, length_push steps s);
     }
 
 pub extends_refl : (steps : List Step) → Extends steps steps
 extends_refl steps = record {
   longer = omega arith;
   same = λ k h. refl;
-  linked = λ k a b. absurd (omega arith)
+  linked = λ k a b. absurd (omega arith);
 }
 
 pub extends_push : (old steps : List Step) (relay : ℕ) (link : Link) → Extends old steps → Extends old (steps ++ record { relay = relay; from = Some link } ∷ [])
@@ -133,9 +133,9 @@ extends_push old steps relay link h =
       longer = omega (arith, h.longer, length_push steps s);
       same = λ k lt. get_or-append steps (s ∷ []) no_step k (omega (arith, h.longer)) ∙ h.same k lt;
       linked = λ k above below. each_push steps s (λ k. length old ≤ k → is_some (from_at (steps ++ s ∷ []) k) ≡ true)
-        (λ k lt above. ap is_some (from_before steps s k lt) ∙ h.linked k above lt)
-        (λ above. ap is_some (from_last steps s (length steps) refl))
-        k below above
+          (λ k lt above. ap is_some (from_before steps s k lt) ∙ h.linked k above lt)
+          (λ above. ap is_some (from_last steps s (length steps) refl))
+          k below above;
     }
 
 pub from_kept : (old new : List Step) (k : ℕ) → Extends old new → k < length old → from_at new k ≡ from_at old k
@@ -150,7 +150,7 @@ relay_kept old new k h lt = ap (λ (x : Step). x.relay) (h.same k lt)
 pub reached_more : (relays : List ℕ) (marked : List Bool) (relay : ℕ) → ((r : ℕ) → r < relay → is_among relays r ≡ true → is_marked marked r ≡ true) → (is_among relays relay ≡ true → is_marked marked relay ≡ true) → (r : ℕ) → r < relay + 1 → is_among relays r ≡ true → is_marked marked r ≡ true
 reached_more relays marked relay before here r lt h =
     elim (cases_eq r relay) [
-      inl e ↦ ap (is_marked marked) e ∙ here (ap (is_among relays) (sym e) ∙ h)
+      | inl e ↦ ap (is_marked marked) e ∙ here (ap (is_among relays) (sym e) ∙ h)
       | inr ne ↦ before r (omega arith) h
     ]
 
@@ -188,7 +188,12 @@ pub record Adding (shares : List Share) (relays : List ℕ) (steps : List Step) 
 
 pub adding_none : (shares : List Share) (relays : List ℕ) (steps : List Step) (marked : List Bool) → IsTrail shares steps → AreMarked steps marked → Adding shares relays steps marked steps marked 0
 adding_none shares relays steps marked trail marks = record {
-  trail = trail; marks = marks; extends = extends_refl steps; stay = λ r h. h; reached = λ r lt h. absurd (omega arith); small = λ lt. absurd (omega arith)
+  trail = trail;
+  marks = marks;
+  extends = extends_refl steps;
+  stay = λ r h. h;
+  reached = λ r lt h. absurd (omega arith);
+  small = λ lt. absurd (omega arith);
 }
 
 pub adding_pass : (shares : List Share) (relays : List ℕ) (steps : List Step) (marked : List Bool) (now later : List Step) (marks_now marks_later : List Bool) (relay : ℕ) →
@@ -197,8 +202,12 @@ pub adding_pass : (shares : List Share) (relays : List ℕ) (steps : List Step) 
 adding_pass shares relays steps marked now later marks_now marks_later relay h e f here small =
     subst (λ m. Adding shares relays steps marked later m (relay + 1)) (sym f)
     (subst (λ s. Adding shares relays steps marked s marks_now (relay + 1)) (sym e) (record {
-      trail = h.trail; marks = h.marks; extends = h.extends; stay = h.stay;
-      reached = reached_more relays marks_now relay h.reached here; small = λ _. small
+      trail = h.trail;
+      marks = h.marks;
+      extends = h.extends;
+      stay = h.stay;
+      reached = reached_more relays marks_now relay h.reached here;
+      small = λ _. small;
     }))
 
 pub adding_step : (shares : List Share) (link : Link) (steps : List Step) (marked : List Bool) (now later : List Step) (marks_now marks_later : List Bool) (relay : ℕ) →
@@ -217,8 +226,8 @@ adding_step shares link steps marked now later marks_now marks_later relay place
       extends = extends_push steps now relay link h.extends;
       stay = λ r old. marked_stay marks_now relay fits r (h.stay r old);
       reached = reached_more (offered shares link.place) (set marks_now relay true) relay
-        (λ r below yes. marked_stay marks_now relay fits r (h.reached r below yes)) (λ _. marked_at marks_now relay fits);
-      small = λ _. tiny
+          (λ r below yes. marked_stay marks_now relay fits r (h.reached r below yes)) (λ _. marked_at marks_now relay fits);
+      small = λ _. tiny;
     }))
 
 pub extends_more : (a b c : List Step) → Extends a b → Extends b c → Extends a c
@@ -226,10 +235,10 @@ extends_more a b c h g = record {
   longer = omega (arith, h.longer, g.longer);
   same = λ k lt. g.same k (omega (arith, h.longer)) ∙ h.same k lt;
   linked = λ k above below.
-    elim (cases_lt k (length b)) [
-      inl lt ↦ (let e : from_at c k ≡ from_at b k = from_kept b c k g lt in ap is_some e ∙ h.linked k above lt)
-      | inr ge ↦ g.linked k ge below
-    ]
+      elim (cases_lt k (length b)) [
+        | inl lt ↦ (let e : from_at c k ≡ from_at b k = from_kept b c k g lt in ap is_some e ∙ h.linked k above lt)
+        | inr ge ↦ g.linked k ge below
+      ];
 }
 
 -- the shares of one relay so far
@@ -243,20 +252,27 @@ pub record Adding_from (shares : List Share) (relay : ℕ) (steps : List Step) (
 pub closed_more : (shares : List Share) (n relay : ℕ) (marked : List Bool) → IsClosedAt shares n relay marked → (given shares n ≡ relay → (r : ℕ) → is_among (offered shares n) r ≡ true → is_marked marked r ≡ true) → IsClosedAt shares (n + 1) relay marked
 closed_more shares n relay marked before here k r lt e h =
     elim (cases_eq k n) [
-      inl same ↦ here (ap (given shares) (sym same) ∙ e) r (ap (λ k. is_among (offered shares k) r) (sym same) ∙ h)
+      | inl same ↦ here (ap (given shares) (sym same) ∙ e) r (ap (λ k. is_among (offered shares k) r) (sym same) ∙ h)
       | inr ne ↦ before k r (omega arith) e h
     ]
 
 pub from_none : (shares : List Share) (relay : ℕ) (steps : List Step) (marked : List Bool) → IsTrail shares steps → AreMarked steps marked → Adding_from shares relay steps marked steps marked 0
 from_none shares relay steps marked trail marks = record {
-  trail = trail; marks = marks; extends = extends_refl steps; stay = λ r h. h; closed = λ k r lt. absurd (omega arith)
+  trail = trail;
+  marks = marks;
+  extends = extends_refl steps;
+  stay = λ r h. h;
+  closed = λ k r lt. absurd (omega arith);
 }
 
 pub from_pass : (shares : List Share) (relay : ℕ) (steps : List Step) (marked : List Bool) (now : List Step) (marks_now : List Bool) (n : ℕ) →
     Adding_from shares relay steps marked now marks_now n → (given shares n ≡ relay → ⊥) → Adding_from shares relay steps marked now marks_now (n + 1)
 from_pass shares relay steps marked now marks_now n h other = record {
-  trail = h.trail; marks = h.marks; extends = h.extends; stay = h.stay;
-  closed = closed_more shares n relay marks_now h.closed (λ e. absurd (other e))
+  trail = h.trail;
+  marks = h.marks;
+  extends = h.extends;
+  stay = h.stay;
+  closed = closed_more shares n relay marks_now h.closed (λ e. absurd (other e));
 }
 
 pub from_step : (shares : List Share) (relay : ℕ) (steps : List Step) (marked : List Bool) (now later : List Step) (marks_now marks_later : List Bool) (n : ℕ) →
@@ -264,8 +280,11 @@ pub from_step : (shares : List Share) (relay : ℕ) (steps : List Step) (marked 
     ((r : ℕ) → is_among (offered shares n) r ≡ true → is_marked marks_later r ≡ true) →
     Adding_from shares relay steps marked later marks_later (n + 1)
 from_step shares relay steps marked now later marks_now marks_later n h trail marks extends stay reached = record {
-  trail = trail; marks = marks; extends = extends_more steps now later h.extends extends; stay = λ r m. stay r (h.stay r m);
-  closed = closed_more shares n relay marks_later (λ k r lt e among. stay r (h.closed k r lt e among)) (λ _. reached)
+  trail = trail;
+  marks = marks;
+  extends = extends_more steps now later h.extends extends;
+  stay = λ r m. stay r (h.stay r m);
+  closed = closed_more shares n relay marks_later (λ k r lt e among. stay r (h.closed k r lt e among)) (λ _. reached);
 }
 
 -- the relays below this one with the greatest load are on the trail
@@ -287,14 +306,16 @@ starting_none loads most marked wide none = record {
   marks = record { wide = wide; noted = λ k lt. absurd (omega arith); found = λ r h. absurd (false≢true (sym (none r) ∙ h)); counted = omega (arith, count_none marked none) };
   starts = record { unlinked = λ k lt. absurd (omega arith); busiest = λ k lt. absurd (omega arith) };
   all = λ r lt. absurd (omega arith);
-  later = λ r le. none r
+  later = λ r le. none r;
 }
 
 pub starting_pass : (loads : List ℕ) (most : ℕ) (steps : List Step) (marked : List Bool) (relay : ℕ) → Starting loads most steps marked relay → get_or loads relay 0 ≢ most → Starting loads most steps marked (relay + 1)
 starting_pass loads most steps marked relay h ne = record {
-  trail = h.trail; marks = h.marks; starts = h.starts;
+  trail = h.trail;
+  marks = h.marks;
+  starts = h.starts;
   all = λ r lt e. elim (cases_eq r relay) [ inl same ↦ absurd (ne (ap (λ r. get_or loads r 0) (sym same) ∙ e)) | inr other ↦ h.all r (omega arith) e ];
-  later = λ r le. h.later r (omega arith)
+  later = λ r le. h.later r (omega arith);
 }
 
 push_start : (shares : List Share) (steps : List Step) (marked : List Bool) (relay : ℕ) → IsTrail shares steps → AreMarked steps marked → relay < RELAYS → is_marked marked relay ≡ false →
@@ -304,16 +325,16 @@ push_start shares steps marked relay trail marks lt new =
     let after : List Step = steps ++ s ∷ [] in
     record {
       small = each_push steps s (λ k. relay_at after k < RELAYS)
-        (λ k h. subst (λ r. r < RELAYS) (sym (relay_before steps s k h)) (trail.small k h))
-        (subst (λ r. r < RELAYS) (sym (relay_last steps s (length steps) refl)) lt);
+          (λ k h. subst (λ r. r < RELAYS) (sym (relay_before steps s k h)) (trail.small k h))
+          (subst (λ r. r < RELAYS) (sym (relay_last steps s (length steps) refl)) lt);
       links = λ k l h e. each_push steps s (λ k. (l : Link) → from_at after k ≡ Some l → IsLink shares after k l)
-        (λ k h l e. link_before steps s shares k l h (trail.links k l h (sym (from_before steps s k h) ∙ e)))
-        (λ l e. absurd (let o : from_at after (length steps) ≡ None = from_last steps s (length steps) refl in cc))
-        k h l e;
+          (λ k h l e. link_before steps s shares k l h (trail.links k l h (sym (from_before steps s k h) ∙ e)))
+          (λ l e. absurd (let o : from_at after (length steps) ≡ None = from_last steps s (length steps) refl in cc))
+          k h l e;
       apart = λ j k jk h. each_push steps s (λ k. (j : ℕ) → j < k → relay_at after j ≢ relay_at after k)
-        (λ k h j jk e. trail.apart j k jk h (sym (relay_before steps s j (omega arith)) ∙ e ∙ relay_before steps s k h))
-        (λ j jk e. false≢true (sym new ∙ ap (is_marked marked) (sym (relay_last steps s (length steps) refl) ∙ sym e ∙ relay_before steps s j jk) ∙ marks.noted j jk))
-        k h j jk
+          (λ k h j jk e. trail.apart j k jk h (sym (relay_before steps s j (omega arith)) ∙ e ∙ relay_before steps s k h))
+          (λ j jk e. false≢true (sym new ∙ ap (is_marked marked) (sym (relay_last steps s (length steps) refl) ∙ sym e ∙ relay_before steps s j jk) ∙ marks.noted j jk))
+          k h j jk;
     }
 
 pub starting_step : (loads : List ℕ) (most : ℕ) (steps : List Step) (marked : List Bool) (relay : ℕ) → Starting loads most steps marked relay → relay < RELAYS → get_or loads relay 0 ≡ most →
@@ -328,14 +349,14 @@ starting_step loads most steps marked relay h lt here =
       starts = record {
         unlinked = each_push steps s (λ k. from_at after k ≡ None) (λ k lt. from_before steps s k lt ∙ h.starts.unlinked k lt) (from_last steps s (length steps) refl);
         busiest = each_push steps s (λ k. get_or loads (relay_at after k) 0 ≡ most)
-          (λ k lt. ap (λ r. get_or loads r 0) (relay_before steps s k lt) ∙ h.starts.busiest k lt)
-          (ap (λ r. get_or loads r 0) (relay_last steps s (length steps) refl) ∙ here)
+            (λ k lt. ap (λ r. get_or loads r 0) (relay_before steps s k lt) ∙ h.starts.busiest k lt)
+            (ap (λ r. get_or loads r 0) (relay_last steps s (length steps) refl) ∙ here);
       };
       all = λ r lt e. elim (cases_eq r relay) [
-        inl same ↦ ap (is_marked (set marked relay true)) same ∙ marked_here marked relay fits
+        | inl same ↦ ap (is_marked (set marked relay true)) same ∙ marked_here marked relay fits
         | inr other ↦ marked_stay marked relay fits r (h.all r (omega arith) e)
       ];
-      later = λ r le. (let ne : r ≢ relay = omega arith in marked_there marked relay fits r ne ∙ h.later r (omega arith))
+      later = λ r le. (let ne : r ≢ relay = omega arith in marked_there marked relay fits r ne ∙ h.later r (omega arith));
     }
 
 -- the steps before next are done
@@ -350,8 +371,13 @@ pub record Searching (shares : List Share) (loads : List ℕ) (most : ℕ) (step
 
 pub searching_none : (shares : List Share) (loads : List ℕ) (most : ℕ) (steps : List Step) (marked : List Bool) → IsTrail shares steps → AreMarked steps marked → Searching shares loads most steps marked steps marked 0
 searching_none shares loads most steps marked trail marks = record {
-  trail = trail; marks = marks; extends = extends_refl steps; stay = λ r h. h; within = omega arith;
-  closed = λ j lt. absurd (omega arith); high = λ j lt. absurd (omega arith)
+  trail = trail;
+  marks = marks;
+  extends = extends_refl steps;
+  stay = λ r h. h;
+  within = omega arith;
+  closed = λ j lt. absurd (omega arith);
+  high = λ j lt. absurd (omega arith);
 }
 
 pub searching_step : (shares : List Share) (loads : List ℕ) (most : ℕ) (steps : List Step) (marked : List Bool) (now later : List Step) (marks_now marks_later : List Bool) (next : ℕ) →
@@ -361,18 +387,21 @@ pub searching_step : (shares : List Share) (loads : List ℕ) (most : ℕ) (step
 searching_step shares loads most steps marked now later marks_now marks_later next h lt high trail marks extends stay closed =
     let same : (j : ℕ) → j < length now → relay_at later j ≡ relay_at now j = λ j below. relay_kept now later j extends below in
     record {
-      trail = trail; marks = marks; extends = extends_more steps now later h.extends extends; stay = λ r m. stay r (h.stay r m);
+      trail = trail;
+      marks = marks;
+      extends = extends_more steps now later h.extends extends;
+      stay = λ r m. stay r (h.stay r m);
       within = omega (arith, extends.longer);
       closed = λ j below. subst (λ r. IsClosedAt shares (length shares) r marks_later) (sym (same j (omega (arith, h.within))))
-        (elim (cases_eq j next) [
-          inl e ↦ subst (λ j. IsClosedAt shares (length shares) (relay_at now j) marks_later) (sym e) closed
-          | inr ne ↦ λ k r kk g among. stay r (h.closed j (omega arith) k r kk g among)
-        ]);
+          (elim (cases_eq j next) [
+            | inl e ↦ subst (λ j. IsClosedAt shares (length shares) (relay_at now j) marks_later) (sym e) closed
+            | inr ne ↦ λ k r kk g among. stay r (h.closed j (omega arith) k r kk g among)
+          ]);
       high = λ j below. subst (λ r. most ≤ get_or loads r 0 + 1) (sym (same j (omega (arith, h.within))))
-        (elim (cases_eq j next) [
-          inl e ↦ subst (λ j. most ≤ get_or loads (relay_at now j) 0 + 1) (sym e) high
-          | inr ne ↦ h.high j (omega arith)
-        ])
+          (elim (cases_eq j next) [
+            | inl e ↦ subst (λ j. most ≤ get_or loads (relay_at now j) 0 + 1) (sym e) high
+            | inr ne ↦ h.high j (omega arith)
+          ]);
     }
 
 pub searched_closed : (shares : List Share) (loads : List ℕ) (most : ℕ) (steps : List Step) (marked : List Bool) (now : List Step) (marks_now : List Bool) (next : ℕ) →

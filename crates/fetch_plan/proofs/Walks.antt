@@ -26,7 +26,7 @@ module _ (shares : List Share) (place : ℕ) (share : Share) (lt : place < lengt
   unfolding offered
   offered_after k =
       elim (cases_eq k place) [
-        inl e ↦ ap (offered (set shares place share)) e ∙ ap (λ (s : Share). s.relays) (get_or-set_same shares place share no_share lt) ∙ same ∙ ap (offered shares) (sym e)
+        | inl e ↦ ap (offered (set shares place share)) e ∙ ap (λ (s : Share). s.relays) (get_or-set_same shares place share no_share lt) ∙ same ∙ ap (offered shares) (sym e)
         | inr ne ↦ ap (λ (s : Share). s.relays) (get_or-set_other shares place k share no_share ne)
       ]
 
@@ -37,13 +37,13 @@ module _ (shares : List Share) (place : ℕ) (share : Share) (lt : place < lengt
   offered_kept : is_among (offered shares place) share.relay ≡ true → share.relay < RELAYS → AreOffered shares → AreOffered (set shares place share)
   offered_kept among tiny h = record {
     small = λ k fits. elim (cases_eq k place) [
-      inl e ↦ subst (λ r. r < RELAYS) (sym given_here ∙ ap (given (set shares place share)) (sym e)) tiny
+      | inl e ↦ subst (λ r. r < RELAYS) (sym given_here ∙ ap (given (set shares place share)) (sym e)) tiny
       | inr ne ↦ subst (λ r. r < RELAYS) (sym (given_there k ne)) (h.small k (omega (arith, length-set shares place share)))
     ];
     offer = λ k fits. elim (cases_eq k place) [
-        inl e ↦ ap (λ k. is_among (offered (set shares place share) k) (given (set shares place share) k)) e ∙ ap (λ rs. is_among rs (given (set shares place share) place)) (offered_after place) ∙ ap (is_among (offered shares place)) given_here ∙ among
-        | inr ne ↦ ap (λ rs. is_among rs (given (set shares place share) k)) (offered_after k) ∙ ap (is_among (offered shares k)) (given_there k ne) ∙ h.offer k (omega (arith, length-set shares place share))
-      ]
+      | inl e ↦ ap (λ k. is_among (offered (set shares place share) k) (given (set shares place share) k)) e ∙ ap (λ rs. is_among rs (given (set shares place share) place)) (offered_after place) ∙ ap (is_among (offered shares place)) given_here ∙ among
+      | inr ne ↦ ap (λ rs. is_among rs (given (set shares place share) k)) (offered_after k) ∙ ap (is_among (offered shares k)) (given_there k ne) ∙ h.offer k (omega (arith, length-set shares place share))
+    ];
   }
 
 pub offers_after : (shares : List Share) (place : ℕ) (share d : Share) → share.id ≡ (get_or shares place d).id → share.relays ≡ (get_or shares place d).relays → offers_of (set shares place share) ≡ offers_of shares
@@ -61,7 +61,13 @@ pub record Walking (old : List Share) (steps : List Step) (end : ℕ) (now : Lis
 
 pub walking_none : (old : List Share) (steps : List Step) (end : ℕ) → end < length steps → Walking old steps end old end
 walking_none old steps end lt = record {
-  within = lt; long = refl; offers = refl; alike = λ k. refl; untouched = λ k q below e. refl; moved = λ r. refl; kept = λ h. h
+  within = lt;
+  long = refl;
+  offers = refl;
+  alike = λ k. refl;
+  untouched = λ k q below e. refl;
+  moved = λ r. refl;
+  kept = λ h. h;
 }
 
 pub walking_step : (old : List Share) (steps : List Step) (end : ℕ) (now : List Share) (at : ℕ) (link : Link) (share d : Share) → IsTrail old steps → Walking old steps end now at → from_at steps at ≡ Some link →
@@ -78,8 +84,8 @@ walking_step old steps end now at link share d trail h from id relays read relay
       offers = offers_after now link.place share d id relays ∙ h.offers;
       alike = λ k. offered_after now link.place share lt same k ∙ h.alike k;
       untouched = λ k q below e.
-        let ne : k ≢ link.place = λ is. trail.apart q link.parent below (omega (arith, tied.earlier, h.within)) (sym e ∙ ap (given old) is ∙ tied.giver) in
-        given_there now link.place share lt same k ne ∙ h.untouched k q (omega (arith, tied.earlier)) e;
+          let ne : k ≢ link.place = λ is. trail.apart q link.parent below (omega (arith, tied.earlier, h.within)) (sym e ∙ ap (given old) is ∙ tied.giver) in
+          given_there now link.place share lt same k ne ∙ h.untouched k q (omega (arith, tied.earlier)) e;
       moved = λ r. omega (arith, held_after now link.place share lt same r, h.moved r, ap {B = ℕ} (λ x. cond (x == r) 1 0) before, ap {B = ℕ} (λ x. cond (x == r) 1 0) relay);
-      kept = λ o. offered_kept now link.place share lt same (ap (λ rs. is_among rs share.relay) (h.alike link.place) ∙ ap (is_among (offered old link.place)) relay ∙ tied.taker) (subst (λ r. r < RELAYS) (sym relay) (trail.small at h.within)) (h.kept o)
+      kept = λ o. offered_kept now link.place share lt same (ap (λ rs. is_among rs share.relay) (h.alike link.place) ∙ ap (is_among (offered old link.place)) relay ∙ tied.taker) (subst (λ r. r < RELAYS) (sym relay) (trail.small at h.within)) (h.kept o);
     }

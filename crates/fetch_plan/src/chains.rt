@@ -112,10 +112,7 @@ fn first_steps(
         let slot = usize::from(relay);
         if loads[slot] == most {
             marked[slot] = true;
-            steps.push(Step {
-                relay,
-                from: None,
-            })?;
+            steps.push(Step { relay, from: None })?;
         }
     }
     Ok(steps)

@@ -13,10 +13,9 @@ mod outcome;
 mod start;
 
 pub use cell::Cell;
-pub use outcome::Plan;
-
 use chains::{greatest, settle};
 use offer_table::{OfferTable, RelaySet};
+pub use outcome::Plan;
 use sharing::{RELAYS, SLOTS};
 use start::share_out;
 use std::alloc::{AllocError, Global};
@@ -61,3 +60,6 @@ pub fn plan(alloc: Global, table: &OfferTable) -> Result<Plan, AllocError>
         group,
     })
 }
+
+#[cfg(test)]
+mod tests;

@@ -46,7 +46,9 @@ fn least_loaded(relays: RelaySet, loads: &[u64; SLOTS]) -> u16
 {
     let mut best = RELAYS;
     for relay in 0..RELAYS {
-        if relays.has(relay) && (best == RELAYS || loads[usize::from(relay)] < loads[usize::from(best)]) {
+        if relays.has(relay)
+            && (best == RELAYS || loads[usize::from(relay)] < loads[usize::from(best)])
+        {
             best = relay;
         }
     }

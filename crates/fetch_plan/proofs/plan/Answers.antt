@@ -16,7 +16,7 @@ use Rattle.fetch_plan.proofs.plan.Goals as goal
 no_load : (n r : ℕ) → get_or (replicate {A = ℕ} n 0) r 0 ≡ 0
 no_load n r =
     elim (cases_lt r n) [
-      inl lt ↦ get_or-replicate {A = ℕ} n r 0 0 lt
+      | inl lt ↦ get_or-replicate {A = ℕ} n r 0 0 lt
       | inr ge ↦ get_or_past (replicate {A = ℕ} n 0) r 0 (omega (arith, length-replicate {A = ℕ} n 0))
     ]
 

@@ -20,21 +20,21 @@ loop-relay-preserved c =
     let inv = c.loop-relay.invariant in
     let relay = c.loop-relay.relay in
     elim c.if-marked-from.branch [
-      then-marked-from w ↦ rw w.relays-is (record {
+      | then-marked-from w ↦ rw w.relays-is (record {
         member = λ r lt. w.with-relays.ensures.member r ∙ elim (cases_eq r relay) [
-          inl e ↦ or_left (r == relay) (is_among c.loop-relay.relays r) (eq-eqb r relay e) ∙ sym (ap (λ k. get_or c.args.marked.now k false) (e ∙ sym c.from.ensures) ∙ w.if-marked-from.true)
+          | inl e ↦ or_left (r == relay) (is_among c.loop-relay.relays r) (eq-eqb r relay e) ∙ sym (ap (λ k. get_or c.args.marked.now k false) (e ∙ sym c.from.ensures) ∙ w.if-marked-from.true)
           | inr ne ↦ ap (λ b. b || is_among c.loop-relay.relays r) (ne_eqb r relay ne) ∙ inv.member r (omega arith)
         ];
         later = λ r le. w.with-relays.ensures.member r ∙ or_from (r == relay) (is_among c.loop-relay.relays r) (ne_eqb r relay (λ e. absurd (omega arith))) (inv.later r (omega arith));
-        relays = w.with-relays.ensures.relays
+        relays = w.with-relays.ensures.relays;
       })
       | else-marked-from w ↦ rw w.relays-is (record {
         member = λ r lt. elim (cases_eq r relay) [
-          inl e ↦ inv.later r (omega arith) ∙ sym (ap (λ k. get_or c.args.marked.now k false) (e ∙ sym c.from.ensures) ∙ w.if-marked-from.false)
+          | inl e ↦ inv.later r (omega arith) ∙ sym (ap (λ k. get_or c.args.marked.now k false) (e ∙ sym c.from.ensures) ∙ w.if-marked-from.false)
           | inr ne ↦ inv.member r (omega arith)
         ];
         later = λ r le. inv.later r (omega arith);
-        relays = inv.relays
+        relays = inv.relays;
       })
     ]
 
@@ -42,7 +42,7 @@ pub returns-clause-member : goal.returns-clause-member
 returns-clause-member c r =
     let inv = c.loop-relay.invariant in
     elim (cases_lt r RELAYS) [
-      inl lt ↦ inv.member r (omega arith)
+      | inl lt ↦ inv.member r (omega arith)
       | inr ge ↦ inv.later r (omega arith) ∙ sym (past c.args.marked.now r (omega arith))
     ]
 
@@ -54,5 +54,5 @@ pub loop-relay-init : goal.loop-relay-init
 loop-relay-init c = rw c.empty-relays.ensures (record {
   member = λ r lt. absurd (omega arith);
   later = λ r le. refl;
-  relays = record { ascend = none_sorted; small = All-nil (λ r. r < RELAYS) }
+  relays = record { ascend = none_sorted; small = All-nil (λ r. r < RELAYS) };
 })

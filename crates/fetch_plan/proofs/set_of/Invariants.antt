@@ -8,5 +8,5 @@ abbrev pub invariant-loop-relay : goal.invariant-loop-relay
 invariant-loop-relay l = record {
   member : (r : ℕ) → r < l.relay → is_among l.relays r ≡ is_marked l.marked r;
   later : (r : ℕ) → l.relay ≤ r → is_among l.relays r ≡ false;
-  relays : AreRelays l.relays
+  relays : AreRelays l.relays;
 }

@@ -26,9 +26,9 @@ loop-place-preserved c =
     let a = read_given c.args.shares.now c.loop-place.place c.index-shares-place.result c.loop-place-test.true in
     let b = read_relay c.args.steps.now.items c.args.next c.index.result.now c.requires.next c.index.ensures in
     elim c.if-share-relay.branch [
-      then-share-relay+in_ok-add_steps w ↦
-        (let said = w.in_ok-add_steps.ensures in
-         rw (w.steps-is, w.marked-is) (from_step _ _ _ _ _ _ _ _ c.loop-place.place c.loop-place.invariant said.trail said.marks said.extends said.stay said.reached))
+      | then-share-relay+in_ok-add_steps w ↦
+          (let said = w.in_ok-add_steps.ensures in
+          rw (w.steps-is, w.marked-is) (from_step _ _ _ _ _ _ _ _ c.loop-place.place c.loop-place.invariant said.trail said.marks said.extends said.stay said.reached))
       | else-share-relay w ↦
-        rw (w.steps-is, w.marked-is) (from_pass _ _ _ _ _ _ c.loop-place.place c.loop-place.invariant (λ e. w.if-share-relay.false (cc)))
+          rw (w.steps-is, w.marked-is) (from_pass _ _ _ _ _ _ c.loop-place.place c.loop-place.invariant (λ e. w.if-share-relay.false (cc)))
     ]

@@ -23,11 +23,11 @@ loop-relay-preserved c =
     let lt : relay < RELAYS = c.loop-relay-test.true in
     let wide = inv.marks.wide in
     elim c.if-has.branch [
-      then-has+then-not-marked-slot+in_ok-push w ↦
-        (let new : is_marked c.loop-relay.marked relay ≡ false = is_marked_is c.loop-relay.marked relay _ false (omega (arith, wide)) (sym (cc)) in
-         adding_step shares link _ _ _ _ _ _ relay c.requires.placed c.requires.parent c.requires.giver inv lt (sym value ∙ w.if-has.true) new (cc w.in_ok-push.ensures.items) (cc) small)
+      | then-has+then-not-marked-slot+in_ok-push w ↦
+          (let new : is_marked c.loop-relay.marked relay ≡ false = is_marked_is c.loop-relay.marked relay _ false (omega (arith, wide)) (sym (cc)) in
+          adding_step shares link _ _ _ _ _ _ relay c.requires.placed c.requires.parent c.requires.giver inv lt (sym value ∙ w.if-has.true) new (cc w.in_ok-push.ensures.items) (cc) small)
       | else-has w ↦ elim w.else-has.branch [
-        else-has-via-then-has+else-not-marked-slot w' ↦ adding_pass _ _ _ _ _ _ _ _ relay inv (cc) w.marked-is (λ _. is_marked_is c.loop-relay.marked relay _ false (omega (arith, wide)) (sym (cc))) small
+        | else-has-via-then-has+else-not-marked-slot w' ↦ adding_pass _ _ _ _ _ _ _ _ relay inv (cc) w.marked-is (λ _. is_marked_is c.loop-relay.marked relay _ false (omega (arith, wide)) (sym (cc))) small
         | else-has-via-else-has w' ↦ adding_pass _ _ _ _ _ _ _ _ relay inv (cc) w.marked-is (λ h. absurd (false≢true (sym w'.if-has.false ∙ value ∙ h))) small
       ]
     ]

@@ -13,10 +13,10 @@ loop-relay-preserved c =
     let relay = c.loop-relay.relay in
     let lt : relay < RELAYS = c.loop-relay-test.true in
     elim c.if-loads-slot.branch [
-      then-loads-slot+in_ok-push w ↦
-        (let here : get_or c.args.loads.now relay 0 ≡ c.args.most = sym (ap (λ r. get_or c.args.loads.now r 0) c.from-slot.ensures) ∙ w.if-loads-slot.true in
-         rw (w.steps-is, w.marked-is) (rw (w.in_ok-push.ensures.items, c.from-slot.ensures) (starting_step _ _ _ _ relay c.loop-relay.invariant lt here)))
+      | then-loads-slot+in_ok-push w ↦
+          (let here : get_or c.args.loads.now relay 0 ≡ c.args.most = sym (ap (λ r. get_or c.args.loads.now r 0) c.from-slot.ensures) ∙ w.if-loads-slot.true in
+          rw (w.steps-is, w.marked-is) (rw (w.in_ok-push.ensures.items, c.from-slot.ensures) (starting_step _ _ _ _ relay c.loop-relay.invariant lt here)))
       | else-loads-slot w ↦
-        (let ne : get_or c.args.loads.now relay 0 ≢ c.args.most = λ e. w.if-loads-slot.false (ap (λ r. get_or c.args.loads.now r 0) c.from-slot.ensures ∙ e) in
-         rw (w.steps-is, w.marked-is) (starting_pass _ _ _ _ relay c.loop-relay.invariant ne))
+          (let ne : get_or c.args.loads.now relay 0 ≢ c.args.most = λ e. w.if-loads-slot.false (ap (λ r. get_or c.args.loads.now r 0) c.from-slot.ensures ∙ e) in
+          rw (w.steps-is, w.marked-is) (starting_pass _ _ _ _ relay c.loop-relay.invariant ne))
     ]

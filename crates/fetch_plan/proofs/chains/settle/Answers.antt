@@ -9,7 +9,7 @@ unmarked : (n r : ℕ) → is_marked (replicate n false) r ≡ false
 unfolding is_marked
 unmarked n r =
     elim (cases_lt r n) [
-      inl lt ↦ get_or-replicate n r false false lt
+      | inl lt ↦ get_or-replicate n r false false lt
       | inr ge ↦ get_or_past (replicate n false) r false (omega (arith, length-replicate n false))
     ]
 

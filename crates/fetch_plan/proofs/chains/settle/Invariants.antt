@@ -6,7 +6,7 @@ abbrev pub invariant-chains : goal.invariant-chains
 invariant-chains l = record {
   loads : AreLoads l.shares l.loads;
   offered : AreOffered l.shares;
-  offers : offers_of l.shares ≡ offers_of l.initial.shares
+  offers : offers_of l.shares ≡ offers_of l.initial.shares;
 }
 
 abbrev pub decreases-chains : goal.decreases-chains

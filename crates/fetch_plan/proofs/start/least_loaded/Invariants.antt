@@ -7,5 +7,5 @@ abbrev pub invariant-loop-relay : goal.invariant-loop-relay
 invariant-loop-relay l = record {
   best : (l.best < RELAYS) ⊎ (l.best ≡ RELAYS);
   member : l.best < RELAYS → is_among l.relays l.best ≡ true;
-  none : l.best ≡ RELAYS → (r : ℕ) → r < l.relay → is_among l.relays r ≡ false
+  none : l.best ≡ RELAYS → (r : ℕ) → r < l.relay → is_among l.relays r ≡ false;
 }

@@ -25,8 +25,8 @@ loop-id-preserved c =
       loads = loads_push c.loop-id.shares.items c.loop-id.loads s (omega arith) said.small inv.loads;
       offered = offered_push c.loop-id.shares.items s said.member said.small inv.offered;
       offers = offers_more c.args.table.now.offers c.loop-id.shares.items s (map deref c.loop-id.yielded) c.offers-relays.ensures.value inv.offers
-        ∙ ap (looked_of c.args.table.now.offers) (sym (map-append deref c.loop-id.yielded (c.in-Some.id ∷ [])));
-      long = length_push c.loop-id.shares.items s ∙ ap (λ n. n + 1) inv.long ∙ sym (length_push c.loop-id.yielded c.in-Some.id)
+          ∙ ap (looked_of c.args.table.now.offers) (sym (map-append deref c.loop-id.yielded (c.in-Some.id ∷ [])));
+      long = length_push c.loop-id.shares.items s ∙ ap (λ n. n + 1) inv.long ∙ sym (length_push c.loop-id.yielded c.in-Some.id);
     })
 
 pub least_loaded-relay-requires-clause-some : goal.least_loaded-relay-requires-clause-some

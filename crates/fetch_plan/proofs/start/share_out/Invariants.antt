@@ -9,5 +9,5 @@ invariant-loop-id l = record {
   loads : AreLoads l.shares.items l.loads;
   offered : AreOffered l.shares.items;
   offers : offers_of l.shares.items ≡ looked_of l.table.offers (map deref l.yielded);
-  long : length l.shares.items ≡ length l.yielded
+  long : length l.shares.items ≡ length l.yielded;
 }

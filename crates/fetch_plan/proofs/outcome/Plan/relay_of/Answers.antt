@@ -22,7 +22,7 @@ loop-low-preserved-in-Less c =
     let to : middle < c.loop-low.high = omega (arith, c.loop-low-test.true) in
     let lt : middle < length shares = omega (arith, c.loop-low.invariant.within, length-map {A = Share} {B = Id × ℕ}) in
     go_down (gives_of shares) c.args.id.now c.loop-low.low c.loop-low.high middle c.loop-low.invariant c.self.invariant.0.ascend (omega arith) to
-      (ap (id_cmp c.args.id.now) (id_at_share shares middle c.index.result.now c.index.result.now lt c.index.ensures) ∙ sym c.cmp.ensures ∙ c.in-Less.is)
+    (ap (id_cmp c.args.id.now) (id_at_share shares middle c.index.result.now c.index.result.now lt c.index.ensures) ∙ sym c.cmp.ensures ∙ c.in-Less.is)
 
 pub loop-low-preserved : goal.loop-low-preserved
 loop-low-preserved c =
@@ -31,7 +31,7 @@ loop-low-preserved c =
     let to : middle < c.loop-low.high = omega (arith, c.loop-low-test.true) in
     let lt : middle < length shares = omega (arith, c.loop-low.invariant.within, length-map {A = Share} {B = Id × ℕ}) in
     go_up (gives_of shares) c.args.id.now c.loop-low.low c.loop-low.high middle c.loop-low.invariant c.self.invariant.0.ascend (omega arith) to
-      (ap (id_cmp c.args.id.now) (id_at_share shares middle c.index.result.now c.index.result.now lt c.index.ensures) ∙ sym c.cmp.ensures ∙ c.in-Greater.is)
+    (ap (id_cmp c.args.id.now) (id_at_share shares middle c.index.result.now c.index.result.now lt c.index.ensures) ∙ sym c.cmp.ensures ∙ c.in-Greater.is)
 
 pub returns-in-Equal : goal.returns-in-Equal
 returns-in-Equal c =
