@@ -27,10 +27,10 @@ module _ {X : Type 0} where
   first_at_from p m n [] = refl
   first_at_from p m n (x ∷ xs) =
       elim (cases_Bool (p x)) [
-        inl t ↦ ap (λ b. cond b (Some (m + n)) (first_at p (m + n + 1) xs)) t ∙ sym (ap (λ b. option_map (λ k. m + k) (cond b (Some n) (first_at p (n + 1) xs))) t)
+        | inl t ↦ ap (λ b. cond b (Some (m + n)) (first_at p (m + n + 1) xs)) t ∙ sym (ap (λ b. option_map (λ k. m + k) (cond b (Some n) (first_at p (n + 1) xs))) t)
         | inr f ↦
-          ap (λ b. cond b (Some (m + n)) (first_at p (m + n + 1) xs)) f ∙ ap (λ k. first_at p k xs) (add_assoc m n 1) ∙ first_at_from p m (n + 1) xs
-          ∙ sym (ap (λ b. option_map (λ k. m + k) (cond b (Some n) (first_at p (n + 1) xs))) f)
+            ap (λ b. cond b (Some (m + n)) (first_at p (m + n + 1) xs)) f ∙ ap (λ k. first_at p k xs) (add_assoc m n 1) ∙ first_at_from p m (n + 1) xs
+            ∙ sym (ap (λ b. option_map (λ k. m + k) (cond b (Some n) (first_at p (n + 1) xs))) f)
       ]
 
   pub first_at_map : {Y : Type 0} (p : X → Bool) (f : Y → X) (n : ℕ) (ys : List Y) → first_at p n (map f ys) ≡ first_at (λ y. p (f y)) n ys
@@ -41,9 +41,9 @@ module _ {X : Type 0} where
   first_out_from id fine before m n [] = refl
   first_out_from id fine before m n (x ∷ xs) =
       elim (cases_Bool (is_behind id_cmp before (id x) && fine x)) [
-        inl t ↦
-          ap (λ b. cond b (first_out id fine (Some (id x)) (m + n + 1) xs) (Some (m + n))) t ∙ ap (λ k. first_out id fine (Some (id x)) k xs) (add_assoc m n 1) ∙ first_out_from id fine (Some (id x)) m (n + 1) xs
-          ∙ sym (ap (λ b. option_map (λ k. m + k) (cond b (first_out id fine (Some (id x)) (n + 1) xs) (Some n))) t)
+        | inl t ↦
+            ap (λ b. cond b (first_out id fine (Some (id x)) (m + n + 1) xs) (Some (m + n))) t ∙ ap (λ k. first_out id fine (Some (id x)) k xs) (add_assoc m n 1) ∙ first_out_from id fine (Some (id x)) m (n + 1) xs
+            ∙ sym (ap (λ b. option_map (λ k. m + k) (cond b (first_out id fine (Some (id x)) (n + 1) xs) (Some n))) t)
         | inr f ↦ ap (λ b. cond b (first_out id fine (Some (id x)) (m + n + 1) xs) (Some (m + n))) f ∙ sym (ap (λ b. option_map (λ k. m + k) (cond b (first_out id fine (Some (id x)) (n + 1) xs) (Some n))) f)
       ]
 
@@ -55,7 +55,7 @@ module _ {X : Type 0} where
   none_pass p n [] h = All-nil (λ x. p x ≡ false)
   none_pass p n (x ∷ xs) h =
       elim (cases_Bool (p x)) [
-        inl t ↦ absurd (let e : Some n ≡ None = sym (ap (λ b. cond b (Some n) (first_at p (n + 1) xs)) t) ∙ h in cc)
+        | inl t ↦ absurd (let e : Some n ≡ None = sym (ap (λ b. cond b (Some n) (first_at p (n + 1) xs)) t) ∙ h in cc)
         | inr f ↦ All-cons (λ x. p x ≡ false) x xs f (none_pass p (n + 1) xs (sym (ap (λ b. cond b (Some n) (first_at p (n + 1) xs)) f) ∙ h))
       ]
 
@@ -95,10 +95,10 @@ module _ {X : Type 0} (id : X → Id) (fine : X → Bool) where
   none_out before n [] h = (behind_none id_total before, All-nil (λ x. fine x ≡ true))
   none_out before n (x ∷ xs) h =
       elim (cases_Bool (is_behind id_cmp before (id x) && fine x)) [
-        inl t ↦
-          (let parts : (is_behind id_cmp before (id x) ≡ true) × (fine x ≡ true) = and_parts (is_behind id_cmp before (id x)) (fine x) t in
-           let rest : Behind id_cmp (Some (id x)) (map id xs) × All (λ x. fine x ≡ true) xs = none_out (Some (id x)) (n + 1) xs (sym (ap (λ b. cond b (first_out id fine (Some (id x)) (n + 1) xs) (Some n)) t) ∙ h) in
-           (behind_cons id_total before (id x) (map id xs) parts.0 rest.0, All-cons (λ x. fine x ≡ true) x xs parts.1 rest.1))
+        | inl t ↦
+            (let parts : (is_behind id_cmp before (id x) ≡ true) × (fine x ≡ true) = and_parts (is_behind id_cmp before (id x)) (fine x) t in
+            let rest : Behind id_cmp (Some (id x)) (map id xs) × All (λ x. fine x ≡ true) xs = none_out (Some (id x)) (n + 1) xs (sym (ap (λ b. cond b (first_out id fine (Some (id x)) (n + 1) xs) (Some n)) t) ∙ h) in
+            (behind_cons id_total before (id x) (map id xs) parts.0 rest.0, All-cons (λ x. fine x ≡ true) x xs parts.1 rest.1))
         | inr f ↦ absurd (let e : Some n ≡ None = sym (ap (λ b. cond b (first_out id fine (Some (id x)) (n + 1) xs) (Some n)) f) ∙ h in cc)
       ]
 
@@ -134,13 +134,13 @@ file_ok file m s =
       offers_ok = record {
         ascend = order.0;
         relays = λ k d lt.
-          (let parts = or_parts _ _ (fine k d lt) in
-           record { ascend = rising None _ (order.1 k d lt); small = small_relays _ (not-false _ parts.1) });
-        some = λ k d lt. (let parts = or_parts _ _ (fine k d lt) in some_relay _ parts.0)
+            (let parts = or_parts _ _ (fine k d lt) in
+            record { ascend = rising None _ (order.1 k d lt); small = small_relays _ (not-false _ parts.1) });
+        some = λ k d lt. (let parts = or_parts _ _ (fine k d lt) in some_relay _ parts.0);
       };
       ascend = gives.0;
       relays = All-weaker (λ (g : Id × ℕ). not (nat_lt g.1 RELAYS) ≡ false) (λ g. g.1 < RELAYS) (λ g h. ltb-true g.1 RELAYS (not-false (nat_lt g.1 RELAYS) h)) file.gives small;
-      group_ok = record { ascend = rising None file.group (if_none (rises file.group) _ s2.1); small = small_relays file.group (if_none (are_relays file.group) _ m2.1) }
+      group_ok = record { ascend = rising None file.group (if_none (rises file.group) _ s2.1); small = small_relays file.group (if_none (are_relays file.group) _ m2.1) };
     }
 
 zero_last : (n : ℕ) → n ≡ n + 0
@@ -158,14 +158,14 @@ module _ {V : Type 0} (items : V → List ℕ) (offers : List (Id × V)) (gives 
       or_else a (or_else (option_map (λ k. length offers + k) b) (cond t None (Some (length offers + length gives)))) ≡ malformed_at made
   malformed_is a b t ea eb et =
       sym (ap (λ n. or_else (first_at (λ o. is_empty o.1 || not (are_relays o.1)) 0 made.offers) (or_else (first_at (λ g. not (nat_lt g.1 RELAYS)) n gives) (cond (are_relays group) None (Some (n + length gives))))) place_len
-        ∙ ap (λ x. or_else x (or_else (first_at (λ g. not (nat_lt g.1 RELAYS)) (length offers) gives) (cond (are_relays group) None (Some (length offers + length gives))))) (first_at_map (λ o. is_empty o.1 || not (are_relays o.1)) (λ (o : Id × V). (o.0, items o.1)) 0 offers ∙ sym ea)
-        ∙ ap (λ y. or_else a (or_else y (cond (are_relays group) None (Some (length offers + length gives))))) (ap (λ n. first_at (λ g. not (nat_lt g.1 RELAYS)) n gives) (zero_last (length offers)) ∙ first_at_from (λ g. not (nat_lt g.1 RELAYS)) (length offers) 0 gives ∙ ap (option_map (λ k. length offers + k)) (sym eb))
-        ∙ ap (λ z. or_else a (or_else (option_map (λ k. length offers + k) b) (cond z None (Some (length offers + length gives))))) (sym et))
+      ∙ ap (λ x. or_else x (or_else (first_at (λ g. not (nat_lt g.1 RELAYS)) (length offers) gives) (cond (are_relays group) None (Some (length offers + length gives))))) (first_at_map (λ o. is_empty o.1 || not (are_relays o.1)) (λ (o : Id × V). (o.0, items o.1)) 0 offers ∙ sym ea)
+      ∙ ap (λ y. or_else a (or_else y (cond (are_relays group) None (Some (length offers + length gives))))) (ap (λ n. first_at (λ g. not (nat_lt g.1 RELAYS)) n gives) (zero_last (length offers)) ∙ first_at_from (λ g. not (nat_lt g.1 RELAYS)) (length offers) 0 gives ∙ ap (option_map (λ k. length offers + k)) (sym eb))
+      ∙ ap (λ z. or_else a (or_else (option_map (λ k. length offers + k) b) (cond z None (Some (length offers + length gives))))) (sym et))
 
   pub misplaced_is : (a b : Option ℕ) (t : Bool) → a ≡ first_out (λ o. o.0) (λ o. rises (items o.1)) None 0 offers → b ≡ first_out (λ g. g.0) (λ _. true) None 0 gives → t ≡ rises group →
       or_else a (or_else (option_map (λ k. length offers + k) b) (cond t None (Some (length offers + length gives)))) ≡ misplaced_at made
   misplaced_is a b t ea eb et =
       sym (ap (λ n. or_else (first_out (λ o. o.0) (λ o. rises o.1) None 0 made.offers) (or_else (first_out (λ g. g.0) (λ _. true) None n gives) (cond (rises group) None (Some (n + length gives))))) place_len
-        ∙ ap (λ x. or_else x (or_else (first_out (λ g. g.0) (λ _. true) None (length offers) gives) (cond (rises group) None (Some (length offers + length gives))))) (first_out_map (λ o. o.0) (λ o. rises o.1) (λ (o : Id × V). (o.0, items o.1)) None 0 offers ∙ sym ea)
-        ∙ ap (λ y. or_else a (or_else y (cond (rises group) None (Some (length offers + length gives))))) (ap (λ n. first_out (λ g. g.0) (λ _. true) None n gives) (zero_last (length offers)) ∙ first_out_from (λ g. g.0) (λ _. true) None (length offers) 0 gives ∙ ap (option_map (λ k. length offers + k)) (sym eb))
-        ∙ ap (λ z. or_else a (or_else (option_map (λ k. length offers + k) b) (cond z None (Some (length offers + length gives))))) (sym et))
+      ∙ ap (λ x. or_else x (or_else (first_out (λ g. g.0) (λ _. true) None (length offers) gives) (cond (rises group) None (Some (length offers + length gives))))) (first_out_map (λ o. o.0) (λ o. rises o.1) (λ (o : Id × V). (o.0, items o.1)) None 0 offers ∙ sym ea)
+      ∙ ap (λ y. or_else a (or_else y (cond (rises group) None (Some (length offers + length gives))))) (ap (λ n. first_out (λ g. g.0) (λ _. true) None n gives) (zero_last (length offers)) ∙ first_out_from (λ g. g.0) (λ _. true) None (length offers) 0 gives ∙ ap (option_map (λ k. length offers + k)) (sym eb))
+      ∙ ap (λ z. or_else a (or_else (option_map (λ k. length offers + k) b) (cond z None (Some (length offers + length gives))))) (sym et))

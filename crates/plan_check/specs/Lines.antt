@@ -49,15 +49,15 @@ is_empty (r ∷ rs) = false
 abbrev pub malformed_at : File → Option ℕ
 malformed_at file =
     or_else (first_at (λ o. is_empty o.1 || not (are_relays o.1)) 0 file.offers)
-      (or_else (first_at (λ g. not (nat_lt g.1 RELAYS)) (length file.offers) file.gives)
-        (if are_relays file.group then None else Some (length file.offers + length file.gives)))
+    (or_else (first_at (λ g. not (nat_lt g.1 RELAYS)) (length file.offers) file.gives)
+    (if are_relays file.group then None else Some (length file.offers + length file.gives)))
 
 -- a line out of order
 abbrev pub misplaced_at : File → Option ℕ
 misplaced_at file =
     or_else (first_out (λ o. o.0) (λ o. rises o.1) None 0 file.offers)
-      (or_else (first_out (λ g. g.0) (λ _. true) None (length file.offers) file.gives)
-        (if rises file.group then None else Some (length file.offers + length file.gives)))
+    (or_else (first_out (λ g. g.0) (λ _. true) None (length file.offers) file.gives)
+    (if rises file.group then None else Some (length file.offers + length file.gives)))
 
 -- The header is line 1. No number is above 2^64-1.
 abbrev pub number_of : ℕ → ℕ

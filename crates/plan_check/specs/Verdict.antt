@@ -1,11 +1,11 @@
 -- When a plan file's gives are a sharing that its group shows to be least, and why not.
-use Rattle.std.specs.Prelude.{◌≡◌, ℕ, ◌&&◌, ◌==◌, not, Bool, List, map, Option, Some, None, is_some, count_by, if◌then◌else◌}
+use Rattle.std.specs.Prelude.{◌≡◌, ℕ, ◌&&◌, ◌==◌, not, Bool, List, map, Option, Some, None, Result, Ok, Err, is_some, count_by, if◌then◌else◌}
 use Rattle.std.specs.List.{list_any}
 use Rattle.neg_codec.specs.declared.Id.{Id}
 use Rattle.sharing.specs.Sharing.{is_among, load, IsSharing, IsGreatest, Shows}
 use Rattle.sharing.specs.Offers.{beside, relays_of, relay_in}
 use Rattle.plan_check.specs.declared.faults.PlanFault.{PlanFault}
-use Rattle.plan_check.specs.declared.faults.PlanFault.TheVariants.{NotOffered, Missing, Stranger}
+use Rattle.plan_check.specs.declared.faults.PlanFault.TheVariants.{NotOffered, Missing, Stranger, GroupTooSmall}
 use Rattle.plan_check.specs.File.{File}
 
 -- some offered id is given to a relay that does not offer it
@@ -36,3 +36,12 @@ pub record IsSharedOut (file : File) (most : ℕ) : Type 0 where
   pub ids : map (λ g. g.0) file.gives ≡ map (λ o. o.0) file.offers
   pub sharing : IsSharing (relay_in file.gives) file.offers
   pub greatest : IsGreatest (load (relay_in file.gives) file.offers) most
+
+-- What the checker answers: the first fault of the gives; where there is none, the busiest load if the group shows it.
+abbrev pub JudgesBy : Option PlanFault → File → Result ℕ PlanFault → Type 0
+JudgesBy (Some f) file result = result ≡ Err f
+JudgesBy None file (Ok most) = IsSharedOut file most × Shows file.group file.offers most
+JudgesBy None file (Err f) = (f ≡ GroupTooSmall) × ((most : ℕ) → IsSharedOut file most → Shows file.group file.offers most → ⊥)
+
+abbrev pub Judges : File → Result ℕ PlanFault → Type 0
+Judges file result = JudgesBy (gives_fault file) file result

@@ -5,7 +5,9 @@ ghost use Rattle.plan_check.specs.File.{File, IsFile};
 ghost use Rattle.plan_check.specs.Lines.{file_fault, malformed_at, misplaced_at};
 
 use crate::PlanFault;
-use crate::order::{are_all_relays, do_rise, malformed_give, malformed_offer, misplaced_give, misplaced_offer};
+use crate::order::{
+    are_all_relays, do_rise, malformed_give, malformed_offer, misplaced_give, misplaced_offer,
+};
 use neg_codec::Id;
 use std::marker::Model;
 
@@ -78,7 +80,11 @@ impl PlanFile {
 }
 
 /// The place of the first line that is not of the form.
-fn malformed(offers: &Vec<(Id, Vec<u16>)>, gives: &Vec<(Id, u16)>, group: &Vec<u16>) -> Option<usize>
+fn malformed(
+    offers: &Vec<(Id, Vec<u16>)>,
+    gives: &Vec<(Id, u16)>,
+    group: &Vec<u16>,
+) -> Option<usize>
     ensures { result ≡ malformed_at (record { offers = map (λ o. (o.0, o.1.items)) offers.now.items; gives = gives.now.items; group = group.now.items }) }
 {
     if let Some(place) = malformed_offer(offers) {
@@ -95,7 +101,11 @@ fn malformed(offers: &Vec<(Id, Vec<u16>)>, gives: &Vec<(Id, u16)>, group: &Vec<u
 }
 
 /// The place of the first line that is out of order.
-fn misplaced(offers: &Vec<(Id, Vec<u16>)>, gives: &Vec<(Id, u16)>, group: &Vec<u16>) -> Option<usize>
+fn misplaced(
+    offers: &Vec<(Id, Vec<u16>)>,
+    gives: &Vec<(Id, u16)>,
+    group: &Vec<u16>,
+) -> Option<usize>
     ensures { result ≡ misplaced_at (record { offers = map (λ o. (o.0, o.1.items)) offers.now.items; gives = gives.now.items; group = group.now.items }) }
 {
     if let Some(place) = misplaced_offer(offers) {

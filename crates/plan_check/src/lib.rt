@@ -4,6 +4,11 @@
 mod faults;
 mod file;
 mod order;
+mod verdict;
 
 pub use faults::PlanFault;
 pub use file::PlanFile;
+pub use verdict::check;
+
+#[cfg(test)]
+mod tests;

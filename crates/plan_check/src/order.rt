@@ -21,7 +21,9 @@ pub(crate) fn do_rise(relays: &[u16]) -> bool
 {
     let mut before = None;
     for relay in relays {
-        if let Some(other) = before && *relay <= other {
+        if let Some(other) = before
+            && *relay <= other
+        {
             return false;
         }
         before = Some(*relay);
