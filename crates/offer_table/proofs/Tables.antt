@@ -16,7 +16,7 @@ use Rattle.neg_codec.specs.declared.Id.{Id}
 use Rattle.sharing.specs.Sharing.{is_among}
 use Rattle.sharing.specs.Offers.{id_cmp, is_id, Ascend, AreRelays, beside, relays_of}
 use Rattle.sharing.proofs.Orders.{id_total, same_id, id_itself, id_apart, id_flips, head_sorted, tail_sorted, among_head, All-unmap, same_sorted}
-use Rattle.offer_table.specs.Table.{new_in}
+use Rattle.offer_table.specs.Table.{new_in, Table, IsTable}
 
 or_false : (b : Bool) → (b || false) ≡ b
 or_false true = refl
@@ -269,3 +269,14 @@ pub each_with_more : (relays : List ℕ) (ids : List Id) (k : Id) (us : List Id)
 each_with_more relays ids k us ordered =
     insert_last (each_with relays ids) k relays (subst (All (λ i. id_cmp i k ≡ Less)) (sym (ids-each_with relays ids)) (before_all ids k us ordered))
     ∙ sym (map-append (λ i. (i, relays)) ids (k ∷ []))
+
+none_sorted : {K : Type 0} (c : K → K → Ordering) → IsStrictlySortedBy c []
+unfolding IsStrictlySortedBy
+none_sorted c = tt
+
+-- no offers
+pub none_ok : (reported : List ℕ) → IsTable (record { reported = reported; offers = [] })
+none_ok reported = record {
+  offers_ok = record { ascend = none_sorted id_cmp; relays = All-nil (λ (p : Id × List ℕ). AreRelays p.1); some = All-nil (λ (p : Id × List ℕ). 0 < length p.1) };
+  few = omega arith
+}

@@ -73,6 +73,18 @@ fn count_new(mine: &BTreeMap<Id, RelaySet>, theirs: &BTreeMap<Id, RelaySet>) -> 
 }
 
 impl OfferTable {
+    /// The table to which no relay has reported.
+    pub fn empty(alloc: Global) -> OfferTable
+        ensures none { result ≡ record { reported = []; offers = [] } }
+        ensures table { IsTable result }
+    {
+        OfferTable {
+            reported: RelaySet::empty(),
+            offers: BTreeMap::new(alloc),
+            alloc,
+        }
+    }
+
     /// The table of one relay's report: it offers each of these ids.
     pub fn of_report(
         alloc: Global,
