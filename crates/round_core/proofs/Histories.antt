@@ -35,7 +35,7 @@ or_false true = refl
 or_false false = refl
 
 -- a test of some event, with one more event
-any_push : (p : RoundEvent × Answer → Bool) (h : History) (x : RoundEvent × Answer) → list_any p (h ++ x ∷ []) ≡ (list_any p h || p x)
+pub any_push : (p : RoundEvent × Answer → Bool) (h : History) (x : RoundEvent × Answer) → list_any p (h ++ x ∷ []) ≡ (list_any p h || p x)
 any_push p h x = list_any-append p h (x ∷ []) ∙ ap (λ b. list_any p h || b) (or_false (p x))
 
 pub sealed_push : (h : History) (e : RoundEvent) (a : Answer) → is_sealed (h ++ (e, a) ∷ []) ≡ (is_sealed h || seals a)
@@ -70,7 +70,7 @@ within sealed lanes gives w i none =
       | inr ge ↦ (let r : (r : Refusal) × (barred sealed lanes gives w i ≡ Some r) = barred_past sealed lanes gives w i ge in absurd (let e : None ≡ Some r.0 = sym none ∙ r.1 in cc))
     ]
 
-not_refused : (o : Option Refusal) (b a : Answer) → a ≡ or_refused o b → ((r : Refusal) → a ≢ Refused r) → o ≡ None
+pub not_refused : (o : Option Refusal) (b a : Answer) → a ≡ or_refused o b → ((r : Refusal) → a ≢ Refused r) → o ≡ None
 not_refused None b a e never = refl
 not_refused (Some r) b a e never = absurd (never r e)
 

@@ -15,19 +15,19 @@ use Rattle.round_core.specs.History.{History, holds_after, holds, cell_then, cel
 use Rattle.round_core.specs.Legal.{barred, claim_answer, is_held_by, or_refused, Right, legal_after, Legal}
 use Rattle.round_core.proofs.Histories.{cell_push, holds_push}
 
-held_if : (o : Option Refusal) (b : Bool) (x a : Answer) → a ≡ or_refused o (cond b x (Refused why.NotHeld)) → ((r : Refusal) → a ≢ Refused r) → b ≡ true
+pub held_if : (o : Option Refusal) (b : Bool) (x a : Answer) → a ≡ or_refused o (cond b x (Refused why.NotHeld)) → ((r : Refusal) → a ≢ Refused r) → b ≡ true
 held_if None true x a e never = refl
 held_if None false x a e never = absurd (never why.NotHeld e)
 held_if (Some r) b x a e never = absurd (never r e)
 
-free_if : (o : Option Refusal) (c : Cell) → Won ≡ or_refused o (claim_answer c) → c ≡ Free
+pub free_if : (o : Option Refusal) (c : Cell) → Won ≡ or_refused o (claim_answer c) → c ≡ Free
 free_if None Free e = refl
 free_if None (Held w) e = absurd (cc)
 free_if None Done e = absurd (cc)
 free_if None Missed e = absurd (cc)
 free_if (Some r) c e = absurd (cc)
 
-holder_is : (c : Cell) (v : ℕ) → is_held_by c v ≡ true → c ≡ Held v
+pub holder_is : (c : Cell) (v : ℕ) → is_held_by c v ≡ true → c ≡ Held v
 holder_is Free v h = absurd (false≢true h)
 holder_is (Held u) v h = ap Held (eqb-true u v h)
 holder_is Done v h = absurd (false≢true h)

@@ -6,3 +6,4 @@ pub mod Behind
 pub mod Start
 pub mod Runs
 pub mod Holders
+pub mod Finishes

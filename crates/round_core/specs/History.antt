@@ -75,3 +75,11 @@ places id e = false
 
 abbrev pub is_placed : History → Id → Bool
 is_placed h id = list_any (λ x. places id x.0) h
+
+-- whether this answer finishes cell i
+abbrev pub finishes : ℕ → RoundEvent → Answer → Bool
+finishes i (Finish w j) Finished = j == i
+finishes i e a = false
+
+abbrev pub has_finished : History → ℕ → Bool
+has_finished h i = list_any (λ x. finishes i x.0 x.1) h

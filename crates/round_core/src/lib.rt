@@ -6,7 +6,7 @@ mod round;
 mod rules;
 
 pub use events::{Answer, Refusal, RoundEvent};
-pub use round::{Round, one_holder};
+pub use round::{Round, finished_once, one_holder};
 
 #[cfg(test)]
 mod tests;

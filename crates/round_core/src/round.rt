@@ -1,10 +1,11 @@
 //! Rounds.
 
-ghost use Rattle.std.specs.Prelude.{◌≡◌, ◌≤◌, ◌++◌, ◌∷◌, [], ℕ, length, IfOk, OnErr, None, is_some, slice_index_or, List, IsTrue};
+ghost use Rattle.std.specs.Prelude.{◌≡◌, ◌≤◌, ◌++◌, ◌∷◌, [], ℕ, length, IfOk, OnErr, None, is_some, slice_index_or, List, IsTrue, false};
 ghost use Rattle.std.specs.List.{list_any, zip};
 ghost use Rattle.sharing.specs.Offers.{is_id};
-ghost use Rattle.round_core.specs.History.{History, holds};
-ghost use Rattle.round_core.specs.Legal.{Legal, answer_of};
+ghost use Rattle.round_core.specs.History.{History, holds, has_finished, is_placed};
+ghost use Rattle.fetch_plan.specs.Plan.{Planned};
+ghost use Rattle.round_core.specs.Legal.{Legal, legal_after, answer_of, no_give};
 ghost use Rattle.round_core.specs.Left.{Leaves, ReportsTo, SealsTo, InsertsTo, gives_in, cells_then};
 
 use crate::rules::{add_report, answer_at, free_cells, write_cell};
@@ -135,3 +136,10 @@ impl Round {
 pub fn one_holder()
     ensures { (lanes : List ℕ) (h : History) (w v i : ℕ) → Legal lanes h → IsTrue (holds h w i) → IsTrue (holds h v i) → w ≡ v }
 {}
+
+/// In a history that is legal for a plan, where lane w finished cell i: the cell was not finished before, and its id
+/// was placed before.
+pub fn finished_once()
+    ensures { (lanes : List ℕ) (fixed : Planned) (before after : History) (w i : ℕ) → legal_after lanes fixed [] (before ++ (RoundEvent.Finish w i, Answer.Finished) ∷ after) → (has_finished before i ≡ false) × IsTrue (is_placed before (slice_index_or fixed.gives i no_give).0) }
+{
+}
