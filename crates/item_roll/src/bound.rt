@@ -33,7 +33,6 @@ fn front_apart(first: &[u8; 32], second: &[u8; 32]) -> [u8; 32]
 /// The bound above the first item and not above the second that is shortest to write (Negentropy
 /// protocol V1, "Bound"): the second's time alone where the times differ, else its time and as many
 /// first bytes of its id as tell the two apart.
-
 pub fn minimal_bound(first: &Item, second: &Item) -> Bound
     requires order { place first.now < place second.now }
     requires first { first.now.time < endless }

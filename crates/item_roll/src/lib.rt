@@ -9,3 +9,6 @@ mod split;
 
 pub use bound::minimal_bound;
 pub use roll::{Roll, RollFault};
+
+#[cfg(test)]
+mod tests;

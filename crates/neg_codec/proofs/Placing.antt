@@ -60,11 +60,14 @@ span_at ranges i r lt is fits =
     let here : get_or (map span_of ranges) i (span_of r) ≡ span_of r = get_or-map span_of ranges i r (span_of r) lt ∙ ap span_of (sym is) in
     subst IsSpan here (fits i (span_of r) (omega (arith, length-map ranges span_of, lt)))
 
-placed_where : (i : ℕ) (before : Item) (rs : List Span) → Ascends before rs → misplaced_from i before rs ≡ None
-placed_where i before [] up = refl
-placed_where i before (r ∷ rs) up = rw (le-ltb (place r.upper) (place before) up.1, lt-ltb before.time endless up.0) (placed_where (i + 1) r.upper rs up.2)
+placed_from : (i : ℕ) (before : Item) (rs : List Span) → Ascends before rs → misplaced_from i before rs ≡ None
+placed_from i before [] up = refl
+placed_from i before (r ∷ rs) up = in_place i before r rs up.1 up.0 ∙ placed_from (i + 1) r.upper rs up.2
 
--- ranges that ascend have none out of place
 pub placed_if_ascends : (rs : List Span) → Ascends least rs → first_misplaced rs ≡ None
 unfolding first_misplaced
-placed_if_ascends rs up = placed_where 0 least rs up
+placed_if_ascends rs up = placed_from 0 least rs up
+
+-- ranges are in place, or one is the first that isn't
+pub never_both : (rs : List Span) (f : CodecFault) → Ascends least rs → first_misplaced rs ≡ Some f → ⊥
+never_both rs f up e = let none = placed_if_ascends rs up in let k = sym none ∙ e in cc

@@ -1,4 +1,5 @@
-//! The fields of a range.
+//! The fields of a range, read from the front of bytes. Of a message of `total` bytes those given are
+//! left, so the place of a fault is `total` less their number.
 
 ghost use Rattle.std.specs.Prelude.{◌≡◌, ◌*◌, ◌<◌, ◌≤◌, ◌↔◌, IfOk, length};
 ghost use Rattle.neg_codec.specs.Ranges.{edge_of};
@@ -8,6 +9,7 @@ ghost use Rattle.neg_codec.specs.Lending.{claim_lent, IsWhole};
 use crate::bounds::bound_from;
 use crate::{Bound, CodecFault};
 
+/// A number.
 #[tactic(auto, unfolding(crate::specs::Reading::varint_at))]
 fn varint_of(total: usize, bytes: &[u8]) -> Result<(u64, &[u8]), CodecFault>
     ensures reads { Reads (λ x. (x.0, x.1.now)) result (varint_at total bytes.now) }
@@ -19,6 +21,7 @@ fn varint_of(total: usize, bytes: &[u8]) -> Result<(u64, &[u8]), CodecFault>
     }
 }
 
+/// That many bytes.
 #[tactic(auto, unfolding(crate::specs::Reading::front_at))]
 fn front_of(total: usize, n: u64, bytes: &[u8]) -> Result<(&[u8], &[u8]), CodecFault>
     ensures reads { Reads (λ x. (x.0.now, x.1.now)) result (front_at total n bytes.now) }
@@ -31,6 +34,7 @@ fn front_of(total: usize, n: u64, bytes: &[u8]) -> Result<(&[u8], &[u8]), CodecF
     Ok(bytes.split_at(n as usize))
 }
 
+/// The time of a code, after the time before.
 #[tactic(auto, unfolding(crate::specs::Reading::time_of_code))]
 fn time_from(start: usize, before: u64, code: u64) -> Result<u64, CodecFault>
     ensures { Reads (λ t. t) result (time_of_code start before code) }
@@ -44,6 +48,7 @@ fn time_from(start: usize, before: u64, code: u64) -> Result<u64, CodecFault>
     }
 }
 
+/// An upper bound.
 #[tactic(auto, unfolding(crate::specs::Reading::bound_at))]
 fn upper_of<'a>(
     total: usize,
@@ -76,6 +81,7 @@ pub enum Lent<'a> {
     Ids(u64, &'a [u8]),
 }
 
+/// As many ids.
 #[tactic(auto, unfolding(crate::specs::Reading::ids_at, crate::specs::Reading::front_at))]
 fn ids_from(total: usize, count: u64, bytes: &[u8]) -> Result<(Lent<'_>, &[u8]), CodecFault>
     ensures reads { Reads (λ x. (claim_lent x.0, x.1.now)) result (ids_at total count bytes.now) }
@@ -89,6 +95,7 @@ fn ids_from(total: usize, count: u64, bytes: &[u8]) -> Result<(Lent<'_>, &[u8]),
     Ok((Lent::Ids(count, list), rest))
 }
 
+/// The payload of a mode.
 #[tactic(auto, unfolding(crate::specs::Reading::payload_at))]
 fn payload_of(
     total: usize,
@@ -116,6 +123,7 @@ fn payload_of(
     }
 }
 
+/// A mode and its payload.
 #[tactic(auto, unfolding(crate::specs::Reading::claim_at))]
 fn claim_of(total: usize, bytes: &[u8]) -> Result<(Lent<'_>, &[u8]), CodecFault>
     ensures reads { Reads (λ x. (claim_lent x.0, x.1.now)) result (claim_at total bytes.now) }

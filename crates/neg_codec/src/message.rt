@@ -1,9 +1,9 @@
 //! Messages, and how they are read.
 
-ghost use Rattle.std.specs.Prelude.{All, None, Some, IfNone, IfSome, ◌≡◌, ℕ, ◌+◌, ◌*◌, ◌<◌, ◌≤◌, List, ◌⊎◌, length, map, Ok, Err, Result, IfOk, IfErr, OnOk, IsOk};
+ghost use Rattle.std.specs.Prelude.{All, None, Some, IfNone, IfSome, ◌≡◌, ℕ, ◌+◌, ◌*◌, ◌<◌, ◌≤◌, ◌↔◌, List, ◌⊎◌, length, map, Ok, Err, Result, IfOk, IfErr, OnOk, IsOk};
 ghost use Rattle.neg_codec.specs.Keys.{least, IsId};
 ghost use Rattle.neg_codec.specs.declared.CodecFault.{CodecFault};
-ghost use Rattle.neg_codec.specs.Ranges.{Claim, print, Span, edge_of, span_of, claim_of, IsSpan, IsClaim, IsMessage};
+ghost use Rattle.neg_codec.specs.Ranges.{Claim, print, Span, edge_of, span_of, claim_of, Ascends, IsSpan, IsClaim, IsMessage};
 ghost use Rattle.neg_codec.specs.Misplaced.{first_misplaced};
 ghost use Rattle.neg_codec.specs.Text.{Spells};
 ghost use Rattle.neg_codec.specs.Lending.{claim_lent, IsWhole};
@@ -14,7 +14,8 @@ use crate::{Bound, CodecFault, Id, Payload, Range};
 use std::alloc::{AllocError, Global};
 use std::marker::Model;
 
-/// Ranges whose bounds don't descend, none of them after an infinite bound.
+/// Ranges whose bounds don't descend, none of them after an infinite bound (Negentropy protocol V1,
+/// "Message").
 #[derive(Debug, Drop)]
 pub struct Message {
     ranges: Vec<Range>,
@@ -94,7 +95,7 @@ impl Message {
     /// `AfterInfinity`. It takes no memory.
     pub fn of(ranges: Vec<Range>) -> Result<Message, (CodecFault, Vec<Range>)>
         ensures keeps { IfOk result (λ m. m ≡ map span_of ranges.items) }
-        ensures in_place { IfOk result (λ m. first_misplaced (map span_of ranges.items) ≡ None) }
+        ensures in_place { IsOk result ↔ Ascends least (map span_of ranges.items) }
         ensures fault { IfErr result (λ e. first_misplaced (map span_of ranges.items) ≡ Some e.0) }
         ensures hands_back { IfErr result (λ e. e.1 ≡ ranges) }
     {
@@ -206,6 +207,7 @@ fn scan_ranges(total: usize, bytes: &[u8]) -> Result<(), CodecFault>
     Ok(())
 }
 
+/// The ranges of the message that the bytes spell.
 fn message_ranges(alloc: Global, bytes: &[u8]) -> Result<Vec<Range>, CodecFault>
     ensures reads { Gives (λ v. map span_of v.items) result (message_at bytes.now) }
     ensures first { (f : CodecFault) → message_at bytes.now ≡ Err f → result ≡ Err f }
@@ -227,7 +229,8 @@ fn message_ranges(alloc: Global, bytes: &[u8]) -> Result<Vec<Range>, CodecFault>
     }
 }
 
-/// The message that the bytes spell.
+/// The message that the bytes spell, at most 1,048,576 of them (Negentropy protocol V1, "Message"),
+/// or the first fault from left to right with its place. Every fault is found before memory is taken.
 pub fn decode(alloc: Global, bytes: &[u8]) -> Result<Message, CodecFault>
     // What is read is spelled so.
     ensures found { IfOk result (λ m. (length bytes.now ≤ longest) × Spells bytes.now m) }

@@ -1,6 +1,12 @@
 //! What a session has found out.
 
+ghost use Rattle.std.specs.Prelude.{◌≡◌, ◌<◌, ◌⊎◌, ◌^◌, [], ◌∷◌, OnOk, IfErr, Err, length};
+ghost use Rattle.neg_initiator.specs.Notes.{NotesOne, Notes, Passes};
+
+use crate::InitFault;
+use crate::ids::{has, put, set_of};
 use neg_codec::{Bound, Id, Key};
+use std::alloc::Global;
 use std::collections::BTreeSet;
 
 /// What a session has found out so far.
@@ -14,4 +20,68 @@ pub struct Found {
     pub trusted: Vec<(Key, Bound)>,
     /// How many ids may be needed.
     pub most: usize,
+}
+
+/// Puts an id in where the others lack it, unless there are as many as may be.
+fn note(
+    into: &mut BTreeSet<Id>,
+    id: &Id,
+    others: &BTreeSet<Id>,
+    most: usize,
+) -> Result<(), InitFault>
+    ensures ok { OnOk result (NotesOne others.now.keys id.now into.old.keys into.new.keys) }
+    ensures full { result ≡ Err InitFault.NeedFull → (most < 2 ^ 63) × Passes others.now.keys (id.now ∷ []) into.old.keys most }
+    ensures fault { IfErr result (λ e. (e ≡ InitFault.NeedFull) ⊎ (e ≡ InitFault.Memory)) }
+{
+    if has(others, id) {
+        return Ok(());
+    }
+    if has(&*into, id) {
+        return Ok(());
+    }
+    if into.len() >= most {
+        return Err(InitFault::NeedFull);
+    }
+    put(into, *id)?;
+    Ok(())
+}
+
+/// Puts the ids of a list in that the others lack, as long as there aren't more than may be.
+fn note_all(
+    into: &mut BTreeSet<Id>,
+    listed: &[Id],
+    others: &BTreeSet<Id>,
+    most: usize,
+) -> Result<(), InitFault>
+    ensures ok { OnOk result (Notes others.now.keys listed.now into.old.keys into.new.keys) }
+    ensures full { result ≡ Err InitFault.NeedFull → (most < 2 ^ 63) × Passes others.now.keys listed.now into.old.keys most }
+    ensures fault { IfErr result (λ e. (e ≡ InitFault.NeedFull) ⊎ (e ≡ InitFault.Memory)) }
+{
+    for id in listed {
+        match note(into, id, others, most) {
+            Ok(()) => {}
+            Err(fault) => return Err(fault),
+        }
+    }
+    Ok(())
+}
+
+/// Compares what the other side lists of a stretch with the own ids there.
+pub fn compare(alloc: Global, found: &mut Found, own: &[Id], listed: &[Id]) -> Result<(), InitFault>
+    ensures need { OnOk result (Notes own.now listed.now found.old.need.keys found.new.need.keys) }
+    ensures have { OnOk result (Notes listed.now own.now found.old.have.keys found.new.have.keys) }
+    ensures kept { (found.new.trusted ≡ found.old.trusted) × (found.new.most ≡ found.old.most) }
+    ensures full { result ≡ Err InitFault.NeedFull → Passes own.now listed.now found.old.need.keys found.old.most }
+    ensures fault { IfErr result (λ e. (e ≡ InitFault.NeedFull) ⊎ (e ≡ InitFault.Memory)) }
+{
+    let own_set = set_of(alloc, own)?;
+    let listed_set = set_of(alloc, listed)?;
+    match note_all(&mut found.need, listed, &own_set, found.most) {
+        Ok(()) => {}
+        Err(fault) => return Err(fault),
+    }
+    match note_all(&mut found.have, own, &listed_set, usize::MAX) {
+        Ok(()) => Ok(()),
+        Err(_) => Err(InitFault::Memory),
+    }
 }

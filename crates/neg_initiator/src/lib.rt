@@ -1,10 +1,17 @@
 //! The asking side of a session (Negentropy protocol V1).
 #![tactic(auto)]
 
+mod fault;
 mod found;
 mod ids;
 mod initiator;
 mod phase;
+mod settle;
+mod trust;
 
-pub use initiator::{InitFault, Initiator, Next, Outcome};
+pub use fault::InitFault;
+pub use initiator::{Initiator, Next, Outcome};
 pub use phase::Phase;
+
+#[cfg(test)]
+mod tests;

@@ -6,3 +6,6 @@ mod sum;
 
 pub use fingerprint::print;
 pub use sum::Sum;
+
+#[cfg(test)]
+mod tests;

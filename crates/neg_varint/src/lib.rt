@@ -61,7 +61,8 @@ fn marked_digit(n: u64, is_last: bool) -> u8
 
 /// The spelling, then zeros, and the spelling's length.
 fn digits_of(n: u64) -> ([u8; 10], usize)
-    ensures { (text : List ℕ) × IsSpelling n text × (length text ≡ result.1) × (result.0 ≡ text ++ replicate (10 - result.1) 0) }
+    ensures few { 0 < result.1 × result.1 ≤ 10 }
+    ensures spelled { (text : List ℕ) × IsSpelling n text × (length text ≡ result.1) × (result.0 ≡ text ++ replicate (10 - result.1) 0) }
 {
     let mut bytes = [0; 10];
     let len = digit_count(n);
@@ -79,6 +80,7 @@ fn digits_of(n: u64) -> ([u8; 10], usize)
 pub fn spell(n: u64) -> ([u8; 10], usize)
     ensures value { result.0 ≡ spelling n ++ replicate (10 - result.1) 0 }
     ensures len { result.1 ≡ length (spelling n) }
+    ensures few { 0 < result.1 × result.1 ≤ 10 }
     ensures spelled { IsSpelling n (spelling n) }
 {
     digits_of(n)
@@ -120,7 +122,7 @@ fn first_number(bytes: &[u8]) -> Result<(u64, usize), VarintFault>
     Err(VarintFault::Truncated)
 }
 
-/// The number at the front, and how many bytes spell it.
+/// The number at the front, and how many bytes spell it. A padded number is refused.
 pub fn take(bytes: &[u8]) -> Result<(u64, usize), VarintFault>
     // A spelling has a byte.
     ensures some { IfOk result (λ x. 0 < x.1) }

@@ -11,7 +11,7 @@ loop-at-preserved c =
     let j : suc (c.loop-at.at - 1) ≡ c.loop-at.at - 1 + 1 = omega arith in
     record { within = omega (arith, c.loop-at.invariant.within); spelt = spelt_more _ _ _ _ _ _ (rw k at c.loop-at.invariant.spelt) (rw j c.marked_digit.ensures) }
 
-pub returns : goal.returns
-returns c =
+pub returns-clause-spelled : goal.returns-clause-spelled
+returns-clause-spelled c =
     let done : c.loop-at.at ≡ 0 = omega (arith, c.loop-at-test.false) in
     spelt_all _ _ _ _ c.ranges.n.fits c.digit_count-len.ensures.few.0 c.digit_count-len.ensures.least (rw done at c.loop-at.invariant.spelt)

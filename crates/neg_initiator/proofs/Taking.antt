@@ -1,0 +1,172 @@
+-- What a session is after a reply that was walked.
+use Rattle.std.proofs.Common.{◌≡◌, ℕ, zero, suc, ◌+◌, ◌<◌, ◌≤◌, ◌⊎◌, ◌++◌, inl, inr, Bool, true, false, cond, ltb, List, [], ◌∷◌, length, map, take, drop, get_or, refl, sym, ap, subst, ◌∙◌, arith}
+use Rattle.std.specs.Prelude.{Contains, All}
+use Rattle.std.proofs.lemmas.List.Elements.{All-contains, All-weaker, All-contains_itself}
+use Rattle.neg_codec.proofs.Stretches.{contains_head, contains_tail, contains_cases, contains_none}
+use Rattle.neg_codec.specs.declared.Id.{Id}
+use Rattle.neg_codec.specs.declared.Item.{Item}
+use Rattle.neg_codec.specs.declared.Range.{Range}
+use Rattle.neg_codec.specs.Keys.{place, least, infinity, endless, IsKey}
+use Rattle.neg_codec.specs.Ranges.{Claim, skip, print, ids, Span, Stretch, stretches, stretches_from, IsSkip, Ascends, span_of}
+use Rattle.neg_print.specs.Print.{print_of}
+use Rattle.item_roll.specs.Closed.{closed_from}
+use Rattle.item_roll.specs.Parts.{IsRoll, part, ids_of}
+use Rattle.item_roll.specs.Truth.{Says, IsTrueOf, Follows}
+use Rattle.neg_draft.specs.Coverage.{Written, end_of, gap, told_more, IsDraft, IsOpen, Tells, Told}
+use Rattle.neg_draft.proofs.Covering.{stretch_of, draft_none, end_above}
+use Rattle.neg_draft.proofs.Walking.{ranges_at, ranges_upto}
+use Rattle.neg_initiator.specs.Listed.{IsListed, PassesMost}
+use Rattle.neg_initiator.specs.declared.phase.Phase.{Phase}
+use Rattle.std.proofs.lemmas.Bool.{le-ltb}
+use Rattle.neg_initiator.specs.Made.{asking}
+use Rattle.neg_initiator.specs.Session.{Session, Starts, Taken, Advances, HasOpen}
+use Rattle.neg_initiator.specs.Settled.{HasOnePrint}
+use Rattle.neg_initiator.specs.Settling.{Findings, Finds, Settles, ListsTooMany}
+use Rattle.neg_initiator.specs.Trusting.{begun_at, bounds_of, TrustsSkipped, IsSkippedPrint, IsOwnPrint}
+use Rattle.neg_initiator.proofs.Meeting.{stretches-append}
+use Rattle.neg_initiator.proofs.Step.{Adds, settled_after}
+use Rattle.neg_initiator.proofs.Stepping.{Progress, Found, Walked, progress_more}
+
+says_print : (items : List Item) (s : Stretch) (p : List ℕ) → s.claim ≡ print p → IsTrueOf items s → p ≡ print_of (ids_of (part items s.lower s.upper))
+says_print items s p e h = subst (λ (c : Claim). Says c (part items s.lower s.upper)) e h
+
+one_print_at : (a b : List Item) (s : Stretch) (p : List ℕ) → s.claim ≡ print p → IsTrueOf a s → IsTrueOf b s → HasOnePrint a b (bounds_of s)
+one_print_at a b s p e ha hb = sym (says_print a s p e ha) ∙ says_print b s p e hb
+
+-- a trusted print has one print on both sides
+skipped_one_print : (a b : List Item) (asked answered : List Span) (s : Stretch) → All (IsTrueOf a) (stretches asked) → Follows b asked answered → IsSkippedPrint asked answered s → HasOnePrint a b (bounds_of s)
+skipped_one_print a b asked answered s truth follows h =
+    one_print_at a b s h.print_of h.claims (All-contains (IsTrueOf a) (stretches asked) s truth h.asks) (follows.skipped h.by s h.answers h.asks h.skips h.meets)
+
+own_one_print : (a b : List Item) (asked answered : List Span) (s : Stretch) → Follows b asked answered → IsOwnPrint a answered s → HasOnePrint a b (bounds_of s)
+own_one_print a b asked answered s follows h = one_print_at a b s h.print_of h.claims h.holds (All-contains (IsTrueOf b) (stretches answered) s follows.told h.answers)
+
+from_each : {X : Type 0} (P : X → Type 0) (xs : List X) → ((x : X) → Contains xs x → P x) → All P xs
+from_each P xs h = All-weaker (Contains xs) P h xs (All-contains_itself xs)
+
+pub taken_from : (a : List Item) (asked answered next : List Span) (old mid new : Findings) (most : ℕ) → IsRoll a → Ascends least asked → All (IsTrueOf a) (stretches asked)
+    → TrustsSkipped asked answered (stretches asked) old.trusted mid.trusted → mid.need ≡ old.need → mid.have ≡ old.have → Ascends least next → Walked a asked answered next mid new
+    → Taken answered (asking a asked old most) (asking a next new most)
+taken_from a asked answered next old mid new most roll up truth trusts need have ascends w = record {
+  roll = refl;
+  most = refl;
+  sound = record { roll = roll; ascends = ascends; truth = w.truth };
+  not_again = w.not_again;
+  need_from = λ i h. elim (w.found.need_new i h) [ inl o ↦ inl (subst (λ (xs : List Id). Contains xs i) need o) | inr l ↦ inr l ];
+  trusted_kept = λ x h. w.found.trusted_kept x (trusts.kept x h);
+  advances = λ b rb follows. record {
+    one_print = from_each (λ t. Contains old.trusted t ⊎ HasOnePrint a b t) new.trusted (λ x h. elim (w.found.trusted_new x h) [
+      | inl m ↦ elim (trusts.right x m) [
+        | inl o ↦ inl o
+        | inr s ↦ inr (subst (HasOnePrint a b) s.1 (skipped_one_print a b asked answered s.0 truth follows s.2))
+      ]
+      | inr s ↦ inr (subst (HasOnePrint a b) s.1 (own_one_print a b asked answered s.0 follows s.2))
+    ]);
+    settled = λ told one was.
+        settled_after a b asked answered next new.trusted old.need old.have new.need new.have roll.keys rb.keys one up truth follows told
+        (record {
+          need_kept = λ i h. w.found.need_kept i (subst (λ (xs : List Id). Contains xs i) (sym need) h);
+          have_kept = λ i h. w.found.have_kept i (subst (λ (xs : List Id). Contains xs i) (sym have) h);
+          need_new = from_each _ new.need (λ i h. elim (w.found.need_new i h) [ inl o ↦ inl (subst (λ (xs : List Id). Contains xs i) need o) | inr l ↦ inr l ]);
+          have_new = from_each _ new.have (λ i h. elim (w.found.have_new i h) [ inl o ↦ inl (subst (λ (xs : List Id). Contains xs i) have o) | inr l ↦ inr l ]);
+        }) w.accounted was;
+  };
+}
+
+-- ---- too many ids
+
+pub too_many : (a : List Item) (front : List Span) (r : Span) (back : List Span) (need : List Id) (old f : Findings) (most : ℕ) → Found a (front ++ (r ∷ back)) old f → old.need ≡ need
+    → ListsTooMany a (end_of least front) r f.need most → PassesMost a (front ++ (r ∷ back)) need most
+too_many a front r back need old f most found e l = record {
+  ids = l.2.ids;
+  distinct = l.2.distinct;
+  more = l.2.more;
+  each = λ i h. elim (l.2.each i h) [
+    | inl o ↦ elim (found.need_new i o) [ inl o' ↦ inl (subst (λ (xs : List Id). Contains xs i) e o') | inr s ↦ inr s ]
+    | inr s ↦ inr (begun_at (end_of least front) r, l.0, stretch_of least front r back, l.1, s.0, s.1)
+  ];
+}
+
+-- ---- the range at a place of the reply
+
+pub progress_at : (a : List Item) (asked : List Span) (ranges : List Range) (i : ℕ) (r : Range) (before : List (Item × Item)) (old f g : Findings) (d new : Written) → i < length ranges → r ≡ get_or ranges i r
+    → Ascends least (map span_of ranges) → IsDraft d → TrustsSkipped asked (map span_of ranges) (stretches asked) before old.trusted
+    → Progress a asked (map span_of ranges) (map span_of (take i ranges)) old f d → Finds a (end_of least (map span_of (take i ranges))) (span_of r) f g
+    → Settles a (end_of least (map span_of (take i ranges))) (span_of r) g d new → Progress a asked (map span_of ranges) (map span_of (take (i + 1) ranges)) old g new
+progress_at a asked ranges i r before old f g d new lt is up draft trusts was finds settles =
+    let e = ranges_at ranges i r lt is in
+    let more = progress_more a asked (map span_of (take i ranges)) (span_of r) (map span_of (drop (suc i) ranges)) before old f g d new
+    (subst (λ (x : List Span). Ascends least x) e up) draft (subst (λ (x : List Span). TrustsSkipped asked x (stretches asked) before old.trusted) e trusts)
+    (subst (λ (x : List Span). Progress a asked x (map span_of (take i ranges)) old f d) e was) finds settles in
+    subst (λ (x : List Span). Progress a asked x (map span_of (take (i + 1) ranges)) old g new) (sym e)
+    (subst (λ (x : List Span). Progress a asked (map span_of (take i ranges) ++ (span_of r ∷ map span_of (drop (suc i) ranges))) x old g new) (sym (ranges_upto ranges i r lt is)) more)
+
+pub too_many_at : (a : List Item) (ranges : List Range) (i : ℕ) (r : Range) (need : List Id) (old f : Findings) (most : ℕ) → i < length ranges → r ≡ get_or ranges i r → Found a (map span_of ranges) old f → old.need ≡ need
+    → ListsTooMany a (end_of least (map span_of (take i ranges))) (span_of r) f.need most → PassesMost a (map span_of ranges) need most
+too_many_at a ranges i r need old f most lt is found e l =
+    let all = ranges_at ranges i r lt is in
+    subst (λ (x : List Span). PassesMost a x need most) (sym all)
+    (too_many a (map span_of (take i ranges)) (span_of r) (map span_of (drop (suc i) ranges)) need old f most (subst (λ (x : List Span). Found a x old f) all found) e l)
+
+-- ---- something is open
+
+in_closed : (spans : List Span) (s : Stretch) → Contains (closed_from least spans) s → Contains (stretches spans) s
+in_closed spans s h = go least spans h
+  where
+    go : (lower : Item) (rs : List Span) → Contains (closed_from lower rs) s → Contains (stretches_from lower rs) s
+    go lower [] k = absurd (contains_none s k)
+    go lower (r ∷ rs) k = elim (contains_cases (begun_at lower r) (closed_from r.upper rs) s k) [
+      | inl e ↦ subst (λ (x : Stretch). Contains (begun_at lower r ∷ stretches_from r.upper rs) x) e (contains_head (begun_at lower r) (stretches_from r.upper rs))
+      | inr rest ↦ contains_tail (begun_at lower r) (stretches_from r.upper rs) s (go r.upper rs rest)
+    ]
+
+pub open_of : (d : Written) → IsDraft d → (d.spans ≡ []) ⊎ HasOpen d.spans
+open_of d draft = elim draft.open_unless_blank [ inl e ↦ inl e | inr o ↦ inr (o.0, in_closed d.spans o.0 o.1, o.2) ]
+
+-- whether a session asks has no part in what a reply does
+pub taken_any : (answered : List Span) (o n : Session) (p q : Phase) → Taken answered o n → Taken answered (record o { phase = p }) (record n { phase = q })
+taken_any answered o n p q t = record {
+  roll = t.roll;
+  most = t.most;
+  sound = record { roll = t.sound.roll; ascends = t.sound.ascends; truth = t.sound.truth };
+  not_again = t.not_again;
+  need_from = t.need_from;
+  trusted_kept = t.trusted_kept;
+  advances = λ b rb follows. let a = t.advances b rb follows in record { one_print = a.one_print; settled = a.settled };
+}
+
+-- ---- the first ask
+
+pub least_low : place least < place infinity
+unfolding place
+least_low = omega arith
+
+gap_same : (x : Item) → gap x x ≡ []
+gap_same x = rw (le-ltb (place x) (place x) (omega arith)) refl
+
+all_told : (P : Stretch → Type 0) (rs : List Span) → end_of least rs ≡ infinity → All P (closed_from least rs) → All P (stretches rs)
+all_told P rs ends h =
+    let e : stretches rs ≡ closed_from least rs ++ stretches_from infinity [] =
+    ap stretches (sym (append_nil rs)) ∙ stretches-append least rs [] ∙ ap (λ (x : Item). closed_from least rs ++ stretches_from x []) ends in
+    subst (λ (ss : List Stretch). All P ss) (sym (e ∙ append_nil_stretches (closed_from least rs))) h
+  where
+    append_nil : (xs : List Span) → xs ++ [] ≡ xs
+    append_nil [] = refl
+    append_nil (x ∷ xs) = ap (λ (t : List Span). x ∷ t) (append_nil xs)
+
+    append_nil_stretches : (xs : List Stretch) → xs ++ [] ≡ xs
+    append_nil_stretches [] = refl
+    append_nil_stretches (x ∷ xs) = ap (λ (t : List Stretch). x ∷ t) (append_nil_stretches xs)
+
+pub record Begun (a : List Item) (asked : List Span) : Type 0 where
+  pub truth : All (IsTrueOf a) (stretches asked)
+  pub skips_nothing : All (λ s. IsSkip s → ⊥) (stretches asked)
+
+pub begun : (a : List Item) (d e : Written) → e ≡ record { spans = []; end = least } → Told a e infinity d → Begun a d.spans
+begun a d e is told =
+    let t = subst (λ (w : Written). Told a w infinity d) is told in
+    let spans : d.spans ≡ t.spans = ap (λ (w : Written). w.spans) t.now ∙ ap (λ (g : List Span). g ++ t.spans) (gap_same least) in
+    subst (Begun a) (sym spans) (record {
+      truth = all_told (IsTrueOf a) t.spans t.tells.ends t.holds;
+      skips_nothing = all_told (λ s. IsSkip s → ⊥) t.spans t.tells.ends t.tells.none_skipped;
+    })

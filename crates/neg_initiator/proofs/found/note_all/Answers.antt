@@ -1,0 +1,26 @@
+use Rattle.std.proofs.Common.{◌≡◌, ◌<◌, ◌≤◌, length, take, [], arith, Result, Err}
+use Rattle.std.proofs.lemmas.List.{take_all}
+use Rattle.neg_codec.specs.declared.Id.{Id}
+use Rattle.neg_initiator.specs.declared.fault.InitFault.{InitFault}
+use Rattle.neg_initiator.specs.declared.fault.InitFault.TheVariants as fault
+use Rattle.neg_initiator.proofs.Noting.{notes_none, notes_more, passes_at}
+use Rattle.neg_initiator.proofs.found.note_all.Goals as goal
+
+abbrev no_id : Id
+no_id = record { 0 = [] }
+
+pub loop-id-init : goal.loop-id-init
+loop-id-init c = notes_none c.args.others.now.keys c.args.into.now.keys
+
+pub loop-id-preserved : goal.loop-id-preserved
+loop-id-preserved c = notes_more c.args.others.now.keys c.args.listed.now c.loop-id.id-index no_id c.args.into.now.keys c.loop-id.into.keys c.note.new.into.keys c.loop-id-test.true c.loop-id.invariant c.in-Ok.ensures.ok
+
+pub returns-in-Err-clause-full : goal.returns-in-Err-clause-full
+returns-in-Err-clause-full c = λ e.
+    let p = c.in-Err.ensures.full e in
+    (p.0, passes_at c.args.others.now.keys c.args.listed.now c.loop-id.id-index no_id c.args.into.now.keys c.loop-id.into.keys c.args.most c.loop-id-test.true c.loop-id.invariant p.1)
+
+pub returns-clause-ok : goal.returns-clause-ok
+returns-clause-ok c =
+    let le : length c.args.listed.now ≤ c.loop-id.id-index = omega arith in
+    rw (take_all c.loop-id.id-index c.args.listed.now le) at c.loop-id.invariant

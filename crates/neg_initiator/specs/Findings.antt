@@ -1,0 +1,8 @@
+-- What was found, as lists.
+use Rattle.std.specs.Prelude.{map}
+use Rattle.neg_initiator.specs.Settling.{Findings}
+use Rattle.neg_initiator.specs.Pairs.{pair_of}
+use Rattle.neg_initiator.specs.declared.found.Found.{Found}
+
+abbrev pub findings_of : Found → Findings
+findings_of f = record { need = f.need.keys; have = f.have.keys; trusted = map pair_of f.trusted.items }

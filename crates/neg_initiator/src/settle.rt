@@ -1,0 +1,113 @@
+//! What is done with the stretches of a reply.
+
+ghost use Rattle.std.specs.Prelude.{◌≡◌, ◌<◌, ◌≤◌, ◌⊎◌, [], IfOk, IfErr, OnOk, Err};
+ghost use Rattle.neg_codec.specs.Keys.{place};
+ghost use Rattle.neg_codec.specs.Ranges.{ids, edge_of, span_of};
+ghost use Rattle.item_roll.specs.Parts.{part, ids_of};
+ghost use Rattle.neg_draft.specs.Coverage.{IsDraft};
+ghost use Rattle.neg_initiator.specs.Notes.{Passes};
+ghost use Rattle.neg_initiator.specs.Listed.{PassesMost};
+ghost use Rattle.neg_initiator.specs.Made.{asking};
+ghost use Rattle.neg_initiator.specs.Session.{IsSound, Taken, HasOpen};
+ghost use Rattle.neg_initiator.specs.Settling.{AccountsFor, Finds, Settles, ListsTooMany};
+ghost use Rattle.neg_initiator.specs.Findings.{findings_of};
+
+use crate::InitFault;
+use crate::found::{Found, compare};
+use crate::trust::{trust, trust_skipped};
+use item_roll::Roll;
+use neg_codec::{Bound, Id, Message, Payload, Range};
+use neg_draft::{Draft, is_own_print};
+use std::alloc::Global;
+
+/// Takes in the ids that are listed of a stretch.
+fn settle_ids(
+    alloc: Global,
+    roll: &Roll,
+    found: &mut Found,
+    lower: &Bound,
+    upper: &Bound,
+    listed: &[Id],
+) -> Result<(), InitFault>
+    requires { place (edge_of lower.now) < place (edge_of upper.now) }
+    ensures finds { OnOk result (Finds roll.now (edge_of lower.now) (record { upper = edge_of upper.now; claim = ids listed.now }) (findings_of found.old) (findings_of found.new)) }
+    ensures accounts { OnOk result (AccountsFor roll.now (findings_of found.new) (edge_of lower.now) (edge_of upper.now) (ids listed.now)) }
+    ensures most { found.new.most ≡ found.old.most }
+    ensures full { result ≡ Err InitFault.NeedFull → Passes (ids_of (part roll.now (edge_of lower.now) (edge_of upper.now))) listed.now found.old.need.keys found.old.most }
+    ensures fault { IfErr result (λ e. (e ≡ InitFault.NeedFull) ⊎ (e ≡ InitFault.Memory)) }
+{
+    let own = roll.ids(alloc, roll.find(lower), roll.find(upper))?;
+    match compare(alloc, found, &own, listed) {
+        Ok(()) => Ok(()),
+        Err(fault) => Err(fault),
+    }
+}
+
+/// The draft of the next ask after a range of the reply, begun at a bound.
+pub fn settle_range(
+    alloc: Global,
+    roll: &Roll,
+    found: &mut Found,
+    draft: Draft,
+    lower: &Bound,
+    range: &Range,
+) -> Result<Draft, InitFault>
+    requires reached { place draft.end ≡ place (edge_of lower.now) }
+    requires ahead { place (edge_of lower.now) ≤ place (edge_of range.now.upper) }
+    ensures finds { OnOk result (Finds roll.now (edge_of lower.now) (span_of range.now) (findings_of found.old) (findings_of found.new)) }
+    ensures settles { IfOk result (λ d. Settles roll.now (edge_of lower.now) (span_of range.now) (findings_of found.new) draft d) }
+    ensures draft { IsDraft draft }
+    ensures most { found.new.most ≡ found.old.most }
+    ensures full { result ≡ Err InitFault.NeedFull → ListsTooMany roll.now (edge_of lower.now) (span_of range.now) found.old.need.keys found.old.most }
+    ensures fault { IfErr result (λ e. (e ≡ InitFault.NeedFull) ⊎ (e ≡ InitFault.Memory)) }
+{
+    let _ = draft.end();
+    if !lower.is_below(&range.upper) {
+        return Ok(draft.skip(range.upper));
+    }
+    match &range.payload {
+        Payload::Skip => Ok(draft.skip(range.upper)),
+        Payload::Print(print) => {
+            if is_own_print(roll, lower, &range.upper, print) {
+                trust(&mut found.trusted, *lower, range.upper)?;
+                Ok(draft.skip(range.upper))
+            } else {
+                Ok(draft.tell_split(alloc, roll, range.upper)?)
+            }
+        }
+        Payload::Ids(listed) => {
+            match settle_ids(alloc, roll, found, lower, &range.upper, listed) {
+                Ok(()) => Ok(draft.skip(range.upper)),
+                Err(fault) => Err(fault),
+            }
+        }
+    }
+}
+
+/// The next ask, after a reply to the last one: what the reply leaves open. Ask and reply are walked
+/// once, each list of ids is put in order, and each fingerprint costs a pass over the items it tells of.
+pub fn settle(
+    alloc: Global,
+    roll: &Roll,
+    asked: &Message,
+    answered: &Message,
+    found: &mut Found,
+) -> Result<Message, InitFault>
+    requires { IsSound (asking roll.now asked.now (findings_of found.old) found.old.most) }
+    ensures taken { IfOk result (λ next. Taken answered.now (asking roll.now asked.now (findings_of found.old) found.old.most) (asking roll.now next (findings_of found.new) found.new.most)) }
+    ensures leaves_open { IfOk result (λ next. (next ≡ []) ⊎ HasOpen next) }
+    ensures full { result ≡ Err InitFault.NeedFull → PassesMost roll.now answered.now found.old.need.keys found.old.most }
+    ensures fault { IfErr result (λ e. (e ≡ InitFault.NeedFull) ⊎ (e ≡ InitFault.Memory)) }
+{
+    trust_skipped(asked, answered, &mut found.trusted)?;
+    let mut draft = Draft::new(alloc);
+    let mut lower = Bound::lowest();
+    for range in answered.ranges() {
+        draft = match settle_range(alloc, roll, found, draft, &lower, range) {
+            Ok(next) => next,
+            Err(fault) => return Err(fault),
+        };
+        lower = range.upper;
+    }
+    Ok(draft.into_message())
+}

@@ -1,0 +1,11 @@
+use Rattle.std.proofs.Common.{◌≡◌, ◌+◌, ◌*◌, ◌^◌, ◌≤◌, ◌<◌, length, take}
+use Rattle.neg_print.specs.Total.{limb_number}
+use Rattle.neg_print.proofs.sum.sub_limbs.Given as goal
+
+abbrev pub invariant-loop-i : goal.invariant-loop-i
+invariant-loop-i l = record {
+  room : length l.out ≡ 4;
+  small : limb_number (take l.i l.out) < 18446744073709551616 ^ l.i;
+  borrowed : l.borrow ≤ 1;
+  so_far : limb_number (take l.i l.out) + limb_number (take l.i l.b) ≡ limb_number (take l.i l.a) + 18446744073709551616 ^ l.i * l.borrow;
+}
