@@ -1,14 +1,14 @@
 -- How a draft grows, and what the message says that is written of it.
-use Rattle.std.proofs.Common.{◌≡◌, ℕ, ◌<◌, ◌≤◌, ◌⊎◌, inl, inr, Bool, true, false, cond, ltb, List, [], ◌∷◌, ◌++◌, refl, sym, ap, subst, ◌∙◌, arith}
+use Rattle.std.proofs.Common.{◌≡◌, ◌<◌, ◌≤◌, ◌⊎◌, inl, inr, Bool, true, false, cond, ltb, List, [], ◌∷◌, ◌++◌, refl, sym, ap, subst, ◌∙◌, arith}
 use Rattle.std.specs.Prelude.{Contains, All}
-use Rattle.std.proofs.lemmas.Bool.{ltb-true, ltb-false, lt-ltb, le-ltb, cases_lt}
-use Rattle.std.proofs.lemmas.List.Elements.{All-contains, All-head, All-tail, All-weaker, All-contains_itself, Contains-append_left, Contains-append_right, Contains-append_cases}
+use Rattle.std.proofs.lemmas.Bool.{ltb-true, ltb-false, lt-ltb, cases_lt}
+use Rattle.std.proofs.lemmas.List.Elements.{All-contains, All-head, All-weaker, All-contains_itself, Contains-append_left, Contains-append_right, Contains-append_cases}
 use Rattle.neg_codec.proofs.Stretches.{contains_head, contains_tail, contains_cases, contains_none, key_below, endless_above, least_below}
 use Rattle.neg_codec.specs.declared.Item.{Item}
 use Rattle.neg_codec.specs.Keys.{place, least, endless, infinity, IsKey}
-use Rattle.neg_codec.specs.Ranges.{Claim, skip, Span, Stretch, stretches, stretches_from, Lies, IsSkip, Ascends, IsEdge}
+use Rattle.neg_codec.specs.Ranges.{skip, Span, Stretch, stretches, stretches_from, Lies, IsSkip, Ascends, IsEdge}
 use Rattle.item_roll.specs.Closed.{closed_from}
-use Rattle.neg_draft.specs.Coverage.{Written, end_of, gap, passed, told_more, IsOpen, IsDraft, IsLeftOut, Covers, Tells}
+use Rattle.neg_draft.specs.Coverage.{Written, end_of, gap, passed, told_more, IsDraft, IsLeftOut, Covers, Tells}
 
 abbrev stretch_at : Item → Span → Stretch
 stretch_at lower r = record { lower = lower; upper = r.upper; claim = r.claim }

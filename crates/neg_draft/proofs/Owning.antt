@@ -1,17 +1,16 @@
 -- What a roll's own ranges tell.
-use Rattle.std.proofs.Common.{◌≡◌, ◌≢◌, ℕ, ◌<◌, ◌≤◌, ◌⊎◌, inl, inr, Bool, true, false, cond, ltb, List, [], ◌∷◌, length, refl, sym, ap, subst, ◌∙◌, arith}
+use Rattle.std.proofs.Common.{◌≡◌, ℕ, ◌<◌, ◌≤◌, inl, inr, Bool, true, false, cond, ltb, List, [], ◌∷◌, length, refl, sym, ap, subst, ◌∙◌, arith}
 use Rattle.std.specs.Prelude.{All, filter, slice_range}
-use Rattle.std.proofs.lemmas.Bool.{ltb-true, ltb-false, lt-ltb}
+use Rattle.std.proofs.lemmas.Bool.{ltb-true, ltb-false}
 use Rattle.std.proofs.lemmas.List.Elements.{All-head, All-tail, All-cons, All-nil}
-use Rattle.neg_codec.proofs.Stretches.{key_below}
 use Rattle.neg_codec.specs.declared.Id.{Id}
 use Rattle.neg_codec.specs.declared.Item.{Item}
-use Rattle.neg_codec.specs.Keys.{place, endless, infinity, IsKey}
-use Rattle.neg_codec.specs.Ranges.{skip, ids, Span, Stretch, IsSkip, Ascends, IsEdge}
+use Rattle.neg_codec.specs.Keys.{place, IsKey}
+use Rattle.neg_codec.specs.Ranges.{ids, Span, IsSkip, Ascends, IsEdge}
 use Rattle.item_roll.specs.Parts.{part, ids_of, count_below}
 use Rattle.item_roll.specs.Truth.{SameIds, IsTrueOf}
 use Rattle.item_roll.specs.Closed.{closed_from, EndsAt, IsTold, Reaches}
-use Rattle.neg_draft.specs.Coverage.{Written, end_of, told_more, Tells, Told}
+use Rattle.neg_draft.specs.Coverage.{end_of, Tells}
 use Rattle.neg_draft.proofs.Covering.{edge_low}
 
 -- no fewer items stand below a higher bound

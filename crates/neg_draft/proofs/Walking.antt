@@ -1,8 +1,11 @@
 -- The range at a place of a list of ranges.
-use Rattle.std.proofs.Common.{◌≡◌, ℕ, zero, suc, ◌+◌, ◌<◌, List, [], ◌∷◌, ◌++◌, length, map, take, drop, get_or, refl, sym, ap, ◌∙◌, arith}
+use Rattle.std.proofs.Common.{◌≡◌, ℕ, zero, suc, ◌+◌, ◌<◌, ◌≤◌, List, [], ◌∷◌, ◌++◌, length, map, take, drop, get_or, refl, sym, ap, ◌∙◌, arith}
 use Rattle.std.proofs.lemmas.List.{take_more, map-append}
 use Rattle.neg_codec.specs.declared.Range.{Range}
-use Rattle.neg_codec.specs.Ranges.{span_of}
+use Rattle.neg_codec.specs.declared.Item.{Item}
+use Rattle.neg_codec.specs.Keys.{place}
+use Rattle.neg_codec.specs.Ranges.{Span, Ascends, span_of}
+use Rattle.neg_draft.specs.Coverage.{end_of}
 
 split_there : {X : Type 0} → (xs : List X) (i : ℕ) (d : X) → i < length xs → xs ≡ take i xs ++ (get_or xs i d ∷ drop (suc i) xs)
 split_there [] i d lt = absurd (omega arith)
@@ -20,3 +23,8 @@ pub ranges_upto : (ranges : List Range) (i : ℕ) (r : Range) → i < length ran
 ranges_upto ranges i r lt is =
     ap (map span_of) (take_more ranges i r lt) ∙ map-append span_of (take i ranges) (get_or ranges i r ∷ [])
     ∙ ap (λ (x : Range). map span_of (take i ranges) ++ (span_of x ∷ [])) (sym is)
+
+-- ranges of a message stand in order
+pub ascends_after : (lower : Item) (front : List Span) (r : Span) (back : List Span) → Ascends lower (front ++ (r ∷ back)) → place (end_of lower front) ≤ place r.upper
+ascends_after lower [] r back up = up.1
+ascends_after lower (f ∷ front) r back up = ascends_after f.upper front r back up.2

@@ -11,6 +11,7 @@ use Rattle.item_roll.specs.Parts.{part, ids_of}
 use Rattle.item_roll.specs.Truth.{IsTrueOf, Meet}
 use Rattle.neg_draft.specs.Coverage.{Written, end_of, passed, Told, IsDraft, Covers}
 use Rattle.neg_draft.proofs.Covering.{covers_none, covers_passes, covers_tells, end-append, stretch_of, beyond, told_whole, skipped_left_out, left_out_skipped, passed_place}
+use Rattle.neg_draft.proofs.Walking.{ascends_after}
 use Rattle.neg_initiator.specs.Listed.{IsListed, IsUnlisted}
 use Rattle.neg_initiator.specs.Session.{IsAnswered, NotAskedAgain}
 use Rattle.neg_initiator.specs.Settled.{IsSkipped}
@@ -98,11 +99,6 @@ grown a asked answered f g lower r d one c = record {
   may = λ k key lt out. let m = c.may k key lt out in (m.0, m.1, m.2, accounts_grow a asked f g m.0.lower m.0.upper m.0.claim one.need_kept one.have_kept one.trusted_kept m.3);
   must = c.must;
 }
-
--- ranges of a message stand in order
-ascends_after : (lower : Item) (front : List Span) (r : Span) (back : List Span) → Ascends lower (front ++ (r ∷ back)) → place (end_of lower front) ≤ place r.upper
-ascends_after lower [] r back up = up.1
-ascends_after lower (f ∷ front) r back up = ascends_after f.upper front r back up.2
 
 -- one range of the reply more
 pub progress_more : (a : List Item) (asked front : List Span) (r : Span) (back : List Span) (before : List (Item × Item)) (old f g : Findings) (d new : Written)

@@ -1,19 +1,19 @@
 -- A reply, range by range of the question.
-use Rattle.std.proofs.Common.{◌≡◌, ℕ, zero, suc, ◌+◌, map, get_or, ◌<◌, ◌≤◌, ◌⊎◌, inl, inr, ltb, leb, ◌&&◌, List, [], ◌∷◌, ◌++◌, length, take, drop, refl, sym, ap, subst, ◌∙◌, arith}
-use Rattle.std.specs.Prelude.{Contains, All, filter}
+use Rattle.std.proofs.Common.{◌≡◌, ℕ, zero, suc, ◌+◌, map, get_or, ◌<◌, ◌≤◌, inl, inr, ltb, leb, ◌&&◌, List, [], ◌∷◌, ◌++◌, length, take, drop, refl, sym, ap, subst, ◌∙◌, arith}
+use Rattle.std.specs.Prelude.{Contains, filter}
 use Rattle.std.proofs.lemmas.List.{take_all, take_more, map-append}
 use Rattle.neg_codec.specs.declared.Range.{Range}
-use Rattle.neg_codec.proofs.Stretches.{one_stretch, least_below, key_below}
+use Rattle.neg_codec.proofs.Stretches.{one_stretch, key_below}
 use Rattle.neg_codec.specs.declared.Item.{Item}
-use Rattle.neg_codec.specs.Keys.{place, least, endless, infinity, IsKey}
-use Rattle.neg_codec.specs.Ranges.{Claim, skip, print, Span, Stretch, stretches, Lies, IsSkip, Ascends, span_of}
+use Rattle.neg_codec.specs.Keys.{place, least, infinity}
+use Rattle.neg_codec.specs.Ranges.{Claim, Span, Stretch, stretches, Lies, IsSkip, Ascends, span_of}
 use Rattle.item_roll.specs.Truth.{Says, IsTrueOf, Follows}
 use Rattle.item_roll.specs.Parts.{part}
-use Rattle.item_roll.specs.Closed.{closed_from}
 use Rattle.item_roll.proofs.Follow.{follows_from}
-use Rattle.neg_draft.specs.Coverage.{Written, end_of, passed, told_more, IsDraft, Covers, Tells}
-use Rattle.neg_draft.proofs.Covering.{covers_none, covers_passes, covers_tells, end-append, end_above, stretch_of, beyond, told_whole, skipped_left_out, left_out_skipped, passed_place}
-use Rattle.neg_responder.specs.Reply.{IsSame, SkipsSame, begun_at, Passes, Responds}
+use Rattle.neg_draft.specs.Coverage.{Written, end_of, passed, IsDraft, Covers}
+use Rattle.neg_draft.proofs.Covering.{covers_none, covers_passes, covers_tells, end-append, stretch_of, beyond, told_whole, skipped_left_out, left_out_skipped, passed_place}
+use Rattle.neg_draft.proofs.Walking.{ranges_at, ranges_upto, ascends_after}
+use Rattle.neg_responder.specs.Reply.{IsSame, SkipsSame, begun_at, Responds}
 
 -- a key of which the reply may say nothing: what the question says of it is true of the roll
 abbrev pub MaySkip : List Item → List Span → Item → Type 0
@@ -45,11 +45,6 @@ same_lower roll l m r e h = subst (λ (x : List Item). Says r.claim x) (part_fro
 is_same_lower : (roll : List Item) (l m : Item) (r : Span) → place l ≡ place m → IsSame roll (begun_at l r) → IsSame roll (begun_at m r)
 is_same_lower roll l m r e (inl h) = inl h
 is_same_lower roll l m r e (inr h) = inr (h.0, h.1, same_lower roll l m r e h.2)
-
--- ranges of a message stand in order
-ascends_after : (lower : Item) (front : List Span) (r : Span) (back : List Span) → Ascends lower (front ++ (r ∷ back)) → place (end_of lower front) ≤ place r.upper
-ascends_after lower [] r back up = up.1
-ascends_after lower (f ∷ front) r back up = ascends_after f.upper front r back up.2
 
 -- one range more
 pub replied_more : (roll : List Item) (front : List Span) (r : Span) (back : List Span) (d new : Written) → Ascends least (front ++ (r ∷ back)) → IsDraft d
@@ -93,23 +88,6 @@ replied_follows roll asked d up end c = (
 )
 
 -- ---- the range at a place of a list
-
-split_there : {X : Type 0} → (xs : List X) (i : ℕ) (d : X) → i < length xs → xs ≡ take i xs ++ (get_or xs i d ∷ drop (suc i) xs)
-split_there [] i d lt = absurd (omega arith)
-split_there (x ∷ xs) zero d lt = refl
-split_there {X} (x ∷ xs) (suc i) d lt = ap (λ (t : List X). x ∷ t) (split_there xs i d (omega (arith, lt)))
-
-pub ranges_at : (ranges : List Range) (i : ℕ) (r : Range) → i < length ranges → r ≡ get_or ranges i r
-    → map span_of ranges ≡ map span_of (take i ranges) ++ (span_of r ∷ map span_of (drop (suc i) ranges))
-ranges_at ranges i r lt is =
-    ap (map span_of) (split_there ranges i r lt) ∙ map-append span_of (take i ranges) (get_or ranges i r ∷ drop (suc i) ranges)
-    ∙ ap (λ (x : Range). map span_of (take i ranges) ++ (span_of x ∷ map span_of (drop (suc i) ranges))) (sym is)
-
-pub ranges_upto : (ranges : List Range) (i : ℕ) (r : Range) → i < length ranges → r ≡ get_or ranges i r
-    → map span_of (take (i + 1) ranges) ≡ map span_of (take i ranges) ++ (span_of r ∷ [])
-ranges_upto ranges i r lt is =
-    ap (map span_of) (take_more ranges i r lt) ∙ map-append span_of (take i ranges) (get_or ranges i r ∷ [])
-    ∙ ap (λ (x : Range). map span_of (take i ranges) ++ (span_of x ∷ [])) (sym is)
 
 pub replied_at : (roll : List Item) (ranges : List Range) (i : ℕ) (r : Range) (d new : Written) → i < length ranges → r ≡ get_or ranges i r → Ascends least (map span_of ranges) → IsDraft d
     → Replied roll (map span_of ranges) (map span_of (take i ranges)) d → Responds roll d (span_of r) new → Replied roll (map span_of ranges) (map span_of (take (i + 1) ranges)) new

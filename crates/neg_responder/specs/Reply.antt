@@ -1,7 +1,7 @@
 -- What a reply owes to the question beside following the roll.
-use Rattle.std.specs.Prelude.{◌≡◌, ◌≢◌, ◌⊎◌, ◌≤◌, ◌<◌, ℕ, List, [], ◌∷◌, All, Contains, Result, Ok, Err}
+use Rattle.std.specs.Prelude.{◌≡◌, ◌⊎◌, ℕ, List, Contains}
 use Rattle.neg_codec.specs.declared.Item.{Item}
-use Rattle.neg_codec.specs.Keys.{place, IsKey}
+use Rattle.neg_codec.specs.Keys.{IsKey}
 use Rattle.neg_codec.specs.Ranges.{print, Span, Stretch, stretches, Lies, IsSkip}
 use Rattle.neg_codec.specs.declared.CodecFault.{CodecFault}
 use Rattle.neg_codec.specs.declared.CodecFault.TheVariants as codec

@@ -1,4 +1,4 @@
-use Rattle.std.proofs.Common.{rules, ◌≡◌, ◌≤◌, ◌↔◌, IsTrue, ap, sym, ◌∙◌, arith, List, ℕ}
+use Rattle.std.proofs.Common.{rules, ◌≡◌, ap, sym, ◌∙◌, arith, List, ℕ}
 use Rattle.std.specs.Prelude.{slice_range}
 use Rattle.neg_codec.specs.declared.Item.{Item}
 use Rattle.neg_codec.specs.Ranges.{edge_of}

@@ -1,4 +1,4 @@
-use Rattle.std.proofs.Common.{rules, ◌≡◌, ◌≤◌, ℕ, List, length, Result, IfOk, IfErr, Ok, Err, sym, ap, subst, ◌∙◌}
+use Rattle.std.proofs.Common.{◌≡◌, ◌≤◌, ℕ, List, length, Result, Ok, Err, sym, ap, subst, ◌∙◌}
 use Rattle.std.proofs.lemmas.Result.{IfOk-weaker}
 use Rattle.neg_codec.specs.Ranges.{Span}
 use Rattle.neg_codec.specs.Text.{Spells}
@@ -7,7 +7,6 @@ use Rattle.neg_codec.specs.declared.CodecFault.{CodecFault}
 use Rattle.neg_codec.specs.declared.CodecFault.TheVariants as codec
 use Rattle.item_roll.specs.Truth.{Follows}
 use Rattle.neg_responder.specs.Reply.{SkipsSame, Refuses}
-use Rattle.neg_responder.specs.declared.answering.AnswerFault.{AnswerFault}
 use Rattle.neg_responder.specs.declared.answering.AnswerFault.TheVariants as answer_fault
 use Rattle.neg_responder.proofs.answering.answer.Goals as goal
 

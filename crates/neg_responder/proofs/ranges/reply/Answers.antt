@@ -1,8 +1,8 @@
-use Rattle.std.proofs.Common.{◌≡◌, ◌<◌, ◌≤◌, refl, sym, ap, subst, ◌∙◌, map, length, arith, rules}
-use Rattle.neg_codec.specs.Ranges.{Span, span_of, Ascends}
-use Rattle.neg_codec.specs.Keys.{least, infinity}
-use Rattle.neg_draft.specs.Coverage.{Written, passed}
-use Rattle.neg_responder.proofs.Replying.{Replied, replied_none, replied_at, ahead_at, replied_whole}
+use Rattle.std.proofs.Common.{◌≤◌, refl, map, length, arith}
+use Rattle.neg_codec.specs.Ranges.{span_of}
+use Rattle.neg_codec.specs.Keys.{infinity}
+use Rattle.neg_draft.specs.Coverage.{passed}
+use Rattle.neg_responder.proofs.Replying.{replied_none, replied_at, ahead_at, replied_whole}
 use Rattle.neg_responder.proofs.ranges.reply.Goals as goal
 
 pub loop-range-init : goal.loop-range-init

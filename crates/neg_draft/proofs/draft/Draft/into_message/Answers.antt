@@ -1,4 +1,3 @@
-use Rattle.std.proofs.Common.{◌≡◌, sym, ◌∙◌, Some, None, subst}
 use Rattle.neg_codec.proofs.Placing.{placed_if_ascends}
 use Rattle.neg_draft.proofs.draft.Draft.into_message.Goals as goal
 

@@ -1,9 +1,9 @@
-use Rattle.std.proofs.Common.{rules, refl, ap, sym, subst, ◌∙◌, ◌≡◌, ◌++◌, map, List, append_assoc}
+use Rattle.std.proofs.Common.{refl, ap, sym, subst, ◌∙◌, ◌≡◌, ◌++◌, map, List, append_assoc}
 use Rattle.std.proofs.lemmas.List.{map-append}
 use Rattle.neg_codec.specs.declared.Item.{Item}
 use Rattle.neg_codec.specs.Keys.{least}
 use Rattle.neg_codec.specs.Ranges.{Span, edge_of, span_of}
-use Rattle.neg_draft.specs.Coverage.{Written, Tells, end_of, gap, told_more, IsDraft}
+use Rattle.neg_draft.specs.Coverage.{Written, Tells, end_of, gap}
 use Rattle.neg_draft.proofs.Covering.{draft_tells, more-ends, edge_low}
 use Rattle.neg_draft.proofs.draft.Draft.tell.Goals as goal
 

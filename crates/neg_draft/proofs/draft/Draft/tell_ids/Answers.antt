@@ -1,12 +1,10 @@
-use Rattle.std.proofs.Common.{◌≡◌, ◌<◌, ◌≤◌, ℕ, ap, sym, subst, ◌∙◌, arith, map, List, [], ◌∷◌}
+use Rattle.std.proofs.Common.{◌≡◌, ◌<◌, ap, ◌∙◌, arith, List, [], ◌∷◌}
 use Rattle.std.proofs.lemmas.Result.{IfOk-weaker}
 use Rattle.neg_codec.specs.declared.Id.{Id}
-use Rattle.neg_codec.specs.declared.Item.{Item}
-use Rattle.neg_codec.specs.Keys.{place, IsKey}
-use Rattle.neg_codec.specs.Ranges.{Span, edge_of, span_of}
+use Rattle.neg_codec.specs.Keys.{place}
+use Rattle.neg_codec.specs.Ranges.{edge_of}
 use Rattle.item_roll.specs.Parts.{part, ids_of}
-use Rattle.item_roll.specs.Closed.{closed_from}
-use Rattle.neg_draft.specs.Coverage.{Written, Tells, Told, told_more}
+use Rattle.neg_draft.specs.Coverage.{Told, told_more}
 use Rattle.neg_draft.proofs.Owning.{count_up, edge_key, listed, tells_ids, ids_hold, ids_between}
 use Rattle.neg_draft.proofs.draft.Draft.tell_ids.Goals as goal
 

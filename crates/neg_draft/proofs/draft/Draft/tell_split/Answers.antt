@@ -1,14 +1,10 @@
-use Rattle.std.proofs.Common.{◌≡◌, ◌<◌, ◌≤◌, ℕ, ap, sym, subst, ◌∙◌, arith, map, List}
-use Rattle.std.specs.Prelude.{All}
+use Rattle.std.proofs.Common.{◌≡◌, ◌<◌, ℕ, ap, sym, ◌∙◌, arith, map}
 use Rattle.std.proofs.lemmas.Result.{IfOk-weaker}
-use Rattle.neg_codec.specs.declared.Item.{Item}
-use Rattle.neg_codec.specs.Keys.{place, IsKey}
-use Rattle.neg_codec.specs.Ranges.{Span, edge_of, span_of, Ascends}
-use Rattle.item_roll.specs.Closed.{closed_from}
+use Rattle.neg_codec.specs.Keys.{place}
+use Rattle.neg_codec.specs.Ranges.{edge_of, span_of}
 use Rattle.item_roll.specs.Parts.{count_below}
 use Rattle.item_roll.specs.Splits.{split_of}
-use Rattle.item_roll.specs.Truth.{IsTrueOf}
-use Rattle.neg_draft.specs.Coverage.{Written, Tells, Told, told_more}
+use Rattle.neg_draft.specs.Coverage.{Told, told_more}
 use Rattle.neg_draft.proofs.Owning.{count_up, edge_key, tells_split}
 use Rattle.neg_draft.proofs.draft.Draft.tell_split.Goals as goal
 

@@ -1,0 +1,97 @@
+//! Plans.
+
+ghost use Rattle.std.specs.Prelude.{◌≡◌, ◌<◌, Some, length, option_map};
+ghost use Rattle.std.specs.List.{slice_get};
+ghost use Rattle.sharing.specs.Offers.{beside};
+ghost use Rattle.fetch_plan.specs.Plan.{IsPlan, given_load};
+
+use crate::chains::Share;
+use neg_codec::Id;
+use offer_table::RelaySet;
+use sharing::{RELAYS, SLOTS};
+use std::cmp::Ordering;
+use std::marker::Model;
+
+/// Which relay each offered id is given to, the greatest number of ids that one relay is given, and a group of
+/// relays which shows that no sharing has less.
+#[derive(Drop)]
+pub struct Plan {
+    pub(crate) shares: Vec<Share>,
+    pub(crate) loads: [u64; SLOTS],
+    pub(crate) least_max: u64,
+    pub(crate) group: RelaySet,
+}
+
+impl Model for Plan {
+    ghost use Rattle.std.specs.Prelude.{map};
+    ghost use Rattle.fetch_plan.specs.Plan.{Planned, IsPlan};
+    ghost use Rattle.fetch_plan.specs.Trail.{gives_of, AreLoads};
+
+    ghost Value = { Planned };
+
+    ghost view = { λ p. record { gives = gives_of p.shares.items; least_max = p.least_max; group = p.group } };
+
+    ghost invariant = { λ p. IsPlan (record { gives = gives_of p.shares.items; least_max = p.least_max; group = p.group }) × AreLoads p.shares.items p.loads };
+}
+
+impl Plan {
+    /// The number of ids.
+    pub fn len(&self) -> usize
+        ensures value { result ≡ length self.now.gives }
+        ensures plan { IsPlan self.now }
+    {
+        self.shares.len()
+    }
+
+    /// The id at a place, in ascending order, and the relay that it is given to.
+    pub fn cell(&self, i: usize) -> (Id, u16)
+        requires { i < length self.now.gives }
+        ensures { slice_get self.now.gives i ≡ Some result }
+    {
+        let share = &self.shares[i];
+        (share.id, share.relay)
+    }
+
+    /// The relay that an id is given to, if it is in the plan.
+    pub fn relay_of(&self, id: &Id) -> Option<u16>
+        ensures { result ≡ beside self.now.gives id.now }
+    {
+        let mut low = 0;
+        let mut high = self.shares.len();
+        while low < high {
+            let middle = low + (high - low) / 2;
+            match id.cmp(&self.shares[middle].id) {
+                Ordering::Less => high = middle,
+                Ordering::Equal => return Some(self.shares[middle].relay),
+                Ordering::Greater => low = middle + 1,
+            }
+        }
+        None
+    }
+
+    /// The number of ids that a relay is given.
+    pub fn load(&self, relay: u16) -> u64
+        ensures { result ≡ given_load self.now.gives relay }
+    {
+        if relay < RELAYS {
+            self.loads[usize::from(relay)]
+        } else {
+            0
+        }
+    }
+
+    /// The greatest number of ids that one relay is given.
+    pub fn least_max(&self) -> u64
+        ensures { result ≡ self.now.least_max }
+    {
+        self.least_max
+    }
+
+    /// The relays that alone hold too many ids for a smaller number: those that chains of single moves reach from
+    /// the busiest relays. Empty where no id is offered.
+    pub fn group(&self) -> RelaySet
+        ensures { result ≡ self.now.group }
+    {
+        self.group
+    }
+}

@@ -1,0 +1,6 @@
+pub mod FieldTests
+pub mod Find
+pub mod Injective
+pub mod Laws
+pub mod ReadsBack
+pub mod Utf8

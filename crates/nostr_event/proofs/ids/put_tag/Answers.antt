@@ -1,0 +1,13 @@
+use Rattle.std.proofs.Common.{IsUtf8, arith}
+use Rattle.nostr_event.proofs.Utf8.{after_ascii}
+use Rattle.nostr_event.proofs.ids.put_tag.Goals as goal
+use Rattle.nostr_event.proofs.ids.put_tag.Goals.{in-Some+in_ok-put_string+in_ok-put_others, in_default}
+
+pub returns-clause-utf8 : goal.returns-clause-utf8
+returns-clause-utf8 c = λ u.
+    let begun = after_ascii _ _ 91 c.in_ok-push.ensures.items (omega arith) u in
+    let inner : IsUtf8 c.match-split_first.out.items = elim c.match-split_first.branch [
+      | in-Some+in_ok-put_string+in_ok-put_others w ↦ rw w.out-is (w.in_ok-put_others.ensures.utf8 (w.in_ok-put_string.ensures.utf8 begun))
+      | in_default w ↦ rw w.out-is begun
+    ] in
+    after_ascii _ _ 93 c.in_ok-push-2.ensures.items (omega arith) inner

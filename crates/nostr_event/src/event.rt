@@ -1,0 +1,94 @@
+// Events whose ids are right.
+ghost use Rattle.std.specs.Prelude.{◌≡◌, ◌<◌, IfOk, IfSome, None, IsTrue, ◌↔◌};
+ghost use Rattle.neg_codec.specs.Keys.{endless};
+ghost use Rattle.nostr_event.specs.EventView.{IsIdOf, IsInRange, IsEvent, item_of};
+
+use crate::draft::{Draft, Spelling};
+use crate::ids::id_of;
+use neg_codec::{Id, Item};
+use std::alloc::{AllocError, Global};
+use std::marker::Model;
+
+/// An event: its id is the digest of one of the two spellings of its draft's text, and its time is below 2^64-1. The signature
+/// isn't checked.
+#[derive(Debug, Drop)]
+pub struct Event {
+    id: Id,
+    draft: Draft,
+    sig: [u8; 64],
+}
+
+impl Model for Event {
+    ghost use Rattle.nostr_event.specs.EventView.{EventView, IsEvent};
+
+    ghost Value = { EventView };
+
+    ghost view = { λ e. record { id = e.id; draft = e.draft; sig = e.sig } };
+
+    ghost invariant = { λ e. IsEvent (record { id = e.id; draft = e.draft; sig = e.sig }) };
+}
+
+impl Event {
+    /// The event's id.
+    pub fn id(&self) -> Id
+        ensures value { result ≡ self.now.id }
+        ensures right { IsIdOf self.now.id self.now.draft }
+        ensures whole { IsEvent self.now }
+    {
+        self.id
+    }
+
+    /// What the event says.
+    pub fn draft(&self) -> &Draft
+        ensures { result.now ≡ self.now.draft }
+    {
+        &self.draft
+    }
+
+    /// The signature, which was never checked.
+    pub fn sig(&self) -> &[u8; 64]
+        ensures { result.now ≡ self.now.sig }
+    {
+        &self.sig
+    }
+
+    /// The event's time and id.
+    pub fn item(&self) -> Item
+        ensures value { result ≡ item_of self.now }
+        ensures finite { result.time < endless }
+    {
+        let Event { id, draft, .. } = self;
+        Item {
+            time: draft.created_at,
+            id: *id,
+        }
+    }
+}
+
+// Whether the id is the draft's in one of its two spellings.
+fn is_id_of(alloc: Global, id: &Id, draft: &Draft) -> Result<bool, AllocError>
+    ensures { IfOk result (λ b. IsTrue b ↔ IsIdOf id.now draft.now) }
+{
+    Ok(
+        *id == id_of(alloc, draft, Spelling::Plain)?
+            || *id == id_of(alloc, draft, Spelling::Escaped)?,
+    )
+}
+
+// The event of these parts, if the id is the draft's.
+pub fn checked(
+    alloc: Global,
+    id: Id,
+    draft: Draft,
+    sig: [u8; 64],
+) -> Result<Option<Event>, AllocError>
+    requires { IsInRange (record { id = id; draft = draft; sig = sig }) }
+    ensures made { IfOk result (λ o. IfSome o (λ e. (e ≡ record { id = id; draft = draft; sig = sig }) × IsIdOf id draft)) }
+    ensures refused { IfOk result (λ o. o ≡ None → ¬ IsIdOf id draft) }
+{
+    if is_id_of(alloc, &id, &draft)? {
+        Ok(Some(Event { id, draft, sig }))
+    } else {
+        Ok(None)
+    }
+}

@@ -1,0 +1,174 @@
+// The text of a draft, and the digest of it that is an event's id.
+ghost use Rattle.std.specs.Prelude.{◌≡◌, ◌<◌, ◌∷◌, ◌++◌, flat_map, OnOk, IfOk, string_bytes, decimal};
+ghost use Rattle.std.specs.Char.{digit_char};
+ghost use Rattle.std.specs.Str.{IsUtf8};
+ghost use Rattle.sha2.specs.Sha256.{sha256};
+ghost use Rattle.nostr_event.specs.IdText.{escape_letter, byte_text, string_text, tag_text, tags_text, id_text_of};
+
+use crate::draft::{Draft, Spelling};
+use crate::texts::{Tag, Tags, Text};
+use itoa::Buffer;
+use neg_codec::Id;
+use sha2::{Digest, Sha256};
+use std::alloc::{AllocError, Global};
+
+// The letter of the byte's short escape.
+fn letter_of(byte: u8) -> Option<u8>
+    ensures { result ≡ escape_letter byte }
+{
+    match byte {
+        b'\n' => Some(b'n'),
+        b'"' | b'\\' => Some(byte),
+        b'\r' => Some(b'r'),
+        b'\t' => Some(b't'),
+        8 => Some(b'b'),
+        12 => Some(b'f'),
+        _ => None,
+    }
+}
+
+// The lower-case hexadecimal digit.
+fn digit_of(value: u8) -> u8
+    requires { value < 16 }
+    ensures { result ≡ digit_char value }
+{
+    if value < 10 {
+        b'0' + value
+    } else {
+        b'a' + (value - 10)
+    }
+}
+
+#[tactic(auto, unfolding(crate::specs::IdText::byte_text))]
+fn put_byte(out: &mut Vec<u8>, byte: u8, spelling: Spelling) -> Result<(), AllocError>
+    ensures { OnOk result (out.new.items ≡ out.old.items ++ byte_text spelling byte) }
+{
+    if let Some(letter) = letter_of(byte) {
+        return out.extend_from_slice(&[b'\\', letter]);
+    }
+    if byte >= 32 {
+        out.push(byte)?;
+        return Ok(());
+    }
+    match spelling {
+        Spelling::Plain => {
+            out.push(byte)?;
+            Ok(())
+        }
+        Spelling::Escaped => {
+            let high = digit_of(byte / 16);
+            let low = digit_of(byte % 16);
+            out.extend_from_slice(&[b'\\', b'u', b'0', b'0', high, low])
+        }
+    }
+}
+
+fn put_string(out: &mut Vec<u8>, text: &str, spelling: Spelling) -> Result<(), AllocError>
+    ensures text { OnOk result (out.new.items ≡ out.old.items ++ string_text spelling text.now) }
+    ensures utf8 { OnOk result (IsUtf8 out.old.items → IsUtf8 out.new.items) }
+{
+    let bytes = text.as_bytes();
+    out.push(b'"')?;
+    for byte in bytes {
+        put_byte(out, *byte, spelling)?;
+    }
+    out.push(b'"')?;
+    Ok(())
+}
+
+fn put_others(out: &mut Vec<u8>, values: &[Text], spelling: Spelling) -> Result<(), AllocError>
+    ensures text { OnOk result (out.new.items
+        ≡ out.old.items ++ flat_map (λ v. 44 ∷ string_text spelling v) values.now) }
+    ensures utf8 { OnOk result (IsUtf8 out.old.items → IsUtf8 out.new.items) }
+{
+    for value in values {
+        out.push(b',')?;
+        put_string(out, value.as_str(), spelling)?;
+    }
+    Ok(())
+}
+
+fn put_tag(out: &mut Vec<u8>, tag: &Tag, spelling: Spelling) -> Result<(), AllocError>
+    ensures text { OnOk result (out.new.items ≡ out.old.items ++ tag_text spelling tag.now) }
+    ensures utf8 { OnOk result (IsUtf8 out.old.items → IsUtf8 out.new.items) }
+{
+    out.push(b'[')?;
+    if let Some((first, others)) = tag.texts().split_first() {
+        put_string(out, first.as_str(), spelling)?;
+        put_others(out, others, spelling)?;
+    }
+    out.push(b']')?;
+    Ok(())
+}
+
+fn put_other_tags(out: &mut Vec<u8>, tags: &[Tag], spelling: Spelling) -> Result<(), AllocError>
+    ensures text { OnOk result (out.new.items
+        ≡ out.old.items ++ flat_map (λ v. 44 ∷ tag_text spelling v) tags.now) }
+    ensures utf8 { OnOk result (IsUtf8 out.old.items → IsUtf8 out.new.items) }
+{
+    for tag in tags {
+        out.push(b',')?;
+        put_tag(out, tag, spelling)?;
+    }
+    Ok(())
+}
+
+fn put_tags(out: &mut Vec<u8>, tags: &Tags, spelling: Spelling) -> Result<(), AllocError>
+    ensures text { OnOk result (out.new.items ≡ out.old.items ++ tags_text spelling tags.now) }
+    ensures utf8 { OnOk result (IsUtf8 out.old.items → IsUtf8 out.new.items) }
+{
+    out.push(b'[')?;
+    if let Some((first, others)) = tags.as_slice().split_first() {
+        put_tag(out, first, spelling)?;
+        put_other_tags(out, others, spelling)?;
+    }
+    out.push(b']')?;
+    Ok(())
+}
+
+// A comma, and then the number.
+fn put_number(out: &mut Vec<u8>, number: u64) -> Result<(), AllocError>
+    ensures text { OnOk result (out.new.items ≡ out.old.items ++ 44 ∷ decimal number) }
+    ensures utf8 { OnOk result (IsUtf8 out.old.items → IsUtf8 out.new.items) }
+{
+    let mut buffer = Buffer::new();
+    out.push(b',')?;
+    out.extend_from_slice(buffer.format(number).as_bytes())?;
+    Ok(())
+}
+
+fn id_bytes(alloc: Global, draft: &Draft, spelling: Spelling) -> Result<Vec<u8>, AllocError>
+    ensures text { IfOk result (λ v. v.items ≡ id_text_of spelling draft.now) }
+    ensures utf8 { IfOk result (λ v. IsUtf8 v.items) }
+{
+    let mut out = Vec::from_slice(alloc, b"[0,")?;
+    let pubkey = hex::encode(alloc, draft.pubkey.as_slice())?;
+    put_string(&mut out, pubkey.as_str(), spelling)?;
+    put_number(&mut out, draft.created_at)?;
+    put_number(&mut out, u64::from(draft.kind))?;
+    out.push(b',')?;
+    put_tags(&mut out, &draft.tags, spelling)?;
+    out.push(b',')?;
+    put_string(&mut out, draft.content.as_str(), spelling)?;
+    out.push(b']')?;
+    Ok(out)
+}
+
+/// The text whose digest is the draft's id, in one of its two spellings.
+pub fn id_text(alloc: Global, draft: &Draft, spelling: Spelling) -> Result<String, AllocError>
+    ensures { IfOk result (λ t. string_bytes t ≡ id_text_of spelling draft.now) }
+{
+    let bytes = id_bytes(alloc, draft, spelling)?;
+    match String::from_utf8(bytes) {
+        Ok(text) => Ok(text),
+        Err(_) => unreachable!(),
+    }
+}
+
+/// The draft's id, by one of the two spellings of its text.
+pub fn id_of(alloc: Global, draft: &Draft, spelling: Spelling) -> Result<Id, AllocError>
+    ensures { IfOk result (λ id. id.0 ≡ sha256 (id_text_of spelling draft.now)) }
+{
+    let bytes = id_bytes(alloc, draft, spelling)?;
+    Ok(Id(Sha256::digest(bytes.as_slice())))
+}

@@ -1,0 +1,403 @@
+// Tests against values from outside: Python's json and hashlib.
+mod vectors;
+
+use crate::tests::vectors::VECTORS;
+use crate::{
+    Draft, Event, EventFault, EventField, Spelling, Tag, Tags, Text, bytes32_of, id_of, id_text,
+};
+use neg_codec::{Id, Item};
+use serde_json::Value;
+use sha2::{Digest, Sha256};
+use std::alloc::Global;
+use std::process::Abort;
+use std::test::Fail;
+
+const SIG: &str =
+    "5a5a5a5a5a5a5a5a5a5a5a5a5a5a5a5a5a5a5a5a5a5a5a5a5a5a5a5a5a5a5a5a5a5a5a5a5a5a5a5a5a5a5a5a5a5a5a5a5a5a5a5a5a5a5a5a5a5a5a5a5a5a5a5a";
+
+// A draft of 64 digits 1, time 1, kind 1, no tags and the content U+0001.
+const CONTROL: &str =
+    r#"{"id":"b605b1b0cf3fe0d2fae20e93f2d1793d353a69b4b7200eb8335f9d39ec0e07fe","pubkey":"1111111111111111111111111111111111111111111111111111111111111111","created_at":1,"kind":1,"tags":[],"content":"\u0001","sig":"5a5a5a5a5a5a5a5a5a5a5a5a5a5a5a5a5a5a5a5a5a5a5a5a5a5a5a5a5a5a5a5a5a5a5a5a5a5a5a5a5a5a5a5a5a5a5a5a5a5a5a5a5a5a5a5a5a5a5a5a5a5a5a5a"}"#;
+
+const CONTROL_PLAIN: &str = "b605b1b0cf3fe0d2fae20e93f2d1793d353a69b4b7200eb8335f9d39ec0e07fe";
+
+const CONTROL_ESCAPED: &str = "a8a0f9c47f7408e0300857ef761bfebc607877f2eb0b7b91eb85e7d7ca514fa7";
+
+// What stands in place of the first match in CONTROL, and the fault that the event then has.
+static FAULTS: [(&str, &str, EventFault); 25] = [
+    (CONTROL, "[]", EventFault::Shape(EventField::Object)),
+    (CONTROL, "{}", EventFault::Shape(EventField::Id)),
+    (
+        "\"id\":\"b",
+        "\"ID\":\"b",
+        EventFault::Shape(EventField::Id),
+    ),
+    (
+        "\"pubkey\":\"",
+        "\"pubkey\":1,\"x\":\"",
+        EventFault::Shape(EventField::Pubkey),
+    ),
+    (
+        "\"created_at\":1",
+        "\"created_at\":\"1\"",
+        EventFault::Shape(EventField::CreatedAt),
+    ),
+    (
+        "\"kind\":1",
+        "\"kind\":null",
+        EventFault::Shape(EventField::Kind),
+    ),
+    ("[]", "[[\"a\",1]]", EventFault::Shape(EventField::Tags)),
+    ("[]", "[\"a\"]", EventFault::Shape(EventField::Tags)),
+    (
+        "\"\\u0001\"",
+        "true",
+        EventFault::Shape(EventField::Content),
+    ),
+    (
+        ",\"sig\":\"",
+        ",\"x\":\"",
+        EventFault::Shape(EventField::Sig),
+    ),
+    (
+        "\"id\":\"b605",
+        "\"id\":\"B605",
+        EventFault::Hex(EventField::Id),
+    ),
+    (
+        "\"id\":\"b605",
+        "\"id\":\"605",
+        EventFault::Hex(EventField::Id),
+    ),
+    (
+        "\"pubkey\":\"1",
+        "\"pubkey\":\"g",
+        EventFault::Hex(EventField::Pubkey),
+    ),
+    (
+        "\"sig\":\"5a",
+        "\"sig\":\"5a5a",
+        EventFault::Hex(EventField::Sig),
+    ),
+    (
+        "\"sig\":\"5a",
+        "\"sig\":\"5A",
+        EventFault::Hex(EventField::Sig),
+    ),
+    (
+        "\"created_at\":1",
+        "\"created_at\":18446744073709551615",
+        EventFault::Range(EventField::CreatedAt),
+    ),
+    (
+        "\"created_at\":1",
+        "\"created_at\":18446744073709551616",
+        EventFault::Range(EventField::CreatedAt),
+    ),
+    (
+        "\"created_at\":1",
+        "\"created_at\":-1",
+        EventFault::Range(EventField::CreatedAt),
+    ),
+    (
+        "\"created_at\":1",
+        "\"created_at\":1.0",
+        EventFault::Range(EventField::CreatedAt),
+    ),
+    (
+        "\"created_at\":1",
+        "\"created_at\":1e0",
+        EventFault::Range(EventField::CreatedAt),
+    ),
+    (
+        "\"kind\":1",
+        "\"kind\":65536",
+        EventFault::Range(EventField::Kind),
+    ),
+    (
+        "\"kind\":1",
+        "\"kind\":-0",
+        EventFault::Range(EventField::Kind),
+    ),
+    ("\"kind\":1", "\"kind\":2", EventFault::WrongId),
+    ("\\u0001", "", EventFault::WrongId),
+    ("\"tags\":[]", "\"tags\":[[]]", EventFault::WrongId),
+];
+
+// What stands in place of the first match in CONTROL, and whether that is JSON.
+static TEXTS: [(&str, &str, bool); 16] = [
+    // lone surrogates
+    ("\\u0001", "\\ud83e", false),
+    ("\\u0001", "\\udd80", false),
+    ("\\u0001", "\\ud83ex", false),
+    ("\\u0001", "\\ud83e\\udd80", true),
+    // raw control characters, unknown escapes
+    ("\\u0001", "\u{1}", false),
+    ("\\u0001", "\\x01", false),
+    ("\\u0001", "\u{7f}", true),
+    // numbers
+    ("\"kind\":1", "\"kind\":01", false),
+    ("\"kind\":1", "\"kind\":+1", false),
+    ("\"kind\":1", "\"kind\":.5", false),
+    ("\"kind\":1", "\"kind\":1e400", false),
+    ("\"kind\":1", "\"kind\":1e300", true),
+    (
+        "\"kind\":1",
+        "\"kind\":123456789012345678901234567890",
+        true,
+    ),
+    // what follows the object
+    ("}", "}}", false),
+    ("}", "} \n", true),
+    ("}", ",}", false),
+];
+
+fn parsed(alloc: Global, text: &str) -> Result<Value, Fail> {
+    Ok(Value::from_str(alloc, text).ok().ok_or("no JSON")?)
+}
+
+fn read(alloc: Global, text: &str) -> Result<Event, Fail> {
+    let value = parsed(alloc, text)?;
+    Ok(Event::from_json(alloc, &value).ok().ok_or("no event")?)
+}
+
+fn fault_of(alloc: Global, text: &str) -> Result<Option<EventFault>, Fail> {
+    let value = parsed(alloc, text)?;
+    Ok(Event::from_json(alloc, &value).err())
+}
+
+fn written(alloc: Global, event: &Event) -> Result<String, Fail> {
+    Ok(event.to_json(alloc)?.to_string(alloc)?)
+}
+
+fn whole(alloc: Global, members: &str, id: &str) -> Result<String, Fail> {
+    Ok(format!(in alloc; "{{{members},\"id\":\"{id}\",\"sig\":\"{SIG}\"}}")?)
+}
+
+// An event with that id of its draft is read, and the id's text has that length.
+fn check_id(
+    rt: &(impl AllocGlobal + Abort),
+    members: &str,
+    hex: &str,
+    spelling: Spelling,
+    len: usize,
+) -> Result<(), Fail> {
+    let alloc = rt.alloc();
+    let event = read(alloc, whole(alloc, members, hex)?.as_str())?;
+    let id = id_of(alloc, event.draft(), spelling)?;
+    assert!(rt; event.id() == id);
+    assert!(rt; bytes32_of(hex) == Some(id.0));
+    assert_eq!(rt; id_text(alloc, event.draft(), spelling)?.len(), len);
+    Ok(())
+}
+
+// What is written of the event reads as an event of its time and id.
+fn check_written(rt: &(impl AllocGlobal + Abort), members: &str, hex: &str) -> Result<(), Fail> {
+    let alloc = rt.alloc();
+    let event = read(alloc, whole(alloc, members, hex)?.as_str())?;
+    let again = read(alloc, written(alloc, &event)?.as_str())?;
+    assert!(rt; again.item() == event.item());
+    Ok(())
+}
+
+// With another last digit the id is wrong.
+fn check_wrong(rt: &(impl AllocGlobal + Abort), members: &str, hex: &str) -> Result<(), Fail> {
+    let alloc = rt.alloc();
+    let last = if hex.as_bytes().ends_with(b"0") {
+        "1"
+    } else {
+        "0"
+    };
+    let front = hex.get(..63).ok_or("too short")?;
+    let wrong = format!(in alloc; "{front}{last}")?;
+    let text = whole(alloc, members, wrong.as_str())?;
+    assert_eq!(rt; fault_of(alloc, text.as_str())?, Some(EventFault::WrongId));
+    Ok(())
+}
+
+fn check_event(
+    rt: &(impl AllocGlobal + Abort),
+    members: &str,
+    plain: &str,
+    escaped: &str,
+    lengths: (usize, usize),
+) -> Result<(), Fail> {
+    check_id(rt, members, plain, Spelling::Plain, lengths.0)?;
+    check_id(rt, members, escaped, Spelling::Escaped, lengths.1)?;
+    check_written(rt, members, plain)?;
+    check_wrong(rt, members, plain)
+}
+
+#[test]
+fn events_from_outside(rt: HostRuntime) -> Result<(), Fail> {
+    for vector in &VECTORS {
+        check_event(
+            &rt,
+            vector.draft,
+            vector.plain,
+            vector.escaped,
+            vector.lengths,
+        )?;
+    }
+    Ok(())
+}
+
+#[test]
+fn texts_as_python_writes_them(rt: HostRuntime) -> Result<(), Fail> {
+    let alloc = rt.alloc();
+    for vector in &VECTORS {
+        let event = read(alloc, whole(alloc, vector.draft, vector.plain)?.as_str())?;
+        let digest = Sha256::digest(written(alloc, &event)?.as_bytes());
+        assert!(rt; bytes32_of(vector.written) == Some(digest));
+    }
+    Ok(())
+}
+
+#[test]
+fn a_large_event(rt: HostRuntime) -> Result<(), Fail> {
+    let alloc = rt.alloc();
+    let content = "All work and no play \\u2014 \\\"quoted\\\"\\n\\u0007".repeat(alloc, 4000)?;
+    let members = format!(in alloc;
+        "\"pubkey\":\"2bd806c97f0e00af1a1fc3328fa763a9269723c8db8fac4f93af71db186d6e90\",\"created_at\":1700000009,\"kind\":1,\"tags\":[[\"e\",\"d35c416a85b807e9b5384915d6ebb4a9f7352713efd89857b45a242f473728a9\"]],\"content\":\"{}\"",
+        content.as_str()
+    )?;
+    check_event(
+        &rt,
+        members.as_str(),
+        "e7b3c7c09a576379cbb80ad3f04511a06956591403841821df25f1b2c250f6f0",
+        "66c3221996b1c1b2e314380aa1870e98c848a637b5f64780d08c0ebf1131ad89",
+        (152161, 172161),
+    )
+}
+
+// The worked draft: 64 digits 1, time 1, kind 1, no tags, the content U+0001.
+fn control_draft(alloc: Global, tags: Tags) -> Result<Draft, Fail> {
+    Ok(Draft {
+        pubkey: [0x11; 32],
+        created_at: 1,
+        kind: 1,
+        tags,
+        content: Text::new(String::from_str(alloc, "\u{1}")?),
+    })
+}
+
+#[test]
+fn a_control_character(rt: HostRuntime) -> Result<(), Fail> {
+    let alloc = rt.alloc();
+    let draft = control_draft(alloc, Tags::new(Vec::new(alloc)))?;
+    let plain = id_text(alloc, &draft, Spelling::Plain)?;
+    let escaped = id_text(alloc, &draft, Spelling::Escaped)?;
+    assert_eq!(rt; plain.len(), 81);
+    assert_eq!(rt; escaped.len(), 86);
+    assert!(rt; plain.as_str().ends_with("1\",1,1,[],\"\u{1}\"]"));
+    assert!(rt; escaped.as_str().ends_with("1\",1,1,[],\"\\u0001\"]"));
+    assert!(rt; bytes32_of(CONTROL_PLAIN) == Some(id_of(alloc, &draft, Spelling::Plain)?.0));
+    assert!(rt; bytes32_of(CONTROL_ESCAPED) == Some(id_of(alloc, &draft, Spelling::Escaped)?.0));
+    Ok(())
+}
+
+#[test]
+fn tags_of_a_draft(rt: HostRuntime) -> Result<(), Fail> {
+    let alloc = rt.alloc();
+    let mut texts = Vec::new(alloc);
+    texts.push(Text::new(String::from_str(alloc, "t")?))?;
+    let mut tags = Vec::new(alloc);
+    tags.push(Tag::new(texts))?;
+    let draft = control_draft(alloc, Tags::new(tags))?;
+    assert!(rt;
+        id_text(alloc, &draft, Spelling::Plain)?
+            .as_str()
+            .ends_with(",[[\"t\"]],\"\u{1}\"]")
+    );
+    for tag in draft.tags.into_vec() {
+        for text in tag.into_vec() {
+            assert_eq!(rt; text.into_string().as_str(), "t");
+        }
+    }
+    Ok(())
+}
+
+#[test]
+fn parts_of_an_event(rt: HostRuntime) -> Result<(), Fail> {
+    let event = read(rt.alloc(), CONTROL)?;
+    let id = Id(bytes32_of(CONTROL_PLAIN).ok_or("no id")?);
+    assert!(rt; event.id() == id);
+    assert!(rt; event.item() == Item { time: 1, id });
+    assert!(rt; *event.sig() == [0x5a; 64]);
+    assert!(rt; event.draft().pubkey == [0x11; 32]);
+    assert_eq!(rt; event.draft().kind, 1);
+    assert!(rt; event.draft().tags.as_slice().is_empty());
+    assert_eq!(rt; event.draft().content.as_str(), "\u{1}");
+    Ok(())
+}
+
+// The fault of CONTROL with `to` in place of the first `from`.
+fn fault_after(alloc: Global, from: &str, to: &str) -> Result<Option<EventFault>, Fail> {
+    let text = CONTROL.replacen(alloc, from, to, 1)?;
+    fault_of(alloc, text.as_str())
+}
+
+#[test]
+fn one_fault(rt: HostRuntime) -> Result<(), Fail> {
+    for (from, to, fault) in &FAULTS {
+        assert_eq!(rt;
+            fault_after(rt.alloc(), *from, *to)?,
+            Some(*fault),
+            "{from} {to}"
+        );
+    }
+    Ok(())
+}
+
+// All shapes come before all digits, and these before all ranges.
+#[test]
+fn the_first_fault(rt: HostRuntime) -> Result<(), Fail> {
+    let alloc = rt.alloc();
+    let digits = CONTROL.replacen(alloc, "b605", "B605", 1)?;
+    let both = digits.replacen(alloc, "\"kind\":1", "\"kind\":65536", 1)?;
+    assert_eq!(rt;
+        fault_of(alloc, both.as_str())?,
+        Some(EventFault::Hex(EventField::Id))
+    );
+    let all = both.replacen(alloc, "\"sig\"", "\"gis\"", 1)?;
+    assert_eq!(rt;
+        fault_of(alloc, all.as_str())?,
+        Some(EventFault::Shape(EventField::Sig))
+    );
+    Ok(())
+}
+
+// Unknown fields are passed over, of a key that comes twice the last value stays, and an escape spells its character.
+#[test]
+fn other_members(rt: HostRuntime) -> Result<(), Fail> {
+    let alloc = rt.alloc();
+    let kind = "\"kind\":1";
+    assert_eq!(rt;
+        fault_after(
+            alloc,
+            kind,
+            "\"kind\":{\"a\":[1.5,-3]},\"ok\":null,\"kind\":1"
+        )?,
+        None
+    );
+    assert_eq!(rt;
+        fault_after(alloc, kind, "\"kind\":1,\"kind\":2")?,
+        Some(EventFault::WrongId)
+    );
+    assert_eq!(rt; fault_after(alloc, "\"id\"", "\"\\u0069d\"")?, None);
+    Ok(())
+}
+
+#[test]
+fn what_is_json(rt: HostRuntime) -> Result<(), Fail> {
+    let alloc = rt.alloc();
+    for (from, to, good) in &TEXTS {
+        let text = CONTROL.replacen(alloc, *from, *to, 1)?;
+        assert_eq!(rt;
+            Value::from_str(alloc, text.as_str()).is_ok(),
+            *good,
+            "{from} {to}"
+        );
+    }
+    Ok(())
+}

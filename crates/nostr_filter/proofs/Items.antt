@@ -1,0 +1,51 @@
+-- Items of JSON arrays that read as one thing each.
+use Rattle.std.proofs.Common.{◌≡◌, ℕ, zero, suc, ◌<◌, ◌^◌, List, [], ◌∷◌, length, get_or, map, Option, None, Some, option_map, option_and_then, All, nat_lt, true, refl, ap, ◌∙◌, arith}
+use Rattle.std.proofs.lemmas.List.{get_or-map, length-map}
+use Rattle.std.proofs.lemmas.List.Elements.{All-head, All-tail}
+use Rattle.std.proofs.lemmas.Bool.{lt-ltb}
+use Rattle.hex.specs.Hex.{encode_lower}
+use Rattle.serde_json.specs.Data.{Data}
+use Rattle.serde_json.specs.View.{view, items_view}
+use Rattle.serde_json.specs.declared.value.Value.{Value}
+use Rattle.nostr_event.specs.EventView.{IsBytesOf}
+use Rattle.nostr_filter.specs.FilterJson.{each_item, texts_of, texts_data, kinds_of, kinds_data, hex_texts, hex_data}
+
+pub each_some : {X : Type 0} (p : Data → Option X) (vs : List Value) (xs : List X) → map (λ v. p (view v)) vs ≡ map Some xs → each_item p (items_view vs) ≡ Some xs
+each_some p [] [] e = refl
+each_some p [] (x ∷ xs) e = cc
+each_some p (v ∷ vs) [] e = cc
+each_some p (v ∷ vs) (x ∷ xs) e =
+    let head : p (view v) ≡ Some x = cc in
+    let tail : map (λ w. p (view w)) vs ≡ map Some xs = cc in
+    rw (head, each_some p vs xs tail) refl
+
+none_after : {X : Type 0} (o : Option X) → option_and_then (λ x. option_map (λ (xs : List X). x ∷ xs) None) o ≡ None
+none_after None = refl
+none_after (Some x) = refl
+
+pub each_none : {X : Type 0} (p : Data → Option X) (vs : List Value) (i : ℕ) (d : Value) → i < length vs → p (view (get_or vs i d)) ≡ None → each_item p (items_view vs) ≡ None
+each_none p [] i d below h = absurd (omega arith)
+each_none p (v ∷ vs) zero d below h = rw h refl
+each_none p (v ∷ vs) (suc i) d below h = rw (each_none p vs i d (omega arith) h) (none_after (p (view v)))
+
+pub texts_back : (texts : List (List ℕ)) → texts_of (texts_data texts) ≡ Some texts
+texts_back [] = refl
+texts_back (t ∷ ts) = ap (option_map (λ xs. t ∷ xs)) (texts_back ts)
+
+pub hex_back : (values : List (List ℕ)) → texts_of (hex_data values) ≡ Some (hex_texts values)
+hex_back [] = refl
+hex_back (v ∷ vs) = ap (option_map (λ xs. encode_lower v ∷ xs)) (hex_back vs)
+
+pub kinds_back : (kinds : List ℕ) → All (λ k. k < 2 ^ 16) kinds → kinds_of (kinds_data kinds) ≡ Some kinds
+kinds_back [] h = refl
+kinds_back (k ∷ ks) h =
+    let fits : k < 65536 = All-head (λ n. n < 2 ^ 16) k ks h in
+    let test : nat_lt k 65536 ≡ true = lt-ltb k 65536 fits in
+    rw (test, kinds_back ks (All-tail (λ n. n < 2 ^ 16) k ks h)) refl
+
+pub not_hex : (texts : List (List ℕ)) (i : ℕ) (d : List ℕ) → i < length texts → ((b : List ℕ) → IsBytesOf 32 b → ¬ (get_or texts i d ≡ encode_lower b))
+    → (values : List (List ℕ)) → All (IsBytesOf 32) values → ¬ (texts ≡ hex_texts values)
+not_hex texts i d below none values all = λ same.
+    let long : length texts ≡ length values = ap length same ∙ length-map values encode_lower in
+    let at : get_or texts i d ≡ encode_lower (get_or values i []) = ap (λ ts. get_or ts i d) same ∙ get_or-map encode_lower values i [] d (omega arith) in
+    none (get_or values i []) (all i [] (omega arith)) at

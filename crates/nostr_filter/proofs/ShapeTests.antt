@@ -1,0 +1,34 @@
+-- From what was read to what the tests of the shapes say.
+use Rattle.std.proofs.Common.{◌≡◌, ◌⊎◌, inl, inr, ℕ, true, List, Option, None, Some, is_some, option_map, refl, ap, ◌∙◌}
+use Rattle.serde_json.specs.Data.{Data}
+use Rattle.serde_json.specs.Find.{as_object}
+use Rattle.nostr_filter.specs.declared.fault.FilterField.{FilterField}
+use Rattle.nostr_filter.specs.declared.fault.FilterFault.{FilterFault}
+use Rattle.nostr_filter.specs.declared.fault.FilterFault.TheVariants.{Shape, Memory}
+use Rattle.nostr_filter.specs.declared.reading.Shapes.{Shapes}
+use Rattle.nostr_filter.specs.Tags.{letters}
+use Rattle.nostr_filter.specs.FilterJson.{HasShapes, IsHexAt, All32, Refuses, field, texts_of, hex_texts, first_failing, tag_tests, named_tests, shape_tests}
+use Rattle.nostr_filter.proofs.TagReading.{read_passes, failing_later, failing_earlier}
+
+pub refuse_or : (d : Data) (e : FilterFault) (f : FilterField) (P : Type 0) → (e ≡ Memory) ⊎ ((e ≡ Shape f) × P) → (P → first_failing (shape_tests d) ≡ Some f) → Refuses d e
+refuse_or d e f P (inl memory) shows = rw memory tt
+refuse_or d e f P (inr h) shows = rw (h.0) (shows h.1)
+
+pub tags_refuse : (d : Data) (f : FilterField) → is_some (as_object d) ≡ true → first_failing (tag_tests letters d) ≡ Some f → first_failing (shape_tests d) ≡ Some f
+tags_refuse d f object fails = rw object (failing_earlier (tag_tests letters d) (named_tests d) f fails)
+
+pub named_refuse : (d : Data) (f : Option FilterField) → is_some (as_object d) ≡ true → first_failing (tag_tests letters d) ≡ None → first_failing (named_tests d) ≡ f → first_failing (shape_tests d) ≡ f
+named_refuse d f object passed fails = rw object (failing_later (tag_tests letters d) (named_tests d) passed ∙ fails)
+
+pub shapes_pass : (d : Data) (s : Shapes) → HasShapes d s → first_failing (shape_tests d) ≡ None
+shapes_pass d s h =
+    named_refuse d None h.object (read_passes letters d s.tags h.tags) (rw (h.authors, h.ids, h.kinds, h.limit, h.since, h.until) refl)
+
+pub not_hex_at : (name : List ℕ) (d : Data) (texts : Option (List (List ℕ))) → field texts_of name d ≡ Some texts
+    → ((values : Option (List (List ℕ))) → All32 values → ¬ (texts ≡ option_map hex_texts values)) → ¬ IsHexAt name d
+not_hex_at name d texts found none = λ h.
+    let is : texts ≡ option_map hex_texts h.0 = cc in
+    none h.0 h.1 is
+
+pub hex_at : (name : List ℕ) (d : Data) (texts values : Option (List (List ℕ))) → field texts_of name d ≡ Some texts → texts ≡ option_map hex_texts values → All32 values → IsHexAt name d
+hex_at name d texts values found is all = (values, all, found ∙ ap Some is)

@@ -1,0 +1,4 @@
+pub mod Tags
+pub mod Matching
+pub mod Choice
+pub mod FilterJson

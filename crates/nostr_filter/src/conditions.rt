@@ -1,0 +1,179 @@
+// The lists of a filter's conditions, which contracts see as lists.
+ghost use Rattle.std.specs.Prelude.{◌≡◌, List, ℕ, true, IfOk, IfErr, IsTrue, ◌↔◌};
+
+use crate::letters::is_in_order;
+use nostr_event::Text;
+use std::marker::Model;
+
+/// 32-byte values, as event ids or public keys, seen as the list of their bytes.
+#[derive(Debug, Drop)]
+pub struct Bytes32List {
+    values: Vec<[u8; 32]>,
+}
+
+impl Model for Bytes32List {
+    ghost use Rattle.std.specs.Prelude.{List, ℕ};
+
+    ghost Value = { List (List ℕ) };
+
+    ghost view = { λ l. l.values.items };
+}
+
+impl Bytes32List {
+    pub fn new(values: Vec<[u8; 32]>) -> Bytes32List
+        ensures { result ≡ values.items }
+    {
+        Bytes32List { values }
+    }
+
+    pub fn as_slice(&self) -> &[[u8; 32]]
+        ensures { result.now ≡ self.now }
+    {
+        self.values.as_slice()
+    }
+
+    /// Gives the values back.
+    pub fn into_vec(self) -> Vec<[u8; 32]>
+        ensures { result.items ≡ self }
+    {
+        self.values
+    }
+}
+
+/// Kinds of events, seen as a list of numbers.
+#[derive(Debug, Drop)]
+pub struct Kinds {
+    kinds: Vec<u16>,
+}
+
+impl Model for Kinds {
+    ghost use Rattle.std.specs.Prelude.{List, ℕ};
+
+    ghost Value = { List ℕ };
+
+    ghost view = { λ l. l.kinds.items };
+}
+
+impl Kinds {
+    pub fn new(kinds: Vec<u16>) -> Kinds
+        ensures { result ≡ kinds.items }
+    {
+        Kinds { kinds }
+    }
+
+    pub fn as_slice(&self) -> &[u16]
+        ensures { result.now ≡ self.now }
+    {
+        self.kinds.as_slice()
+    }
+
+    /// Gives the kinds back.
+    pub fn into_vec(self) -> Vec<u16>
+        ensures { result.items ≡ self }
+    {
+        self.kinds
+    }
+}
+
+/// Texts, seen as the list of their bytes.
+#[derive(Debug, Drop)]
+pub struct Texts {
+    texts: Vec<Text>,
+}
+
+impl Model for Texts {
+    ghost use Rattle.std.specs.Prelude.{List, ℕ};
+
+    ghost Value = { List (List ℕ) };
+
+    ghost view = { λ l. l.texts.items };
+}
+
+impl Texts {
+    pub fn new(texts: Vec<Text>) -> Texts
+        ensures { result ≡ texts.items }
+    {
+        Texts { texts }
+    }
+
+    pub fn as_slice(&self) -> &[Text]
+        ensures { result.now ≡ self.now }
+    {
+        self.texts.as_slice()
+    }
+
+    /// Gives the texts back.
+    pub fn into_vec(self) -> Vec<Text>
+        ensures { result.items ≡ self }
+    {
+        self.texts
+    }
+}
+
+/// The condition `#x` for a letter x: some tag of that name has one of the values.
+#[derive(Debug, Drop)]
+pub struct TagCondition {
+    /// The ASCII code of a letter, A to Z or a to z.
+    pub letter: u8,
+    pub values: Texts,
+}
+
+/// At most one condition for each letter, seen as their list in the order of the letters' codes.
+#[derive(Debug, Drop)]
+pub struct TagConditions {
+    // `None` stands for no conditions, so that these need no allocator.
+    list: Option<Vec<TagCondition>>,
+}
+
+impl Model for TagConditions {
+    ghost use Rattle.std.specs.Prelude.{List, ◌≡◌, true};
+    ghost use Rattle.nostr_filter.specs.declared.conditions.TagCondition.{TagCondition};
+    ghost use Rattle.nostr_filter.specs.Tags.{listed, are_in_order};
+
+    ghost Value = { List TagCondition };
+
+    ghost view = { λ c. listed c.list };
+
+    ghost invariant = { λ c. are_in_order (listed c.list) ≡ true };
+}
+
+impl TagConditions {
+    ghost use Rattle.std.specs.Prelude.{[]};
+    ghost use Rattle.nostr_filter.specs.Tags.{are_in_order, listed};
+
+    /// No conditions.
+    pub fn none() -> TagConditions
+        ensures { result ≡ [] }
+    {
+        TagConditions { list: None }
+    }
+
+    /// The conditions of the list, if each letter is one and they ascend; else the list.
+    pub fn new(list: Vec<TagCondition>) -> Result<TagConditions, Vec<TagCondition>>
+        ensures made { IfOk result (λ c. (c ≡ list.items) × (are_in_order list.items ≡ true)) }
+        ensures given_back { IfErr result (λ v. (v ≡ list) × ¬ (are_in_order list.items ≡ true)) }
+    {
+        if is_in_order(list.as_slice()) {
+            Ok(TagConditions { list: Some(list) })
+        } else {
+            Err(list)
+        }
+    }
+
+    pub fn as_slice(&self) -> &[TagCondition]
+        ensures list { result.now ≡ self.now }
+        ensures in_order { are_in_order result.now ≡ true }
+    {
+        match &self.list {
+            Some(list) => list.as_slice(),
+            None => &[],
+        }
+    }
+
+    /// Gives the list back, if there is one: no conditions may have none.
+    pub fn into_vec(self) -> Option<Vec<TagCondition>>
+        ensures { listed result ≡ self }
+    {
+        self.list
+    }
+}

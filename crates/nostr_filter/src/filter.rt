@@ -1,0 +1,119 @@
+// Filters, and what they match.
+ghost use Rattle.std.specs.Prelude.{◌≡◌, [], ℕ, IsTrue, length};
+ghost use Rattle.nostr_filter.specs.Matching.{has_text, tag_meets, tags_meet, within_of, matches_of};
+ghost use Rattle.std.specs.List.{list_any, list_all};
+
+use crate::conditions::{Bytes32List, Kinds, TagCondition, TagConditions, Texts};
+use nostr_event::{Event, Tag};
+
+/// What an event has to meet (NIP-01). An absent condition is met by each event, an empty list by none.
+#[derive(Debug, Drop)]
+pub struct Filter {
+    pub ids: Option<Bytes32List>,
+    /// Public keys.
+    pub authors: Option<Bytes32List>,
+    pub kinds: Option<Kinds>,
+    pub tags: TagConditions,
+    /// The least `created_at`.
+    pub since: Option<u64>,
+    /// The greatest `created_at`.
+    pub until: Option<u64>,
+    /// How many events are chosen at most. It has no part in matching.
+    pub limit: Option<u64>,
+}
+
+impl Filter {
+    /// A filter that each event meets.
+    pub fn all() -> Filter
+        ensures { result ≡ record { ids = None; authors = None; kinds = None; tags = []; since = None; until = None; limit = None } }
+    {
+        Filter {
+            ids: None,
+            authors: None,
+            kinds: None,
+            tags: TagConditions::none(),
+            since: None,
+            until: None,
+            limit: None,
+        }
+    }
+
+    /// Whether the event meets each condition. The limit has no part in it.
+    pub fn matches(&self, event: &Event) -> bool
+        ensures { result ≡ matches_of self.now event.now }
+    {
+        let draft = event.draft();
+        let id = event.id();
+        let named = match &self.ids {
+            Some(ids) => has_bytes(ids, &id.0),
+            None => true,
+        };
+        let by_author = match &self.authors {
+            Some(authors) => has_bytes(authors, &draft.pubkey),
+            None => true,
+        };
+        let of_kind = match &self.kinds {
+            Some(kinds) => kinds.as_slice().contains(&draft.kind),
+            None => true,
+        };
+        named
+            && by_author
+            && of_kind
+            && tags_met(self.tags.as_slice(), draft.tags.as_slice())
+            && self.is_within(draft.created_at)
+    }
+
+    fn is_within(&self, time: u64) -> bool
+        ensures { result ≡ within_of self.now time }
+    {
+        let early = match self.since {
+            Some(since) => since <= time,
+            None => true,
+        };
+        let late = match self.until {
+            Some(until) => time <= until,
+            None => true,
+        };
+        early && late
+    }
+}
+
+fn has_bytes(list: &Bytes32List, bytes: &[u8; 32]) -> bool
+    ensures { result ≡ has_text list.now bytes.now }
+{
+    list.as_slice().iter().any(|value| value == bytes)
+}
+
+// Whether one of the texts is this one.
+fn has_value(texts: &Texts, text: &str) -> bool
+    ensures { result ≡ has_text texts.now text.now }
+{
+    texts.as_slice().iter().any(|value| value.as_str() == text)
+}
+
+// Whether the tag has the condition's name, and its first value is one of the condition's.
+fn tag_met(condition: &TagCondition, tag: &Tag) -> bool
+    ensures { result ≡ tag_meets condition.now tag.now }
+{
+    match tag.texts() {
+        [name, value, ..] => name.as_str().as_bytes() == [condition.letter].as_slice()
+            && has_value(&condition.values, value.as_str()),
+        _ => false,
+    }
+}
+
+// Whether some tag meets the condition.
+fn condition_met(condition: &TagCondition, tags: &[Tag]) -> bool
+    ensures { result ≡ tags_meet tags.now condition.now }
+{
+    tags.iter().any(|tag| tag_met(condition, tag))
+}
+
+// Whether each condition is met by some tag.
+fn tags_met(conditions: &[TagCondition], tags: &[Tag]) -> bool
+    ensures { result ≡ list_all (tags_meet tags.now) conditions.now }
+{
+    conditions
+        .iter()
+        .all(|condition| condition_met(condition, tags))
+}

@@ -1,0 +1,19 @@
+//! Filters over Nostr events (NIP-01): their JSON, what they match, and which events are sent for them.
+#![tactic(auto)]
+
+mod choice;
+mod conditions;
+mod fault;
+mod fields;
+mod filter;
+mod letters;
+mod reading;
+mod writing;
+
+pub use choice::choose;
+pub use conditions::{Bytes32List, Kinds, TagCondition, TagConditions, Texts};
+pub use fault::{FilterFault, FilterField};
+pub use filter::Filter;
+
+#[cfg(test)]
+mod tests;

@@ -1,0 +1,84 @@
+// A filter read from its JSON object.
+ghost use Rattle.std.specs.Prelude.{◌≡◌, ◌≢◌, ℕ, Some, IfOk, IfErr, codes};
+ghost use Rattle.serde_json.specs.View.{view};
+ghost use Rattle.nostr_filter.specs.declared.filter.Filter.{Filter as FilterView};
+ghost use Rattle.nostr_filter.specs.FilterJson.{Reads, Refuses, HasShapes};
+
+use crate::conditions::{Kinds, TagConditions, Texts};
+use crate::fault::{FilterFault, FilterField};
+use crate::fields::{bytes_of, conditions_at, kinds_at, texts_at, whole_at};
+use crate::filter::Filter;
+use serde_json::Value;
+use std::alloc::Global;
+
+/// The fields of a filter's object, with their shapes.
+#[derive(Drop)]
+pub struct Shapes {
+    pub tags: TagConditions,
+    pub authors: Option<Texts>,
+    pub ids: Option<Texts>,
+    pub kinds: Option<Kinds>,
+    pub limit: Option<u64>,
+    pub since: Option<u64>,
+    pub until: Option<u64>,
+}
+
+// The fields, or the first of another shape.
+fn shapes_of(alloc: Global, value: &Value) -> Result<Shapes, FilterFault>
+    ensures ok { IfOk result (λ s. HasShapes (view value.now) s) }
+    ensures err { IfErr result (λ f. Refuses (view value.now) f) }
+{
+    if !value.is_object() {
+        return Err(FilterFault::Shape(FilterField::Object));
+    }
+    let tags = conditions_at(alloc, value)?;
+    let authors = texts_at(alloc, value, FilterField::Authors, "authors")?;
+    let ids = texts_at(alloc, value, FilterField::Ids, "ids")?;
+    let kinds = kinds_at(alloc, value, "kinds")?;
+    let limit = whole_at(value, FilterField::Limit, "limit")?;
+    let since = whole_at(value, FilterField::Since, "since")?;
+    let until = whole_at(value, FilterField::Until, "until")?;
+    let Ok(tags) = TagConditions::new(tags) else {
+        unreachable!();
+    };
+    Ok(Shapes {
+        tags,
+        authors,
+        ids,
+        kinds,
+        limit,
+        since,
+        until,
+    })
+}
+
+fn read_filter(alloc: Global, value: &Value) -> Result<Filter, FilterFault>
+    ensures ok { IfOk result (λ f. Reads (view value.now) f) }
+    ensures err { IfErr result (λ f. Refuses (view value.now) f) }
+{
+    let shapes = shapes_of(alloc, value)?;
+    let authors = bytes_of(alloc, &shapes.authors, FilterField::Authors)?;
+    let ids = bytes_of(alloc, &shapes.ids, FilterField::Ids)?;
+    Ok(Filter {
+        ids,
+        authors,
+        kinds: shapes.kinds,
+        tags: shapes.tags,
+        since: shapes.since,
+        until: shapes.until,
+        limit: shapes.limit,
+    })
+}
+
+impl Filter {
+    /// The filter that the JSON value is (NIP-01), or the first fault that it has. Unknown fields are passed over.
+    pub fn from_json(alloc: Global, value: &Value) -> Result<Filter, FilterFault>
+        ensures filter { IfOk result (λ f. Reads (view value.now) f) }
+        ensures no_other { IfOk result (λ f. (other : FilterView) → Reads (view value.now) other → other ≡ f) }
+        ensures fault { IfErr result (λ f. Refuses (view value.now) f) }
+        ensures no_filter { IfErr result (λ f. f ≢ FilterFault.Memory → (other : FilterView) → ¬ Reads (view value.now) other) }
+    {
+        let read = read_filter(alloc, value);
+        read
+    }
+}

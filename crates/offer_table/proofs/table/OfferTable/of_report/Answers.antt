@@ -1,0 +1,62 @@
+use Rattle.std.proofs.Common.{◌≡◌, ◌<◌, ◌==◌, ◌||◌, ◌≤◌, ◌++◌, ◌∷◌, [], ℕ, List, map, length, refl, sym, ap, ◌∙◌, subst, arith}
+use Rattle.std.specs.Map.Iter.{deref}
+use Rattle.std.specs.BTreeMap.{insert_entry}
+use Rattle.sharing.specs.declared.TheConstants.{MOST_IDS}
+use Rattle.sharing.specs.Sharing.{is_among}
+use Rattle.offer_table.specs.Table.{Table, IsTable}
+use Rattle.std.proofs.lemmas.Map.Iter.{rest_more, rest_so_far, iter_end}
+use Rattle.std.proofs.lemmas.List.{map-append}
+use Rattle.neg_codec.specs.declared.Id.{Id}
+use Rattle.sharing.specs.Offers.{AreRelays, Ascend, id_cmp}
+use Rattle.offer_table.proofs.Tables.{each_with, each_with_more, ids-each_with, All-each_with, length-each_with, just_one}
+use Rattle.offer_table.proofs.table.OfferTable.of_report.Goals as goal
+
+pub loop-id-preserved : goal.loop-id-preserved
+loop-id-preserved c =
+    let k : Id = c.in-Some.id.now in
+    let turn : c.loop-id.id-iterator ≡ k ∷ c.next.new.self = rest_more deref c.loop-id.id-iterator c.next.new.self c.next.result c.in-Some.id c.in-Some.is c.next.ensures.steps in
+    let gone : c.into_iter-id-iterator.result ≡ map deref c.loop-id.yielded ++ c.loop-id.id-iterator = rest_so_far deref c.loop-id.yielded c.into_iter-id-iterator.result c.loop-id.id-iterator c.loop-id.yielded_by in
+    let start = c.into_iter-id-iterator.ensures.into_iter_gives in
+    let ordered : Ascend (map deref c.loop-id.yielded ++ k ∷ c.next.new.self) = subst Ascend (sym start.0 ∙ gone ∙ ap (λ us. map deref c.loop-id.yielded ++ us) turn) start.4 in
+    c.in_ok-insert.ensures.entries
+    ∙ ap (λ es. insert_entry id_cmp es k c.with-relays.result) c.loop-id.invariant
+    ∙ each_with_more c.with-relays.result (map deref c.loop-id.yielded) k c.next.new.self ordered
+    ∙ ap (each_with c.with-relays.result) (sym (map-append deref c.loop-id.yielded (c.in-Some.id ∷ [])))
+
+pub loop-id-init : goal.loop-id-init
+loop-id-init c = c.new-offers.ensures.empty
+
+whole : (relays : List ℕ) (relay : ℕ) (ids : List Id) (offers : List (Id × List ℕ)) → AreRelays relays → relays ≡ relay ∷ [] → Ascend ids → length ids ≤ MOST_IDS → offers ≡ each_with relays ids → IsTable (record { reported = relays; offers = offers })
+whole relays relay ids offers ordered one ascend few e =
+    subst (λ os. IsTable (record { reported = relays; offers = os })) (sym e) (record {
+      offers_ok = record {
+        ascend = subst Ascend (sym (ids-each_with relays ids)) ascend;
+        relays = All-each_with AreRelays relays ids ordered;
+        some = All-each_with (λ rs. 0 < length rs) relays ids (omega (arith, ap length one))
+      };
+      few = omega (arith, length-each_with relays ids)
+    })
+
+only : (c : goal.In-None) → c.with-relays.result ≡ c.args.relay ∷ []
+only c = just_one c.with-relays.result c.args.relay c.with-relays.ensures.relays (λ r. c.with-relays.ensures.member r ∙ ap (λ s. (r == c.args.relay) || is_among s r) c.empty.ensures)
+
+all : (c : goal.In-None) → c.loop-id.offers.entries ≡ each_with c.with-relays.result c.args.need.now.keys
+all c =
+    let start = c.into_iter-id-iterator.ensures.into_iter_gives in
+    let end = iter_end deref c.args.need.now.keys c.loop-id.yielded c.into_iter-id-iterator.result c.loop-id.id-iterator c.next.new.self c.next.result start.0 c.loop-id.yielded_by c.in-None.is c.next.ensures.steps in
+    c.loop-id.invariant ∙ ap (each_with c.with-relays.result) end.0
+
+pub invariant_of-result : goal.invariant_of-result
+invariant_of-result c =
+    let start = c.into_iter-id-iterator.ensures.into_iter_gives in
+    whole c.with-relays.result c.args.relay c.args.need.now.keys c.loop-id.offers.entries c.with-relays.ensures.relays (only c)
+      start.4 (omega (arith, c.if-len-gt-MOST_IDS.false, c.len.ensures.len)) (all c)
+
+pub returns-clause-reported : goal.returns-clause-reported
+returns-clause-reported c = only c
+
+pub returns-clause-offers : goal.returns-clause-offers
+returns-clause-offers c = all c ∙ ap (λ rs. each_with rs c.args.need.now.keys) (only c)
+
+pub returns-clause-table : goal.returns-clause-table
+returns-clause-table c = invariant_of-result c

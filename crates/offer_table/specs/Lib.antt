@@ -1,0 +1,4 @@
+pub mod Relays
+pub mod RelayBits
+pub mod Table
+pub mod Faults

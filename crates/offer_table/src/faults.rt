@@ -1,0 +1,28 @@
+//! Why a table isn't made.
+
+use crate::RelaySet;
+use neg_codec::Id;
+use std::alloc::AllocFailed;
+
+/// Why a table wasn't made.
+#[derive(Clone, Copy, Debug, PartialEq, Eq)]
+pub enum OfferFault {
+    /// The number is no relay.
+    Relay,
+    /// More than [`sharing::MOST_IDS`] ids.
+    TableFull,
+    /// Both tables hold a report of one relay.
+    Double,
+    Memory,
+}
+
+impl From<AllocFailed<(Id, RelaySet)>> for OfferFault {
+    ghost use Rattle.std.specs.Prelude.{◌≡◌};
+    ghost use Rattle.offer_table.specs.declared.faults.OfferFault.TheVariants.{Memory};
+
+    ghost from_gives = { λ _ e. e ≡ Memory };
+
+    fn from(_e: AllocFailed<(Id, RelaySet)>) -> OfferFault {
+        OfferFault::Memory
+    }
+}

@@ -1,0 +1,13 @@
+//! Who offers what: tables of ids, each with the set of relays that offer it.
+#![tactic(auto)]
+
+mod faults;
+mod relays;
+mod table;
+
+pub use faults::OfferFault;
+pub use relays::RelaySet;
+pub use table::OfferTable;
+
+#[cfg(test)]
+mod tests;

@@ -1,0 +1,138 @@
+//! Tables of a few reports, and of as many ids as a table takes.
+
+use crate::{OfferFault, OfferTable};
+use neg_codec::Id;
+use std::alloc::{AllocError, Global};
+use std::collections::BTreeSet;
+use std::test::Fail;
+
+/// An id whose first bytes are the number's, so that ids are in the order of their numbers.
+fn numbered(number: u32) -> Id {
+    let [a, b, c, d] = number.to_be_bytes();
+    let mut id = [7; 32];
+    id[0] = a;
+    id[1] = b;
+    id[2] = c;
+    id[3] = d;
+    Id(id)
+}
+
+/// The ids of as many numbers from the first on, spread over the whole range.
+fn spread(alloc: Global, first: u32, count: u32) -> Result<BTreeSet<Id>, AllocError> {
+    let mut ids = BTreeSet::new(alloc);
+    for k in 0..count {
+        ids.insert(numbered(first.wrapping_add(k).wrapping_mul(2_654_435_761)))?;
+    }
+    Ok(ids)
+}
+
+fn report(alloc: Global, relay: u16, numbers: &[u32]) -> Result<OfferTable, Fail> {
+    let mut ids = BTreeSet::new(alloc);
+    for number in numbers {
+        ids.insert(numbered(*number))?;
+    }
+    table_of(alloc, relay, &ids)
+}
+
+fn table_of(alloc: Global, relay: u16, ids: &BTreeSet<Id>) -> Result<OfferTable, Fail> {
+    match OfferTable::of_report(alloc, relay, ids) {
+        Ok(table) => Ok(table),
+        Err(_) => Err("no table of a report")?,
+    }
+}
+
+fn merged(a: OfferTable, b: OfferTable) -> Result<OfferTable, Fail> {
+    match a.merge(b) {
+        Ok(both) => Ok(both),
+        Err(_) => Err("no merge")?,
+    }
+}
+
+#[test]
+fn two_reports_are_put_together(rt: HostRuntime) -> Result<(), Fail> {
+    let a = report(rt.alloc(), 0, &[1, 2])?;
+    let b = report(rt.alloc(), 63, &[2, 3])?;
+    let both = merged(a, b)?;
+    let listed = both.ids().copied().collect::<Vec<Id>>(rt.alloc())?;
+    assert!(rt; listed.as_slice() == [numbered(1), numbered(2), numbered(3)].as_slice());
+    for (number, first, last) in [(1, true, false), (2, true, true), (3, false, true), (4, false, false)] {
+        let relays = both.offers(&numbered(number));
+        assert_eq!(rt; (relays.has(0), relays.has(63)), (first, last), "at {number}");
+        assert!(rt; !relays.has(1) && !relays.has(64), "no other at {number}");
+    }
+    assert!(rt; both.reported().has(0) && both.reported().has(63) && !both.reported().has(1));
+    Ok(())
+}
+
+#[test]
+fn each_relay_reports_once(rt: HostRuntime) -> Result<(), Fail> {
+    let a = report(rt.alloc(), 0, &[9])?;
+    let b = report(rt.alloc(), 0, &[9])?;
+    match a.merge(b) {
+        Ok(_) => Err("two reports of one relay were merged")?,
+        Err((fault, a, b)) => {
+            assert_eq!(rt; fault, OfferFault::Double);
+            assert!(rt; a.offers(&numbered(9)).has(0) && b.offers(&numbered(9)).has(0));
+            Ok(())
+        }
+    }
+}
+
+#[test]
+fn a_number_may_be_no_relay(rt: HostRuntime) -> Result<(), Fail> {
+    match OfferTable::of_report(rt.alloc(), 64, &BTreeSet::new(rt.alloc())) {
+        Ok(_) => Err("64 is no relay")?,
+        Err(fault) => assert_eq!(rt; fault, OfferFault::Relay),
+    }
+    Ok(())
+}
+
+#[test]
+fn a_table_is_full(rt: HostRuntime) -> Result<(), Fail> {
+    let a = table_of(rt.alloc(), 0, &spread(rt.alloc(), 0, 200_000)?)?;
+    let b = table_of(rt.alloc(), 1, &spread(rt.alloc(), 200_000, 1)?)?;
+    match a.merge(b) {
+        Ok(_) => Err("200,001 ids")?,
+        Err((fault, a, b)) => {
+            assert_eq!(rt; fault, OfferFault::TableFull);
+            assert_eq!(rt; (a.ids().count(), b.ids().count()), (200_000, 1));
+            Ok(())
+        }
+    }
+}
+
+#[test]
+fn a_report_is_too_long(rt: HostRuntime) -> Result<(), Fail> {
+    match OfferTable::of_report(rt.alloc(), 2, &spread(rt.alloc(), 0, 200_001)?) {
+        Ok(_) => Err("a report of 200,001 ids")?,
+        Err(fault) => assert_eq!(rt; fault, OfferFault::TableFull),
+    }
+    Ok(())
+}
+
+#[test]
+fn large_tables_are_merged_and_struck(rt: HostRuntime) -> Result<(), Fail> {
+    let many = spread(rt.alloc(), 0, 200_000)?;
+    let a = table_of(rt.alloc(), 3, &many)?;
+    let b = table_of(rt.alloc(), 5, &many)?;
+    let mut both = merged(a, b)?;
+    for (relay, left) in [(3, 200_000), (5, 0)] {
+        for id in &many {
+            assert!(rt; both.strike(id, relay)?);
+        }
+        assert_eq!(rt; both.ids().count(), left, "after relay {relay}");
+    }
+    Ok(())
+}
+
+#[test]
+fn the_last_offer_takes_the_id_away(rt: HostRuntime) -> Result<(), Fail> {
+    let a = merged(report(rt.alloc(), 0, &[5])?, report(rt.alloc(), 1, &[5])?)?;
+    let mut table = merged(a, report(rt.alloc(), 2, &[5])?)?;
+    for (relay, there) in [(0, true), (0, false), (1, true), (2, true)] {
+        assert_eq!(rt; table.strike(&numbered(5), relay)?, there, "relay {relay}");
+    }
+    assert_eq!(rt; table.ids().count(), 0);
+    assert!(rt; table.reported().has(0));
+    Ok(())
+}

@@ -1,0 +1,4 @@
+pub mod Firsts
+pub mod Files
+pub mod Given
+pub mod Judged

@@ -1,0 +1,8 @@
+use Rattle.std.proofs.Common.{◌≡◌, drop, not, true, ◌||◌, None}
+use Rattle.std.specs.Prelude.{nat_lt}
+use Rattle.sharing.specs.declared.TheConstants.{RELAYS}
+use Rattle.plan_check.specs.Lines.{first_at, first_out, rises, rises_from, are_relays, is_empty}
+use Rattle.plan_check.proofs.order.malformed_offer.Given as goal
+
+abbrev pub invariant-loop-place : goal.invariant-loop-place
+invariant-loop-place l = first_at (λ o. is_empty o.1.items || not (are_relays o.1.items)) 0 l.offers ≡ first_at (λ o. is_empty o.1.items || not (are_relays o.1.items)) l.place (drop l.place l.offers)

@@ -1,0 +1,23 @@
+-- A plan file: who offers each id, which relay it is given to, and a group of relays.
+use Rattle.std.specs.Prelude.{◌≡◌, ℕ, ◌<◌, List, map}
+use Rattle.std.specs.List.{All}
+use Rattle.std.specs.Global.{Vec}
+use Rattle.neg_codec.specs.declared.Id.{Id}
+use Rattle.sharing.specs.declared.TheConstants.{RELAYS}
+use Rattle.sharing.specs.Offers.{Ascend, AreRelays, IsOffers}
+
+pub record File : Type 0 where
+  pub offers : List (Id × List ℕ)
+  pub gives : List (Id × ℕ)
+  pub group : List ℕ
+
+-- what is so of each plan file: all is in order, and each offer has a relay
+pub record IsFile (file : File) : Type 0 where
+  pub offers_ok : IsOffers file.offers
+  pub ascend : Ascend (map (λ g. g.0) file.gives)
+  pub relays : All (λ g. g.1 < RELAYS) file.gives
+  pub group_ok : AreRelays file.group
+
+-- offers as the program has them
+abbrev pub pairs_of : List (Id × Vec ℕ) → List (Id × List ℕ)
+pairs_of offers = map (λ o. (o.0, o.1.items)) offers

@@ -1,0 +1,73 @@
+-- The lines of a plan file after its first, numbered from 0: the offers, the gives, then the group.
+use Rattle.std.specs.Prelude.{ℕ, ◌+◌, ◌-◌, ◌^◌, ◌&&◌, ◌||◌, ◌==◌, not, Bool, true, false, List, [], ◌∷◌, length, Option, Some, None, min, nat_lt, if◌then◌else◌}
+use Rattle.std.specs.declared.cmp.Ordering.{Ordering}
+use Rattle.std.specs.Ordering.{nat_cmp, is_lt}
+use Rattle.std.specs.List.{list_all}
+use Rattle.neg_codec.specs.declared.Id.{Id}
+use Rattle.sharing.specs.declared.TheConstants.{RELAYS}
+use Rattle.sharing.specs.Offers.{id_cmp}
+use Rattle.plan_check.specs.declared.faults.PlanFault.{PlanFault}
+use Rattle.plan_check.specs.declared.faults.PlanFault.TheVariants.{Line, Order}
+use Rattle.plan_check.specs.File.{File}
+
+-- the first that passes, where they are numbered from n on
+abbrev pub first_at : {X : Type 0} → (X → Bool) → ℕ → List X → Option ℕ
+first_at p n [] = None
+first_at p n (x ∷ xs) = if p x then Some n else first_at p (n + 1) xs
+
+-- whether x comes behind what stands before it
+abbrev pub is_behind : {K : Type 0} → (K → K → Ordering) → Option K → K → Bool
+is_behind c None x = true
+is_behind c (Some b) x = is_lt (c b x)
+
+-- whether each comes behind the one before
+abbrev pub rises_from : Option ℕ → List ℕ → Bool
+rises_from before [] = true
+rises_from before (x ∷ xs) = is_behind nat_cmp before x && rises_from (Some x) xs
+
+abbrev pub rises : List ℕ → Bool
+rises relays = rises_from None relays
+
+-- The first whose id does not come behind the id of the line before, or whose relays do not rise.
+abbrev pub first_out : {X : Type 0} → (X → Id) → (X → Bool) → Option Id → ℕ → List X → Option ℕ
+first_out id is_fine before n [] = None
+first_out id is_fine before n (x ∷ xs) =
+    if is_behind id_cmp before (id x) && is_fine x then first_out id is_fine (Some (id x)) (n + 1) xs else Some n
+
+abbrev pub or_else : Option ℕ → Option ℕ → Option ℕ
+or_else None other = other
+or_else (Some n) other = Some n
+
+abbrev pub are_relays : List ℕ → Bool
+are_relays relays = list_all (λ r. nat_lt r RELAYS) relays
+
+abbrev pub is_empty : List ℕ → Bool
+is_empty [] = true
+is_empty (r ∷ rs) = false
+
+-- a line `offer` without a relay, or a number that is no relay
+abbrev pub malformed_at : File → Option ℕ
+malformed_at file =
+    or_else (first_at (λ o. is_empty o.1 || not (are_relays o.1)) 0 file.offers)
+    (or_else (first_at (λ g. not (nat_lt g.1 RELAYS)) (length file.offers) file.gives)
+    (if are_relays file.group then None else Some (length file.offers + length file.gives)))
+
+-- a line out of order
+abbrev pub misplaced_at : File → Option ℕ
+misplaced_at file =
+    or_else (first_out (λ o. o.0) (λ o. rises o.1) None 0 file.offers)
+    (or_else (first_out (λ g. g.0) (λ _. true) None (length file.offers) file.gives)
+    (if rises file.group then None else Some (length file.offers + length file.gives)))
+
+-- The header is line 1. No number is above 2^64-1.
+abbrev pub number_of : ℕ → ℕ
+number_of n = min (n + 2) (2 ^ 64 - 1)
+
+-- why lists are no plan file
+abbrev pub misplaced_fault : Option ℕ → Option PlanFault
+misplaced_fault (Some n) = Some (Order (number_of n))
+misplaced_fault None = None
+
+abbrev pub file_fault : Option ℕ → Option ℕ → Option PlanFault
+file_fault (Some n) misplaced = Some (Line (number_of n))
+file_fault None misplaced = misplaced_fault misplaced

@@ -1,0 +1,19 @@
+//! Why a text or lists are no plan file, and why a plan file is no plan.
+
+#[derive(Clone, Copy, Debug, PartialEq, Eq)]
+pub enum PlanFault {
+    /// The line with this number is not of the form, is out of place or is missing.
+    Line(usize),
+    /// The id of the line with this number is not above that of the line before with the same word, or its relays do
+    /// not ascend.
+    Order(usize),
+    /// An offered id is given to a relay that does not offer it.
+    NotOffered,
+    /// An offered id is not given.
+    Missing,
+    /// A given id is not offered.
+    Stranger,
+    /// The group does not show that no sharing has a smaller busiest load.
+    GroupTooSmall,
+    Memory,
+}

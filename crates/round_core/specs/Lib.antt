@@ -1,0 +1,3 @@
+pub mod History
+pub mod Legal
+pub mod Left

@@ -1,0 +1,61 @@
+//! Events of a round, and their answers.
+
+use fetch_plan::Cell;
+use neg_codec::Id;
+use std::collections::BTreeSet;
+
+/// One event of a round. Lanes and cells go by their numbers.
+#[derive(Drop)]
+pub enum RoundEvent {
+    /// What a relay offers.
+    Report(u16, BTreeSet<Id>),
+    /// The plan is made of the reports so far.
+    Seal,
+    Claim(u16, usize),
+    Finish(u16, usize),
+    Miss(u16, usize),
+    Release(u16, usize),
+    /// An id was placed in the store.
+    Insert(Id),
+}
+
+/// What an event is answered.
+#[derive(Clone, Copy, Debug, PartialEq, Eq)]
+pub enum Answer {
+    Taken,
+    /// The plan's busiest load.
+    Sealed(u64),
+    Won,
+    /// What the cell is, where it isn't free.
+    Lost(Cell),
+    Finished,
+    MissedIt,
+    Released,
+    /// Whether the id is new.
+    Placed(bool),
+    Refused(Refusal),
+}
+
+/// Why an event was refused: the first of these that holds.
+#[derive(Clone, Copy, Debug, PartialEq, Eq)]
+pub enum Refusal {
+    /// The plan was made before.
+    Sealed,
+    /// The number is no relay.
+    Relay,
+    /// The reports together have too many ids.
+    TableFull,
+    /// The relay reported before.
+    Double,
+    /// No plan was made yet.
+    NotSealed,
+    NoLane,
+    /// The plan has no such cell.
+    NoCell,
+    /// The cell's id is given to another relay than the lane's.
+    OtherRelay,
+    /// The lane doesn't hold the cell.
+    NotHeld,
+    /// The cell's id was not placed before.
+    NotPlaced,
+}

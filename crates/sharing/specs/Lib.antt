@@ -1,0 +1,3 @@
+pub mod Sharing
+pub mod Reached
+pub mod Offers
