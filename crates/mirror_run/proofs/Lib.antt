@@ -1,0 +1,7 @@
+mod LineLemmas
+mod TimeLemmas
+mod HexLemmas
+mod ItemLemmas
+mod OutputLemmas
+mod FormLemmas
+mod InputLemmas

@@ -1,0 +1,5 @@
+pub mod RefusalText
+pub mod Lines
+pub mod ItemLists
+pub mod Refused
+pub mod Exchange

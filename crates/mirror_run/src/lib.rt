@@ -1,0 +1,14 @@
+//! The program's jobs, over any reader and any writer.
+#![tactic(auto)]
+
+mod input;
+mod item_text;
+mod lines;
+mod lists;
+mod output;
+mod refusal;
+
+pub use input::{LONGEST_INPUT, read_input};
+pub use lists::{Lists, read_lists};
+pub use output::{Pair, write_recon};
+pub use refusal::{LineFault, Refusal};
