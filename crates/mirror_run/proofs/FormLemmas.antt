@@ -1,5 +1,5 @@
 -- The first line that is wrong.
-use Rattle.std.proofs.Common.{◌≡◌, ◌≢◌, ℕ, suc, ◌+◌, ◌-◌, ◌<◌, ◌≤◌, ◌⊎◌, inl, inr, List, [], ◌∷◌, ◌++◌, length, take, map, refl, ap, sym, ◌∙◌, subst, arith, append_assoc, length-append, take_at}
+use Rattle.std.proofs.Common.{◌≡◌, ◌≢◌, ℕ, ◌+◌, ◌-◌, ◌⊎◌, inl, inr, List, [], ◌∷◌, ◌++◌, length, take, map, refl, ap, sym, ◌∙◌, subst, arith, append_assoc, length-append, take_at}
 use Rattle.std.specs.List.{All}
 use Rattle.std.proofs.lemmas.List.{append-nil, length-map}
 use Rattle.std.proofs.lemmas.List.Elements.{All-nil, All-head, All-tail}
@@ -91,12 +91,12 @@ wrong_at_theirs mine (l ∷ ls) lines n e at a items first =
     (mine, [], theirs_line ∷ [], a, All-nil IsItem, refl)
     (λ none m t am bt same. cc)
     (λ begins.
-        let m = begins.0 in
-        let t = begins.1 in
-        let after = begins.2 in
-        let same : map item_line mine ++ l ∷ after ≡ map item_line m ++ theirs_line ∷ map item_line t =
-        sym (append_assoc (map item_line mine) (l ∷ []) after) ∙ (let whole = begins.5 in cc) in
-        elim (after_mine mine m l after (map item_line t) a begins.3 same) [ inl item ↦ items item | inr word ↦ first word ])
+    let m = begins.0 in
+    let t = begins.1 in
+    let after = begins.2 in
+    let same : map item_line mine ++ l ∷ after ≡ map item_line m ++ theirs_line ∷ map item_line t =
+    sym (append_assoc (map item_line mine) (l ∷ []) after) ∙ (let whole = begins.5 in cc) in
+    elim (after_mine mine m l after (map item_line t) a begins.3 same) [ inl item ↦ items item | inr word ↦ first word ])
 
 -- a line follows the second list
 pub wrong_at_end : (mine theirs : List Item) (rest lines : List (List ℕ)) (n : ℕ)
@@ -112,10 +112,10 @@ wrong_at_end mine theirs (l ∷ ls) lines n e at a b items some =
     wrong_after (input_lines mine theirs) (l ∷ ls) lines n grouped (omega arith) (mine, theirs, [], a, b, append-nil (input_lines mine theirs))
     (λ none m t am bt same. cc)
     (λ begins.
-        let m = begins.0 in
-        let t = begins.1 in
-        let after = begins.2 in
-        let regrouped : (told ++ l ∷ []) ++ after ≡ map item_line mine ++ theirs_line ∷ (map item_line theirs ++ l ∷ after) =
-        append_assoc told (l ∷ []) after ∙ append_assoc (map item_line mine) (theirs_line ∷ map item_line theirs) (l ∷ after) in
-        let whole : (told ++ l ∷ []) ++ after ≡ map item_line m ++ theirs_line ∷ map item_line t = (let e = begins.5 in cc) in
-        items (after_theirs mine m theirs t l after a begins.3 begins.4 (sym regrouped ∙ whole)))
+    let m = begins.0 in
+    let t = begins.1 in
+    let after = begins.2 in
+    let regrouped : (told ++ l ∷ []) ++ after ≡ map item_line mine ++ theirs_line ∷ (map item_line theirs ++ l ∷ after) =
+    append_assoc told (l ∷ []) after ∙ append_assoc (map item_line mine) (theirs_line ∷ map item_line theirs) (l ∷ after) in
+    let whole : (told ++ l ∷ []) ++ after ≡ map item_line m ++ theirs_line ∷ map item_line t = (let e = begins.5 in cc) in
+    items (after_theirs mine m theirs t l after a begins.3 begins.4 (sym regrouped ∙ whole)))

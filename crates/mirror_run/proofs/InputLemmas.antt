@@ -1,5 +1,5 @@
 -- All that is read, where no more than one byte above the limit is asked for.
-use Rattle.std.proofs.Common.{◌≡◌, ℕ, ◌<◌, ◌≤◌, List, [], ◌++◌, length, take, Option, None, Some, Result, Ok, Err, String, Global, string_bytes, IfOk, IfErr, ap, sym, ◌∙◌, subst, arith, take_all}
+use Rattle.std.proofs.Common.{◌≡◌, ℕ, ◌<◌, ◌≤◌, List, [], ◌++◌, length, take, Option, None, Some, Result, Ok, Err, String, Global, string_bytes, IfOk, IfErr, ap, ◌∙◌, subst, arith, take_all}
 use Rattle.std.specs.Option.{IfSome, option_map}
 use Rattle.std.proofs.lemmas.List.{length-take}
 use Rattle.mirror_run.specs.declared.refusal.Refusal.{Refusal}

@@ -3,3 +3,4 @@ pub mod Lines
 pub mod ItemLists
 pub mod Refused
 pub mod Exchange
+pub mod Waiting

@@ -26,9 +26,7 @@ fn parse_time(text: &[u8]) -> Option<u64>
         if digit < b'0' || b'9' < digit {
             return None;
         }
-        value = value
-            .checked_mul(10)?
-            .checked_add(u64::from(digit - b'0'))?;
+        value = value.checked_mul(10)?.checked_add(u64::from(digit - b'0'))?;
     }
     Some(value)
 }

@@ -1,10 +1,8 @@
-use Rattle.std.proofs.Common.{rules, ◌≡◌, ℕ, length, ◌+◌, ◌*◌, ◌/◌, ◌%◌, ◌<◌, List, ap, sym, ◌∙◌, arith, get_or, slice_index, take, take_all, refl}
+use Rattle.std.proofs.Common.{rules, ◌≡◌, length, ◌+◌, ◌*◌, ◌/◌, ◌%◌, ◌<◌, ap, sym, ◌∙◌, arith, get_or, slice_index, take, take_all, refl}
 use Rattle.std.proofs.lemmas.List.Elements.{All-get_or, All-push, All-nil}
 use Rattle.std.proofs.lemmas.List.{take_more_set}
-use Rattle.std.proofs.lemmas.Grind.{common_steps}
 use Rattle.hex.specs.Hex.{encode_lower, encode_with, lower_digits}
 use Rattle.hex.proofs.HexLemmas.{length-encode_with}
-use Rattle.neg_codec.specs.Keys.{IsId}
 use Rattle.mirror_run.proofs.HexLemmas.{encode-high, encode-low, encode_more}
 use Rattle.mirror_run.proofs.item_text.parse_id.Goals as goal
 
@@ -35,7 +33,7 @@ loop-i-preserved c =
       len = search rules;
       bytes = rw (take_more_set c.loop-i.id c.loop-i.i b (omega (arith, c.loop-i.invariant.len))) (All-push (λ b. b < 256) (take c.loop-i.i c.loop-i.id) b c.loop-i.invariant.bytes (omega (arith, high.0, low.0)));
       text = encode_more text c.loop-i.id c.loop-i.i b (omega (arith, c.loop-i.invariant.len)) (omega arith)
-      (high.1 ∙ ap (slice_index lower_digits) (sym top)) (low.1 ∙ ap (slice_index lower_digits) (sym rest)) c.loop-i.invariant.text;
+          (high.1 ∙ ap (slice_index lower_digits) (sym top)) (low.1 ∙ ap (slice_index lower_digits) (sym rest)) c.loop-i.invariant.text;
     }
 
 pub loop-i-init : goal.loop-i-init

@@ -1,5 +1,4 @@
-use Rattle.std.proofs.Common.{◌≡◌, ℕ, ap, sym, ◌∙◌, arith, get_or, drop}
-use Rattle.mirror_run.specs.ItemLists.{item_line, IsItem}
+use Rattle.std.proofs.Common.{ap, ◌∙◌, get_or, drop}
 use Rattle.mirror_run.proofs.ItemLemmas.{short_line, line_space, line_time, line_id}
 use Rattle.mirror_run.proofs.item_text.parse_item.Goals as goal
 

@@ -1,5 +1,4 @@
-use Rattle.std.proofs.Common.{◌≡◌, ◌++◌, List, ℕ, [], refl, ap, sym, ◌∙◌, append_assoc, drop, take, take-append-drop}
-use Rattle.std.specs.Io.KnownBytes.{Appends}
+use Rattle.std.proofs.Common.{◌≡◌, ◌++◌, [], refl, ap, sym, ◌∙◌, append_assoc, take-append-drop}
 use Rattle.std.proofs.lemmas.Result.{on_ok_weaker}
 use Rattle.hex.specs.Hex.{encode_lower, encode_with}
 use Rattle.mirror_run.proofs.HexLemmas.{encode-append}
@@ -16,9 +15,11 @@ loop-rest-preserved g c =
     let rest = c.loop-rest.rest.now in
     let front = c.split_at.result.0.now in
     let after = c.split_at.result.1.now in
-    let whole : rest ≡ front ++ after = rw (c.split_at.ensures.front, c.split_at.ensures.back) (sym (take-append-drop 4096 rest)) in
-    (h.0 ++ front, h.1 ∙ ap (λ t. h.0 ++ t) whole ∙ sym (append_assoc h.0 front after),
-      Appends-same _ _ (encode_lower h.0 ++ encode_lower front) _ (sym (encode-append h.0 front)) (Appends-both _ _ _ _ _ h.2 c.in_ok-write_hex_part.ensures))
+    let whole : rest ≡ front ++ after = rw (c.split_at.ensures.front, c.split_at.ensures.back) (sym (take-append-drop 4096 rest)) in (
+      h.0 ++ front,
+      h.1 ∙ ap (λ t. h.0 ++ t) whole ∙ sym (append_assoc h.0 front after),
+      Appends-same _ _ (encode_lower h.0 ++ encode_lower front) _ (sym (encode-append h.0 front)) (Appends-both _ _ _ _ _ h.2 c.in_ok-write_hex_part.ensures),
+    )
 
 pub returns : goal.returns
 returns g c =
