@@ -5,3 +5,4 @@ mod ItemLemmas
 mod OutputLemmas
 mod FormLemmas
 mod InputLemmas
+mod PlacingLemmas

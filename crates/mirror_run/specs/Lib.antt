@@ -4,3 +4,4 @@ pub mod ItemLists
 pub mod Refused
 pub mod Exchange
 pub mod Waiting
+pub mod Placing

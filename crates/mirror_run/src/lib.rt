@@ -6,9 +6,13 @@ mod item_text;
 mod lines;
 mod lists;
 mod output;
+mod placing;
 mod refusal;
 
 pub use input::{LONGEST_INPUT, read_input};
 pub use lists::{Lists, read_lists};
 pub use output::{Pair, write_recon};
 pub use refusal::{LineFault, Refusal};
+
+#[cfg(test)]
+mod tests;
