@@ -1,12 +1,12 @@
 -- The shortest bound stands above the first item and not above the second.
-use Rattle.std.proofs.Common.{◌≡◌, ℕ, zero, suc, ◌+◌, ◌-◌, ◌*◌, ◌^◌, ◌<◌, ◌≤◌, ◌⊎◌, inl, inr, Bool, true, false, cond, eqb, List, [], ◌∷◌, ◌++◌, length, take, replicate, add-one, refl, sym, ap, subst, ◌∙◌, arith}
+use Rattle.std.proofs.Common.{◌≡◌, ℕ, zero, suc, ◌+◌, ◌-◌, ◌*◌, ◌^◌, ◌<◌, ◌≤◌, inl, inr, Bool, true, false, cond, eqb, List, [], ◌∷◌, ◌++◌, length, take, drop, replicate, add-one, refl, sym, ap, subst, ◌∙◌, arith}
 use Rattle.std.specs.Prelude.{All}
 use Rattle.std.proofs.Math.Nat.{mul-le-mul_right, suc-sub-suc, sub-zero}
-use Rattle.std.proofs.lemmas.Bool.{cases_lt, eqb-true, eqb-false}
-use Rattle.std.proofs.lemmas.List.{length-append, length-take, length-replicate}
-use Rattle.std.proofs.lemmas.List.Elements.{All-head, All-tail}
+use Rattle.std.proofs.lemmas.Bool.{cases_lt, eqb-true, eqb-false, eq-eqb, ne_eqb}
+use Rattle.std.proofs.lemmas.List.{length-append, length-take, length-replicate, drop-replicate}
+use Rattle.std.proofs.lemmas.List.Elements.{All-tail}
 use Rattle.neg_codec.specs.declared.Item.{Item}
-use Rattle.neg_codec.specs.Keys.{place, number_of_bytes, item_of, IsId, IsKey}
+use Rattle.neg_codec.specs.Keys.{place, number_of_bytes, IsKey}
 use Rattle.neg_codec.proofs.Stretches.{number_below}
 use Rattle.item_roll.specs.Splits.{common_len, cut_item, minimal_bound_of}
 
@@ -17,7 +17,7 @@ number_zeros (suc n) = omega (arith, number_zeros n)
 abbrev pub cut : ℕ → List ℕ → List ℕ
 cut n ys = take n ys ++ replicate (length ys - n) 0
 
-common_small : (xs ys : List ℕ) → length xs ≡ length ys → number_of_bytes xs < number_of_bytes ys → common_len xs ys < length ys
+pub common_small : (xs ys : List ℕ) → length xs ≡ length ys → number_of_bytes xs < number_of_bytes ys → common_len xs ys < length ys
 common_small [] [] e lt = absurd (omega arith)
 common_small [] (y ∷ ys) e lt = omega arith
 common_small (x ∷ xs) [] e lt = absurd (omega arith)
@@ -108,3 +108,19 @@ bound_between p c kp kc lt = go (eqb p.time c.time) refl
         let zeros : number_of_bytes (take 0 c.id.0 ++ replicate (32 - 0) 0) ≡ 0 = number_zeros 32 in
         let earlier : p.time < c.time = omega (arith, lt, other, np, nc) in
         record { above = omega (arith, earlier, np, zeros); upto = omega (arith, zeros) }
+
+pub front_is : (front second : List ℕ) (len n : ℕ) → front ≡ take len second → len ≡ n → front ++ drop len (replicate 32 0) ≡ take n second ++ replicate (32 - n) 0
+front_is front second len n e f = rw (e, f) (ap (λ (zeros : List ℕ). take n second ++ zeros) (drop-replicate n 32 0))
+
+-- at one time, the ids are in the items' order
+pub ids_order : (p c : Item) → p.time ≡ c.time → place p < place c → number_of_bytes p.id.0 < number_of_bytes c.id.0
+unfolding place
+ids_order p c e lt = omega (arith, lt, e)
+
+pub bound_same : (p c : Item) → p.time ≡ c.time → minimal_bound_of p c ≡ cut_item c (common_len p.id.0 c.id.0 + 1)
+unfolding minimal_bound_of
+bound_same p c e = rw (eq-eqb p.time c.time e) refl
+
+pub bound_other : (p c : Item) → (p.time ≡ c.time → ⊥) → minimal_bound_of p c ≡ cut_item c 0
+unfolding minimal_bound_of
+bound_other p c ne = rw (ne_eqb p.time c.time ne) refl

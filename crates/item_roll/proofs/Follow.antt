@@ -1,13 +1,12 @@
 -- When a reply follows a roll, and when a list of open stretches says all that a message does.
-use Rattle.std.proofs.Common.{◌≡◌, ℕ, ◌<◌, ◌≤◌, ◌⊎◌, inl, inr, Bool, true, false, cond, ltb, List, [], ◌∷◌, ◌++◌, refl, sym, ap, subst, ◌∙◌, arith}
+use Rattle.std.proofs.Common.{◌≡◌, ◌≤◌, inl, inr, Bool, true, false, cond, ltb, List, [], ◌∷◌, refl, ap, subst, ◌∙◌, arith}
 use Rattle.std.specs.Prelude.{Contains, All}
-use Rattle.std.proofs.lemmas.Bool.{ltb-true, ltb-false, cases_lt}
-use Rattle.std.proofs.lemmas.List.Elements.{All-contains, All-head, All-tail}
-use Rattle.neg_codec.proofs.Stretches.{contains_head, contains_tail, contains_cases, contains_none, one_stretch, some_stretch}
+use Rattle.std.proofs.lemmas.Bool.{ltb-false}
+use Rattle.neg_codec.proofs.Stretches.{contains_head, contains_tail, contains_cases, contains_none, one_stretch}
 use Rattle.neg_codec.specs.declared.Item.{Item}
-use Rattle.neg_codec.specs.Keys.{place, least, endless, infinity, IsKey}
-use Rattle.neg_codec.specs.Ranges.{Claim, skip, print, ids, Span, Stretch, stretches, stretches_from, Lies, IsSkip, Ascends}
-use Rattle.item_roll.specs.Truth.{IsTrueOf, Meet, Follows}
+use Rattle.neg_codec.specs.Keys.{place, least, IsKey}
+use Rattle.neg_codec.specs.Ranges.{skip, Span, Stretch, stretches, stretches_from, Lies, IsSkip, Ascends}
+use Rattle.item_roll.specs.Truth.{IsTrueOf, Follows}
 
 -- each key that the reply skips lies in a stretch of the question that is true of the roll
 pub record Answers (items : List Item) (asked answered : List Span) : Type 0 where

@@ -1,24 +1,22 @@
 -- What is spelled so is read.
-use Rattle.std.proofs.Common.{◌≡◌, ℕ, zero, suc, ◌+◌, ◌-◌, ◌*◌, ◌^◌, ◌<◌, ◌≤◌, Bool, true, false, cond, ltb, eqb, List, [], ◌∷◌, ◌++◌, length, take, drop, replicate, Result, Ok, Err, refl, sym, ap, subst, ◌∙◌, append_assoc, arith}
+use Rattle.std.proofs.Common.{◌≡◌, ℕ, zero, suc, ◌+◌, ◌-◌, ◌*◌, ◌<◌, ◌≤◌, true, false, ltb, List, [], ◌∷◌, ◌++◌, length, drop, replicate, Result, Ok, refl, sym, ap, subst, ◌∙◌, append_assoc, arith}
 use Rattle.std.specs.Prelude.{All}
 use Rattle.std.specs.List.{flat_map}
-use Rattle.std.proofs.lemmas.Bool.{lt-ltb, le-ltb, eqb-true}
-use Rattle.std.proofs.lemmas.List.{take_at, drop_at, append-nil, length-append}
+use Rattle.std.proofs.lemmas.Bool.{lt-ltb, le-ltb}
+use Rattle.std.proofs.lemmas.List.{take_at, drop_at, length-append}
 use Rattle.std.proofs.lemmas.List.Elements.{All-head, All-tail}
 use Rattle.std.proofs.lemmas.List.Concat.{flat_map-cons}
-use Rattle.neg_varint.specs.declared.VarintFault.{VarintFault}
 use Rattle.neg_varint.specs.Spelling.{IsSpelling}
-use Rattle.neg_varint.specs.Reading.{number_at}
 use Rattle.neg_varint.proofs.Laws.{number_again}
 use Rattle.neg_codec.specs.declared.Id.{Id}
 use Rattle.neg_codec.specs.declared.Item.{Item}
 use Rattle.neg_codec.specs.declared.CodecFault.{CodecFault}
-use Rattle.neg_codec.specs.declared.CodecFault.TheVariants as fault
-use Rattle.neg_codec.specs.Keys.{place, endless, least, infinity, item_of, IsId}
+use Rattle.neg_codec.specs.Keys.{place, endless, least, item_of, IsId}
 use Rattle.neg_codec.specs.Ranges.{Claim, skip, print, ids, Span}
 use Rattle.neg_codec.specs.Text.{IsBound, SpellsBound, SpellsClaim, SpellsRange, SpellsRanges, Spells}
 use Rattle.neg_codec.specs.Reading.{◌>>=◌, place_in, varint_at, front_at, time_of_code, bound_of, bound_at, ids_of, ids_at, payload_at, claim_at, range_at, ranges_at, versioned_at, message_at, longest}
 use Rattle.neg_codec.proofs.Messages.{range_some}
+use Rattle.neg_codec.proofs.Takes.{ok_is}
 
 pub varint_again : (total n : ℕ) (text rest : List ℕ) → IsSpelling n text → varint_at total (text ++ rest) ≡ Ok (n, rest)
 unfolding varint_at
@@ -107,7 +105,7 @@ unfolding ranges_at
 ranges_end zero total lower = refl
 ranges_end (suc n) total lower = refl
 
-ranges_again : (n total : ℕ) (lower : Item) (rs : List Span) (bytes : List ℕ) → length bytes ≤ n → SpellsRanges lower rs bytes → ranges_at n total lower bytes ≡ Ok rs
+pub ranges_again : (n total : ℕ) (lower : Item) (rs : List Span) (bytes : List ℕ) → length bytes ≤ n → SpellsRanges lower rs bytes → ranges_at n total lower bytes ≡ Ok rs
 ranges_again n total lower [] bytes le s = ap (ranges_at n total lower) s ∙ ranges_end n total lower
 ranges_again zero total lower (r ∷ rs) bytes le s = absurd (omega (arith, ap length s.2, length-append s.0 s.1, range_some lower r s.0 s.3))
 ranges_again (suc n) total lower (r ∷ rs) bytes le s =
@@ -122,3 +120,12 @@ unfolding message_at versioned_at
 message_again bytes rs le s =
     let test : ltb longest (length (0x61 ∷ s.0)) ≡ false = le-ltb _ _ (omega (arith, ap length s.1, le)) in
     ap message_at s.1 ∙ rw test (ranges_again (length s.0) (length s.0 + 1) least rs s.0 (omega arith) s.2)
+
+rest_is : (x : ℕ) (xs ys : List ℕ) → x ∷ xs ≡ x ∷ ys → xs ≡ ys
+rest_is x xs ys e = cc
+
+pub one_message : (bytes : List ℕ) (a b : List Span) → Spells bytes a → Spells bytes b → a ≡ b
+one_message bytes a b s t =
+    let same : t.0 ≡ s.0 = rest_is 0x61 t.0 s.0 (sym t.1 ∙ s.1) in
+    let again = subst (λ (x : List ℕ). SpellsRanges least b x) same t.2 in
+    ok_is a b (sym (ranges_again (length s.0) 0 least a s.0 (omega arith) s.2) ∙ ranges_again (length s.0) 0 least b s.0 (omega arith) again)

@@ -1,13 +1,13 @@
 -- The order of bounds is that of their places.
-use Rattle.std.proofs.Common.{◌≡◌, ℕ, zero, suc, ◌+◌, ◌-◌, ◌*◌, ◌^◌, ◌<◌, ◌≤◌, ◌⊎◌, inl, inr, Bool, true, false, List, [], ◌∷◌, ◌++◌, length, get_or, drop, replicate, refl, sym, ap, subst, ◌∙◌, arith}
+use Rattle.std.proofs.Common.{◌≡◌, ℕ, suc, ◌+◌, ◌*◌, ◌^◌, ◌<◌, ◌≤◌, ◌⊎◌, inl, inr, true, false, List, [], ◌∷◌, ◌++◌, length, get_or, drop, replicate, refl, sym, ap, subst, ◌∙◌, arith}
 use Rattle.std.specs.Prelude.{All}
 use Rattle.std.specs.declared.cmp.Ordering.{Ordering}
 use Rattle.std.specs.declared.cmp.Ordering.TheVariants.{Less, Equal, Greater}
 use Rattle.std.specs.Ordering.{nat_cmp, ordering_then, is_lt}
 use Rattle.std.specs.Cmp.Lexicographic.{slice_cmp}
-use Rattle.std.proofs.Math.Nat.{mul-le-mul_right, pow-suc}
+use Rattle.std.proofs.Math.Nat.{mul-le-mul_right}
 use Rattle.std.proofs.lemmas.Bool.{cases_lt, lt-ltb, le-ltb, eq-eqb, ne_eqb}
-use Rattle.std.proofs.lemmas.List.Elements.{All-head, All-tail, All-from_get_or}
+use Rattle.std.proofs.lemmas.List.Elements.{All-tail, All-from_get_or}
 use Rattle.neg_codec.proofs.Stretches.{number_below}
 use Rattle.std.proofs.lemmas.List.{drop-replicate}
 use Rattle.neg_codec.specs.declared.Item.{Item}
@@ -44,7 +44,7 @@ cmp_shift c a b = elim (three a b) [
 ]
 
 -- a high part, then a low part below the unit
-high_low : (p x y a b : ℕ) → a < p → b < p → x < y → x * p + a < y * p + b
+pub high_low : (p x y a b : ℕ) → a < p → b < p → x < y → x * p + a < y * p + b
 high_low p x y a b la lb lt =
     let m : suc x * p ≤ y * p = mul-le-mul_right p (let h : suc x ≤ y = omega arith in h) in
     let e : suc x * p ≡ x * p + p = omega arith in

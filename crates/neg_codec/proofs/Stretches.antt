@@ -1,11 +1,11 @@
 -- Each key lies in just one stretch of a message.
-use Rattle.std.proofs.Common.{◌≡◌, ℕ, zero, suc, ◌+◌, ◌*◌, ◌^◌, ◌<◌, ◌≤◌, ◌⊎◌, inl, inr, Bool, true, false, cond, ltb, List, [], ◌∷◌, length, get_or, refl, sym, ap, subst, ◌∙◌, arith}
+use Rattle.std.proofs.Common.{◌≡◌, ℕ, zero, suc, ◌*◌, ◌^◌, ◌<◌, ◌≤◌, ◌⊎◌, inl, inr, Bool, true, false, cond, ltb, List, [], ◌∷◌, length, get_or, refl, sym, ap, subst, ◌∙◌, arith}
 use Rattle.std.specs.Prelude.{All, Contains}
 use Rattle.std.proofs.Math.Nat.{mul-le-mul_right, pow-suc}
-use Rattle.std.proofs.lemmas.Bool.{ltb-true, ltb-false, cases_lt, lt-ltb, le-ltb}
+use Rattle.std.proofs.lemmas.Bool.{ltb-false, cases_lt}
 use Rattle.std.proofs.lemmas.List.Elements.{All-head, All-tail}
 use Rattle.neg_codec.specs.declared.Item.{Item}
-use Rattle.neg_codec.specs.Keys.{place, endless, least, infinity, number_of_bytes, IsKey, IsId}
+use Rattle.neg_codec.specs.Keys.{place, endless, least, infinity, number_of_bytes, IsKey}
 use Rattle.neg_codec.specs.Ranges.{skip, Span, Stretch, stretches_from, stretches, Lies, Ascends}
 
 -- ---- elements of a list

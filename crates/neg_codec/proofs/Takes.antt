@@ -1,23 +1,18 @@
 -- What is read is spelled so.
-use Rattle.std.proofs.Common.{◌≡◌, ℕ, zero, suc, ◌+◌, ◌-◌, ◌*◌, ◌^◌, ◌<◌, ◌≤◌, ◌⊎◌, inl, inr, Bool, true, false, cond, ltb, eqb, List, [], ◌∷◌, ◌++◌, length, get_or, take, drop, replicate, Result, Ok, Err, refl, sym, ap, subst, ◌∙◌, append_assoc, arith}
-use Rattle.std.specs.Prelude.{All}
-use Rattle.std.specs.List.{flat_map}
-use Rattle.std.proofs.lemmas.Bool.{ltb-true, ltb-false, lt-ltb, le-ltb, eqb-true}
-use Rattle.std.proofs.lemmas.List.{take_at, drop_at, take-append-drop, append-nil, length-append, length-take, length-drop, get_or-drop, get_or-take, get_or_past}
-use Rattle.std.proofs.lemmas.List.Elements.{All-cons, All-from_get_or}
+use Rattle.std.proofs.Common.{◌≡◌, ℕ, zero, suc, ◌+◌, ◌<◌, ◌≤◌, inl, inr, Bool, true, false, cond, ltb, List, ◌++◌, length, get_or, take, drop, Result, Ok, Err, refl, sym, ap, subst, ◌∙◌, append_assoc, arith}
+use Rattle.std.proofs.lemmas.Bool.{ltb-true, ltb-false, lt-ltb}
+use Rattle.std.proofs.lemmas.List.{drop_at, take-append-drop, length-take, get_or-drop, get_or-take, get_or_past}
 use Rattle.std.proofs.lemmas.Bool.{cases_lt}
 use Rattle.neg_varint.specs.declared.VarintFault.{VarintFault}
-use Rattle.neg_varint.specs.Spelling.{IsSpelling, IsMarked}
+use Rattle.neg_varint.specs.Spelling.{IsSpelling}
 use Rattle.neg_varint.specs.Reading.{number_at}
-use Rattle.neg_varint.proofs.Laws.{Number, number_takes, number_again}
-use Rattle.neg_codec.specs.declared.Id.{Id}
+use Rattle.neg_varint.proofs.Laws.{number_takes}
 use Rattle.neg_codec.specs.declared.Item.{Item}
 use Rattle.neg_codec.specs.declared.CodecFault.{CodecFault}
 use Rattle.neg_codec.specs.declared.CodecFault.TheVariants as fault
-use Rattle.neg_codec.specs.Keys.{place, endless, least, infinity, item_of, IsId}
-use Rattle.neg_codec.specs.Ranges.{Claim, skip, print, ids, Span, Ascends}
-use Rattle.neg_codec.specs.Text.{IsBound, SpellsBound, SpellsClaim, SpellsRange, SpellsRanges, Spells}
-use Rattle.neg_codec.specs.Reading.{◌>>=◌, place_in, varint_at, front_at, time_of_code, bound_of, bound_at, ids_of, ids_at, payload_at, claim_at, range_at, ranges_at, versioned_at, message_at, longest}
+use Rattle.neg_codec.specs.Keys.{place, endless}
+use Rattle.neg_codec.specs.Text.{IsBound, SpellsBound}
+use Rattle.neg_codec.specs.Reading.{◌>>=◌, place_in, varint_at, front_at, time_of_code, bound_of, bound_at}
 
 abbrev pub IsBytes : List ℕ → Type 0
 IsBytes bytes = (i : ℕ) → get_or bytes i 0 < 256

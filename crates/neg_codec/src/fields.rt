@@ -5,7 +5,7 @@ ghost use Rattle.neg_codec.specs.Ranges.{edge_of};
 ghost use Rattle.neg_codec.specs.Reading.{Reads, varint_at, front_at, time_of_code, bound_at, ids_at, payload_at, claim_at, range_at};
 ghost use Rattle.neg_codec.specs.Lending.{claim_lent, IsWhole};
 
-use crate::bounds::{bound_from, is_below, time_of};
+use crate::bounds::bound_from;
 use crate::{Bound, CodecFault};
 
 #[tactic(auto, unfolding(crate::specs::Reading::varint_at))]
@@ -55,14 +55,14 @@ fn upper_of<'a>(
 {
     let start = total.saturating_sub(bytes.len());
     let (code, rest) = varint_of(total, bytes)?;
-    let time = time_from(start, time_of(lower), code)?;
+    let time = time_from(start, lower.time(), code)?;
     let (len, after) = varint_of(total, rest)?;
     if len > 32 {
         return Err(CodecFault::PrefixLength(total.saturating_sub(rest.len())));
     }
     let (front, after) = front_of(total, len, after)?;
     let upper = bound_from(time, front);
-    if is_below(&upper, lower) {
+    if upper.is_below(lower) {
         return Err(CodecFault::Descending(start));
     }
     Ok((upper, after))
@@ -138,7 +138,7 @@ pub fn range_of<'a>(
     ensures whole { IfOk result (λ x. IsWhole x.1) }
     ensures shorter { IfOk result (λ x. length x.2.now < length bytes.now) }
 {
-    if time_of(lower) == u64::MAX {
+    if lower.time() == u64::MAX {
         return Err(CodecFault::AfterInfinity(total.saturating_sub(bytes.len())));
     }
     match upper_of(total, lower, bytes) {

@@ -1,13 +1,14 @@
-//! Messages of the Negentropy protocol, version 1.
+//! Messages of the Negentropy protocol, version 1: their parts, and how they are read and written.
 #![tactic(auto)]
 
 use std::alloc::{AllocError, AllocFailed};
+use thiserror::Error;
 
-/// The id of a record.
+/// The id of a record: 32 bytes, ordered byte by byte.
 #[derive(Clone, Copy, Debug, PartialEq, Eq, PartialOrd, Ord)]
 pub struct Id(pub [u8; 32]);
 
-/// A record's time and id.
+/// A record's time in seconds and its id. Items are ordered by time, then by id.
 #[derive(Clone, Copy, Debug, PartialEq, Eq, PartialOrd, Ord)]
 pub struct Item {
     pub time: u64,
@@ -25,42 +26,72 @@ pub enum Bound {
     Infinite,
 }
 
-/// What a range says of its keys.
-#[derive(Debug, Drop)]
+/// What a range says of its keys (Negentropy protocol V1, "Range").
+#[derive(Debug, PartialEq, Eq, Drop)]
 pub enum Payload {
+    /// Nothing.
     Skip,
+    /// The fingerprint of their records.
     Print([u8; 16]),
+    /// The ids of their records.
     Ids(Vec<Id>),
 }
 
-/// A range of a message, from where the one before it ends.
-#[derive(Debug, Drop)]
+/// A range of a message, from where the one before it ends up to below its upper bound.
+#[derive(Debug, PartialEq, Eq, Drop)]
 pub struct Range {
     pub upper: Bound,
     pub payload: Payload,
 }
 
-/// Why bytes are no message: the first fault from left to right, and its place.
-#[derive(Clone, Copy, Debug, PartialEq, Eq)]
+/// Why bytes or ranges are no message. A place counts the bytes before it, or the ranges.
+#[derive(Clone, Copy, Debug, PartialEq, Eq, Error)]
 pub enum CodecFault {
+    /// There are no bytes.
+    #[error("an empty message")]
     Empty,
+    /// The first byte isn't 61.
+    #[error("version byte {0}")]
     Version(u8),
+    /// No number begins there.
+    #[error("byte {0}: no number")]
     Varint(usize),
+    /// The bytes end in the id, the print or the ids that begin there.
+    #[error("byte {0}: cut short")]
     Truncated(usize),
+    /// The length of an id's first bytes, which stands there, is above 32.
+    #[error("byte {0}: more than 32 bytes of an id")]
     PrefixLength(usize),
+    /// The range that begins there has a time of 2^64-1 or more.
+    #[error("byte {0}: a time of 2^64-1 or more")]
     TimeTooLarge(usize),
+    /// The range there has a bound below the one before.
+    #[error("place {0}: a bound below the one before")]
     Descending(usize),
+    /// The range there follows an infinite bound.
+    #[error("place {0}: a range after infinity")]
     AfterInfinity(usize),
+    /// The mode there is none of 0 to 2.
+    #[error("byte {0}: an unknown mode")]
     Mode(usize),
+    /// There are more than 1,048,576 bytes.
+    #[error("a message of more than 1,048,576 bytes")]
     TooLong,
+    /// A growth was refused.
+    #[error("out of memory")]
     Memory,
 }
 
 mod bounds;
 mod fields;
+mod items;
+mod laws;
 mod message;
+mod writing;
 
+pub use laws::{one_message, one_place, one_stretch, order_of_keys, round_trip};
 pub use message::{Message, decode};
+pub use writing::encode;
 
 impl From<AllocError> for CodecFault {
     ghost use Rattle.std.specs.Prelude.{◌≡◌};
@@ -83,3 +114,6 @@ impl<T: Drop> From<AllocFailed<T>> for CodecFault {
         CodecFault::Memory
     }
 }
+
+#[cfg(test)]
+mod tests;

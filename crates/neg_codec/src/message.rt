@@ -1,14 +1,14 @@
 //! Messages, and how they are read.
 
-ghost use Rattle.std.specs.Prelude.{◌≡◌, ℕ, ◌+◌, ◌*◌, ◌<◌, ◌≤◌, List, ◌⊎◌, length, map, Ok, Err, Result, IfOk, IfErr, OnOk, IsOk};
-ghost use Rattle.neg_codec.specs.Keys.{least};
+ghost use Rattle.std.specs.Prelude.{All, None, Some, IfNone, IfSome, ◌≡◌, ℕ, ◌+◌, ◌*◌, ◌<◌, ◌≤◌, List, ◌⊎◌, length, map, Ok, Err, Result, IfOk, IfErr, OnOk, IsOk};
+ghost use Rattle.neg_codec.specs.Keys.{least, IsId};
 ghost use Rattle.neg_codec.specs.declared.CodecFault.{CodecFault};
-ghost use Rattle.neg_codec.specs.Ranges.{Claim, Span, edge_of, span_of, claim_of};
+ghost use Rattle.neg_codec.specs.Ranges.{Claim, print, Span, edge_of, span_of, claim_of, IsSpan, IsClaim, IsMessage};
+ghost use Rattle.neg_codec.specs.Misplaced.{first_misplaced};
 ghost use Rattle.neg_codec.specs.Text.{Spells};
 ghost use Rattle.neg_codec.specs.Lending.{claim_lent, IsWhole};
 ghost use Rattle.neg_codec.specs.Reading.{Gives, ids_of, range_at, ranges_at, message_at, longest};
 
-use crate::bounds::lowest;
 use crate::fields::{Lent, range_of};
 use crate::{Bound, CodecFault, Id, Payload, Range};
 use std::alloc::{AllocError, Global};
@@ -22,14 +22,96 @@ pub struct Message {
 
 impl Model for Message {
     ghost use Rattle.std.specs.Prelude.{List, map};
-    ghost use Rattle.neg_codec.specs.Keys.{least};
-    ghost use Rattle.neg_codec.specs.Ranges.{Span, span_of, Ascends};
+    ghost use Rattle.neg_codec.specs.Ranges.{Span, span_of, IsMessage};
 
     ghost Value = { List Span };
 
     ghost view = { λ m. map span_of m.ranges.items };
 
-    ghost invariant = { λ m. Ascends least (map span_of m.ranges.items) };
+    ghost invariant = { λ m. IsMessage (map span_of m.ranges.items) };
+}
+
+/// That a print has its length, of bytes.
+fn is_print(bytes: &[u8; 16])
+    ensures { IsClaim (print bytes.now) }
+{
+    let _ = bytes.as_slice();
+}
+
+/// That ids have their lengths, of bytes.
+fn are_ids(list: &[Id])
+    ensures { All IsId list.now }
+{
+    for id in list {
+        let _ = id.as_bytes();
+    }
+}
+
+/// That a range has what its parts have by their types.
+fn is_span(range: &Range)
+    ensures { IsSpan (span_of range.now) }
+{
+    let _ = range.upper.edge();
+    match &range.payload {
+        Payload::Skip => {}
+        Payload::Print(bytes) => is_print(bytes),
+        Payload::Ids(list) => {
+            are_ids(list);
+            let _ = list.len();
+        }
+    }
+}
+
+/// That ranges have what their parts have by their types.
+fn are_spans(ranges: &[Range])
+    ensures { All IsSpan (map span_of ranges.now) }
+{
+    for range in ranges {
+        is_span(range);
+    }
+}
+
+/// The first range out of place, with its index.
+fn misplaced(ranges: &[Range]) -> Option<CodecFault>
+    ensures { result ≡ first_misplaced (map span_of ranges.now) }
+{
+    let mut before = Bound::lowest();
+    for (i, range) in ranges.iter().enumerate() {
+        if range.upper.is_below(&before) {
+            return Some(CodecFault::Descending(i));
+        }
+        if before.time() == u64::MAX {
+            return Some(CodecFault::AfterInfinity(i));
+        }
+        before = range.upper;
+    }
+    None
+}
+
+impl Message {
+    /// The message of ranges. They are handed back where one is out of place, with the fault of the
+    /// first such range and its index: `Descending` where its bound is below the one before, else
+    /// `AfterInfinity`. It takes no memory.
+    pub fn of(ranges: Vec<Range>) -> Result<Message, (CodecFault, Vec<Range>)>
+        ensures keeps { IfOk result (λ m. m ≡ map span_of ranges.items) }
+        ensures in_place { IfOk result (λ m. first_misplaced (map span_of ranges.items) ≡ None) }
+        ensures fault { IfErr result (λ e. first_misplaced (map span_of ranges.items) ≡ Some e.0) }
+        ensures hands_back { IfErr result (λ e. e.1 ≡ ranges) }
+    {
+        are_spans(&ranges);
+        match misplaced(&ranges) {
+            Some(fault) => Err((fault, ranges)),
+            None => Ok(Message { ranges }),
+        }
+    }
+
+    /// The ranges, in order.
+    pub fn ranges(&self) -> &[Range]
+        ensures value { map span_of result.now ≡ self.now }
+        ensures ordered { IsMessage self.now }
+    {
+        &self.ranges
+    }
 }
 
 /// The ids that stand in bytes.
@@ -85,7 +167,7 @@ fn ranges_of(alloc: Global, total: usize, bytes: &[u8]) -> Result<Vec<Range>, Co
     ensures { Gives (λ v. map span_of v.items) result (ranges_at (length bytes.now) total least bytes.now) }
 {
     let mut ranges = Vec::new(alloc);
-    let mut lower = lowest();
+    let mut lower = Bound::lowest();
     let mut rest = bytes;
     while !rest.is_empty() {
         let (range, after) = next_range(alloc, total, &lower, rest)?;
@@ -116,7 +198,7 @@ fn scan_ranges(total: usize, bytes: &[u8]) -> Result<(), CodecFault>
     ensures found { OnOk result ((rs : List Span) × (ranges_at (length bytes.now) total least bytes.now ≡ Ok rs)) }
     ensures fault { IfErr result (λ f. ranges_at (length bytes.now) total least bytes.now ≡ Err f) }
 {
-    let mut lower = lowest();
+    let mut lower = Bound::lowest();
     let mut rest = bytes;
     while !rest.is_empty() {
         rest = skip_range(total, &mut lower, rest)?;
@@ -157,7 +239,10 @@ pub fn decode(alloc: Global, bytes: &[u8]) -> Result<Message, CodecFault>
     ensures first { (f : CodecFault) → message_at bytes.now ≡ Err f → result ≡ Err f }
 {
     match message_ranges(alloc, bytes) {
-        Ok(ranges) => Ok(Message { ranges }),
+        Ok(ranges) => {
+            are_spans(&ranges);
+            Ok(Message { ranges })
+        }
         Err(fault) => Err(fault),
     }
 }

@@ -1,8 +1,7 @@
 -- Each number has one spelling.
-use Rattle.std.proofs.Common.{◌≡◌, ◌≢◌, ℕ, zero, suc, ◌+◌, ◌-◌, ◌*◌, ◌/◌, ◌%◌, ◌^◌, ◌<◌, ◌≤◌, ◌⊎◌, inl, inr, Bool, true, false, cond, eqb, List, [], ◌∷◌, ◌++◌, length, refl, sym, ap, subst, ◌∙◌, append_assoc, arith}
-use Rattle.std.proofs.Math.Nat.{pow-suc, mul-le-mul_right, one-le-pow, pow-le-pow_right}
+use Rattle.std.proofs.Common.{◌≡◌, ◌≢◌, ℕ, zero, suc, ◌+◌, ◌*◌, ◌/◌, ◌%◌, ◌^◌, ◌<◌, ◌≤◌, inl, inr, Bool, true, false, cond, eqb, List, [], ◌∷◌, ◌++◌, length, refl, sym, ap, subst, ◌∙◌, append_assoc, arith}
+use Rattle.std.proofs.Math.Nat.{pow-suc, mul-le-mul_right, pow-le-pow_right}
 use Rattle.std.proofs.lemmas.Bool.{cases_lt, eqb-true, eqb-false}
-use Rattle.std.proofs.lemmas.List.{length-append}
 use Rattle.neg_varint.specs.Spelling.{number_of, IsMarked, HasNoPadding, IsSpelling, marked_digits, spelling}
 use Rattle.neg_varint.proofs.Laws.{step_value, marked_cons}
 use Rattle.neg_varint.proofs.Digits.{number_below}
@@ -104,3 +103,6 @@ one_spelling n us bs sa sb =
       | inr le ↦ elim (cases_lt (length bs) (length us)) [ inl gt ↦ absurd (not_longer n bs us sb sa gt) | inr ge ↦ omega arith ]
     ] in
     same_digits us bs len (λ s. sa.marked) (λ s. sb.marked) (sym sa.value ∙ sb.value)
+
+pub spelling_is : (n : ℕ) (text : List ℕ) → IsSpelling n text → text ≡ spelling n
+spelling_is n text s = one_spelling n text (spelling n) s (spelling_spells n s.in_range)

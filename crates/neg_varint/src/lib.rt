@@ -1,20 +1,24 @@
-//! Numbers in base 128, most significant digit first.
+//! Numbers in base 128, most significant digit first (Negentropy protocol V1, "Varint").
 #![tactic(auto)]
 
-ghost use Rattle.std.specs.Prelude.{◌≡◌, ℕ, ◌+◌, ◌-◌, ◌++◌, ◌%◌, ◌^◌, ◌<◌, ◌≤◌, ◌↔◌, length, take, replicate, List, IfOk, OnOk, OnErr, if◌then◌else◌};
-ghost use Rattle.neg_varint.specs.Spelling.{IsSpelling, AppendsSpelling, spelling};
+ghost use Rattle.std.specs.Prelude.{◌≡◌, ℕ, ◌+◌, ◌-◌, ◌++◌, ◌%◌, ◌^◌, ◌<◌, ◌≤◌, length, take, replicate, List, IfOk, OnOk, OnErr, if◌then◌else◌};
+ghost use Rattle.neg_varint.specs.Spelling.{IsSpelling, OneSpelling, spelling};
 ghost use Rattle.neg_varint.specs.Reading.{GivesNumber};
 
 use std::alloc::AllocError;
+use thiserror::Error;
 
-/// What is wrong at the front of the bytes: the first fault from left to right.
-#[derive(Clone, Copy, Debug, PartialEq, Eq)]
+/// Why bytes begin with no number: the first fault from left to right.
+#[derive(Clone, Copy, Debug, PartialEq, Eq, Error)]
 pub enum VarintFault {
     /// The bytes end before the last digit.
+    #[error("a number is cut short")]
     Truncated,
     /// The first of several digits is 0.
+    #[error("a number begins with a digit 0")]
     Padded,
     /// The number reaches 2^64.
+    #[error("a number is 2^64 or more")]
     TooLarge,
 }
 
@@ -55,9 +59,9 @@ fn marked_digit(n: u64, is_last: bool) -> u8
     if is_last { digit } else { 128 + digit }
 }
 
-/// The spelling of a number, then zeros, and the spelling's length.
-pub fn spell(n: u64) -> ([u8; 10], usize)
-    ensures spelling { (text : List ℕ) × IsSpelling n text × (length text ≡ result.1) × (result.0 ≡ text ++ replicate (10 - result.1) 0) }
+/// The spelling, then zeros, and the spelling's length.
+fn digits_of(n: u64) -> ([u8; 10], usize)
+    ensures { (text : List ℕ) × IsSpelling n text × (length text ≡ result.1) × (result.0 ≡ text ++ replicate (10 - result.1) 0) }
 {
     let mut bytes = [0; 10];
     let len = digit_count(n);
@@ -71,15 +75,25 @@ pub fn spell(n: u64) -> ([u8; 10], usize)
     (bytes, len)
 }
 
-/// The spelling that the digits give is a spelling of the number, and the only one.
+/// The spelling of a number, then zeros, and the spelling's length in bytes.
+pub fn spell(n: u64) -> ([u8; 10], usize)
+    ensures value { result.0 ≡ spelling n ++ replicate (10 - result.1) 0 }
+    ensures len { result.1 ≡ length (spelling n) }
+    ensures spelled { IsSpelling n (spelling n) }
+{
+    digits_of(n)
+}
+
+/// A law: each number below 2^64 has one spelling, the one that its digits give.
 pub fn one_spelling()
-    ensures { (n : ℕ) (text : List ℕ) → n < 2 ^ 64 → IsSpelling n text ↔ (text ≡ spelling n) }
+    ensures { OneSpelling }
 {}
 
 /// Appends the spelling of a number.
 pub fn put(out: &mut Vec<u8>, n: u64) -> Result<(), AllocError>
-    ensures ok { OnOk result (AppendsSpelling out.old.items out.new.items n) }
+    ensures ok { OnOk result (out.new.items ≡ out.old.items ++ spelling n) }
     ensures err { OnErr result (out.new.items ≡ out.old.items) }
+    ensures spelled { IsSpelling n (spelling n) }
 {
     let (bytes, len) = spell(n);
     out.extend_from_slice(&bytes[..len])

@@ -1,6 +1,5 @@
-use Rattle.std.proofs.Common.{◌≡◌, ℕ, ◌+◌, ◌*◌, ◌^◌, ◌<◌, ◌≤◌, ◌%◌, length, take, arith, refl}
+use Rattle.std.proofs.Common.{◌+◌, ◌%◌, arith}
 use Rattle.std.proofs.lemmas.List.{length-set}
-use Rattle.neg_print.specs.Print.{little_number}
 use Rattle.neg_print.proofs.Digits.{sum_more, small_more, sum_all}
 use Rattle.neg_print.proofs.sum.add_bytes.Goals as goal
 

@@ -1,0 +1,7 @@
+use Rattle.std.proofs.Common.{ℕ, ◌<◌, get_or}
+use Rattle.neg_codec.specs.declared.Item.{Item}
+use Rattle.neg_codec.specs.Keys.{IsKey}
+use Rattle.item_roll.proofs.sorting.all_finite.Given as goal
+
+abbrev pub invariant-loop-item : goal.invariant-loop-item
+invariant-loop-item l = (k : ℕ) (d : Item) → k < l.item-index → IsKey (get_or l.items k d)

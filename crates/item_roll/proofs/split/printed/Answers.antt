@@ -1,0 +1,26 @@
+use Rattle.std.proofs.Common.{◌≡◌, ◌-◌, ℕ, List, arith, refl}
+use Rattle.neg_codec.specs.declared.Item.{Item}
+use Rattle.neg_codec.specs.Keys.{least}
+use Rattle.neg_codec.specs.Ranges.{Span, print}
+use Rattle.item_roll.specs.Splits.{minimal_bound_of}
+use Rattle.item_roll.proofs.Truths.{got, key_at, order_at}
+use Rattle.item_roll.proofs.split.printed.Goals as goal
+
+-- the two items read, and the range that is made of them
+made : (items : List Item) (a b x y edge : Item) (bytes ids : List ℕ) → a ≡ x → b ≡ y → edge ≡ minimal_bound_of a b → bytes ≡ ids
+    → let r : Span = record { upper = edge; claim = print bytes } in let s : Span = record { upper = minimal_bound_of x y; claim = print ids } in r ≡ s
+made items a b x y edge bytes ids ea eb e f = rw (e, ea, eb, f) refl
+
+pub minimal_bound-requires-clause-order : goal.minimal_bound-requires-clause-order
+minimal_bound-requires-clause-order c =
+    rw (got c.args.roll.now (c.args.next - 1) c.get.result c.get.ensures.value, got c.args.roll.now c.args.next c.get-2.result c.get-2.ensures.value)
+    (order_at c.args.roll.now (c.args.next - 1) c.args.next least c.get.ensures.roll.ascending (omega arith) c.requires.within)
+
+pub minimal_bound-requires-clause-first : goal.minimal_bound-requires-clause-first
+minimal_bound-requires-clause-first c = rw (got c.args.roll.now (c.args.next - 1) c.get.result c.get.ensures.value) (key_at c.args.roll.now (c.args.next - 1) least c.get.ensures.roll (omega arith)).time
+
+pub minimal_bound-requires-clause-second : goal.minimal_bound-requires-clause-second
+minimal_bound-requires-clause-second c = rw (got c.args.roll.now c.args.next c.get-2.result c.get-2.ensures.value) (key_at c.args.roll.now c.args.next least c.get.ensures.roll c.requires.within).time
+
+pub returns : goal.returns
+returns c = made c.args.roll.now c.get.result c.get-2.result _ _ _ _ _ (got c.args.roll.now (c.args.next - 1) c.get.result c.get.ensures.value) (got c.args.roll.now c.args.next c.get-2.result c.get-2.ensures.value) c.minimal_bound.ensures.value c.print.ensures

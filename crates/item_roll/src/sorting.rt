@@ -1,0 +1,52 @@
+//! Items put in order, and those that no roll takes.
+
+ghost use Rattle.std.specs.Prelude.{◌≡◌, ◌<◌, ◌≤◌, true, false, length, All, IfOk, IsPermutation};
+ghost use Rattle.std.specs.List.Sorted.{IsNonDecreasingBy};
+ghost use Rattle.neg_codec.specs.Keys.{place, endless, IsKey};
+ghost use Rattle.item_roll.specs.Parts.{Ascending};
+ghost use Rattle.item_roll.specs.Repeats.{HasRepeat, HasEndless};
+
+use crate::order::is_before;
+use neg_codec::Item;
+use std::alloc::{AllocError, Global};
+
+/// Whether no item stands at infinity.
+pub fn all_finite(items: &[Item]) -> bool
+    ensures finite { result ≡ true → All IsKey items.now }
+    ensures endless { result ≡ false → HasEndless items.now }
+{
+    for item in items {
+        let _ = item.id.as_bytes();
+        if item.time == u64::MAX {
+            return false;
+        }
+    }
+    true
+}
+
+/// The items, each before those that come after it.
+pub fn in_order(alloc: Global, items: &[Item]) -> Result<Vec<Item>, AllocError>
+    ensures all { IfOk result (λ v. IsPermutation items.now v.items) }
+    ensures rises { IfOk result (λ v. IsNonDecreasingBy place v.items) }
+{
+    let mut sorted = Vec::new(alloc);
+    sorted.extend_from_slice(items)?;
+    sorted.sort_unstable_by(|a, b| a.compare(b));
+    Ok(sorted)
+}
+
+/// Whether an item stands twice in items that are in order.
+pub fn has_repeat(items: &[Item]) -> bool
+    requires keys { All IsKey items.now }
+    requires rises { IsNonDecreasingBy place items.now }
+    ensures repeat { result ≡ true → HasRepeat items.now }
+    ensures distinct { result ≡ false → Ascending items.now }
+{
+    neg_codec::one_place();
+    for i in 1..items.len() {
+        if !is_before(&items[i - 1], &items[i]) {
+            return true;
+        }
+    }
+    false
+}

@@ -1,0 +1,28 @@
+//! Laws of keys and messages.
+
+ghost use Rattle.neg_codec.specs.Laws.{OneMessage, OnePlace, OneStretch, OrderOfKeys, RoundTrip};
+
+/// Keys are ordered by time, then by the bytes of their ids.
+pub fn order_of_keys()
+    ensures { OrderOfKeys }
+{}
+
+/// Two items in one place are the same.
+pub fn one_place()
+    ensures { OnePlace }
+{}
+
+/// Each key lies in just one stretch of a message.
+pub fn one_stretch()
+    ensures { OneStretch }
+{}
+
+/// Bytes spell one message at most.
+pub fn one_message()
+    ensures { OneMessage }
+{}
+
+/// What `encode` gives for a message is read by `decode` as the message, within 1,048,576 bytes.
+pub fn round_trip()
+    ensures { RoundTrip }
+{}
