@@ -1,25 +1,25 @@
 -- Which items are placed, as a set tells.
-use Rattle.std.proofs.Common.{◌≡◌, ◌≢◌, ℕ, ◌+◌, ◌<◌, ◌≤◌, inl, inr, Bool, true, false, ◌||◌, cond, List, [], ◌∷◌, ◌++◌, Some, length, take, get_or, refl, ap, sym, ◌∙◌, subst, arith, All, length-append}
+use Rattle.std.proofs.Common.{◌≡◌, ◌≢◌, ℕ, zero, suc, ◌+◌, ◌-◌, ◌^◌, ◌<◌, ◌≤◌, inl, inr, Bool, true, false, ◌||◌, cond, List, [], ◌∷◌, ◌++◌, length, take, get_or, refl, ap, sym, ◌∙◌, subst, arith, length-append}
 use Rattle.std.specs.Prelude.{Contains}
 use Rattle.std.specs.List.{list_any}
-use Rattle.std.specs.List.{slice_get}
 use Rattle.std.specs.declared.cmp.Ordering.{Ordering}
 use Rattle.std.specs.declared.cmp.Ordering.TheVariants.{Less, Equal, Greater}
 use Rattle.std.specs.Ordering.{nat_cmp, ordering_then, eq_by_cmp, is_eq}
 use Rattle.std.specs.Cmp.{IsTotalOrder}
 use Rattle.std.specs.Cmp.Lexicographic.{slice_cmp}
 use Rattle.std.proofs.lemmas.Cmp.{eq_by_cmp_equiv}
-use Rattle.std.proofs.lemmas.List.{take_more, length-take-le}
-use Rattle.std.proofs.lemmas.List.Elements.{All-push, Contains-push_cases, Contains-append_right}
+use Rattle.std.proofs.lemmas.List.{take_more, length-take-le, get_or_default}
+use Rattle.std.proofs.lemmas.List.Elements.{All-push, All-contains, Contains-push_cases, Contains-append_right}
 use Rattle.std.proofs.lemmas.Option.{slice_get-get_or}
 use Rattle.std.proofs.lemmas.List.Folds.{list_any-append}
 use Rattle.std.proofs.lemmas.Map.Lookups.{CmpEqualImpliesEq, exact_unsigned, exact_bytes}
 use Rattle.std.proofs.lemmas.Map.Views.{Contains-from_any, list_any-from_Contains}
 use Rattle.neg_codec.specs.declared.Item.{Item}
-use Rattle.neg_codec.specs.Keys.{endless}
+use Rattle.neg_codec.specs.Keys.{endless, least}
 use Rattle.neg_codec.specs.contracts.ItemOrd.TheImpl as item_ord
 use Rattle.neg_codec.specs.contracts.ItemOrd.TheImpl.Laws as item_laws
-use Rattle.mirror_run.specs.Placing.{Distinct, IsTaken, Refuses, IsFirstRefused}
+use Rattle.item_roll.specs.Repeats.{HasRepeat, HasEndless}
+use Rattle.mirror_run.specs.Placing.{Distinct, IsTaken, IsFirstRefused}
 use Rattle.mirror_run.specs.declared.refusal.LineFault.TheVariants.{Present, Full}
 
 -- the order of a set of items
@@ -102,14 +102,30 @@ distinct_push (x ∷ xs) y apart new = (
 )
 
 -- one item more is taken
-pub taken_more : (items : List Item) (i : ℕ) (d : Item) → i < length items → (get_or items i d).time ≢ endless
+pub taken_more : (items : List Item) (i : ℕ) (d : Item) → i < length items → (get_or items i d).time < endless
     → list_any (eq_by_cmp order (get_or items i d)) (take i items) ≡ false → i < 1000000 → IsTaken (take i items) → IsTaken (take (i + 1) items)
 taken_more items i d within finite found few taken =
     let P : List Item → Type 0 = λ t. IsTaken t in
     let item = get_or items i d in
     let len : length (take i items ++ item ∷ []) ≡ length (take i items) + 1 = length-append (take i items) (item ∷ []) in
     subst P (sym (take_more items i d within)) (record {
-      finite = All-push (λ k. k.time ≢ endless) (take i items) item taken.finite finite;
+      finite = All-push (λ k. k.time < endless) (take i items) item taken.finite finite;
       distinct = distinct_push (take i items) item taken.distinct (stands items i d found);
       few = omega (arith, len, length-take-le i items (omega arith));
     })
+
+distinct_apart : (items : List Item) (i j : ℕ) (d : Item) → Distinct items → i < j → j < length items → get_or items i d ≡ get_or items j d → ⊥
+distinct_apart [] i j d apart less within same = omega arith
+distinct_apart (x ∷ xs) zero zero d apart less within same = omega arith
+distinct_apart (x ∷ xs) zero (suc j) d apart less within same =
+    apart.0 (j, omega arith, get_or_default xs j x d (omega arith) ∙ sym same)
+distinct_apart (x ∷ xs) (suc i) zero d apart less within same = omega arith
+distinct_apart (x ∷ xs) (suc i) (suc j) d apart less within same = distinct_apart xs i j d apart.1 (omega arith) (omega arith) same
+
+-- items that are taken make a roll
+pub taken_finite : (items : List Item) → HasEndless items → IsTaken items → ⊥
+taken_finite items h taken =
+    let small = All-contains (λ k. k.time < 2 ^ 64 - 1) items h.item taken.finite h.stands in omega (arith, h.endless, small)
+
+pub taken_distinct : (items : List Item) → HasRepeat items → IsTaken items → ⊥
+taken_distinct items h taken = distinct_apart items h.first h.second least taken.distinct h.apart h.within (h.same least)

@@ -1,7 +1,7 @@
 pub mod RefusalText
 pub mod Lines
 pub mod ItemLists
-pub mod Refused
 pub mod Exchange
 pub mod Waiting
 pub mod Placing
+pub mod Refused

@@ -12,7 +12,7 @@ Distinct (x ∷ xs) = (¬ Contains xs x) × Distinct xs
 
 -- a list takes all of these items
 pub record IsTaken (items : List Item) : Type 0 where
-  pub finite : All (λ item. item.time ≢ endless) items
+  pub finite : All (λ item. item.time < endless) items
   pub distinct : Distinct items
   pub few : length items ≤ 1000000
 

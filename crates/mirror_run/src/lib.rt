@@ -12,6 +12,7 @@ mod refusal;
 pub use input::{LONGEST_INPUT, read_input};
 pub use lists::{Lists, read_lists};
 pub use output::{Pair, write_recon};
+pub use placing::place_items;
 pub use refusal::{LineFault, Refusal};
 
 #[cfg(test)]

@@ -1,9 +1,11 @@
 //! Placing the items of a list.
 
-ghost use Rattle.std.specs.Prelude.{IfOk, IfSome, IfNone};
+ghost use Rattle.std.specs.Prelude.{◌+◌, ◌^◌, ◌<◌, length, IfOk, IfErr, IfSome, IfNone, IsPermutation};
 ghost use Rattle.mirror_run.specs.Placing.{IsTaken, IsFirstRefused};
+ghost use Rattle.mirror_run.specs.Refused.{IsPlacingRefusal};
 
-use crate::refusal::LineFault;
+use crate::refusal::{LineFault, Refusal};
+use item_roll::{Roll, RollFault};
 use neg_codec::Item;
 use std::alloc::{AllocError, Global};
 use std::collections::BTreeSet;
@@ -27,4 +29,32 @@ fn first_refused(alloc: Global, items: &[Item]) -> Result<Option<(usize, LineFau
         placed.insert(*item)?;
     }
     Ok(None)
+}
+
+/// Why the items, the first of which stands on the line, make no roll.
+fn refusal_of(alloc: Global, items: &[Item], line: usize) -> Refusal
+    requires some { IsTaken items.now → ⊥ }
+    requires fits { line + length items.now < 2 ^ 64 }
+    ensures { IsPlacingRefusal items.now line result }
+{
+    match first_refused(alloc, items) {
+        Ok(Some((i, fault))) => Refusal::Line(line + i, fault),
+        Ok(None) => unreachable!(),
+        Err(AllocError) => Refusal::Memory,
+    }
+}
+
+/// The roll of a list's items, the first of which stands on the line.
+pub fn place_items(alloc: Global, items: &[Item], line: usize) -> Result<Roll, Refusal>
+    requires { line + length items.now < 2 ^ 64 }
+    ensures ok { IfOk result (λ roll. IsPermutation items.now roll) }
+    ensures err { IfErr result (IsPlacingRefusal items.now line) }
+{
+    match Roll::from_items(alloc, items) {
+        Ok(roll) => Ok(roll),
+        Err(RollFault::Memory) => Err(Refusal::Memory),
+        Err(RollFault::Infinity) => Err(refusal_of(alloc, items, line)),
+        Err(RollFault::Present) => Err(refusal_of(alloc, items, line)),
+        Err(RollFault::Full) => Err(refusal_of(alloc, items, line)),
+    }
 }
