@@ -1,5 +1,5 @@
 -- Which items are placed, as a set tells.
-use Rattle.std.proofs.Common.{◌≡◌, ◌≢◌, ℕ, zero, suc, ◌+◌, ◌-◌, ◌^◌, ◌<◌, ◌≤◌, inl, inr, Bool, true, false, ◌||◌, cond, List, [], ◌∷◌, ◌++◌, length, take, get_or, refl, ap, sym, ◌∙◌, subst, arith, length-append}
+use Rattle.std.proofs.Common.{◌≡◌, ◌≢◌, ℕ, zero, suc, ◌+◌, ◌-◌, ◌^◌, ◌<◌, ◌≤◌, inl, inr, Bool, true, false, ◌||◌, cond, List, [], ◌∷◌, ◌++◌, length, take, get_or, refl, ap, sym, ◌∙◌, subst, arith, length-append, Result, Ok, Err, All}
 use Rattle.std.specs.Prelude.{Contains}
 use Rattle.std.specs.List.{list_any}
 use Rattle.std.specs.declared.cmp.Ordering.{Ordering}
@@ -9,7 +9,8 @@ use Rattle.std.specs.Cmp.{IsTotalOrder}
 use Rattle.std.specs.Cmp.Lexicographic.{slice_cmp}
 use Rattle.std.proofs.lemmas.Cmp.{eq_by_cmp_equiv}
 use Rattle.std.proofs.lemmas.List.{take_more, length-take-le, get_or_default}
-use Rattle.std.proofs.lemmas.List.Elements.{All-push, All-contains, Contains-push_cases, Contains-append_right}
+use Rattle.std.proofs.lemmas.List.Elements.{All-push, All-contains, All-from_get_or, Contains-get_or, Contains-push_cases, Contains-append_right}
+use Rattle.std.proofs.lemmas.Bool.{cases_lt}
 use Rattle.std.proofs.lemmas.Option.{slice_get-get_or}
 use Rattle.std.proofs.lemmas.List.Folds.{list_any-append}
 use Rattle.std.proofs.lemmas.Map.Lookups.{CmpEqualImpliesEq, exact_unsigned, exact_bytes}
@@ -18,6 +19,8 @@ use Rattle.neg_codec.specs.declared.Item.{Item}
 use Rattle.neg_codec.specs.Keys.{endless, least}
 use Rattle.neg_codec.specs.contracts.ItemOrd.TheImpl as item_ord
 use Rattle.neg_codec.specs.contracts.ItemOrd.TheImpl.Laws as item_laws
+use Rattle.item_roll.specs.declared.roll.RollFault.{RollFault}
+use Rattle.item_roll.specs.declared.roll.RollFault.TheVariants.{Infinity, Present as Repeated, Full as Crowded, Memory}
 use Rattle.item_roll.specs.Repeats.{HasRepeat, HasEndless}
 use Rattle.mirror_run.specs.Placing.{Distinct, IsTaken, IsFirstRefused}
 use Rattle.mirror_run.specs.declared.refusal.LineFault.TheVariants.{Present, Full}
@@ -129,3 +132,46 @@ taken_finite items h taken =
 
 pub taken_distinct : (items : List Item) → HasRepeat items → IsTaken items → ⊥
 taken_distinct items h taken = distinct_apart items h.first h.second least taken.distinct h.apart h.within (h.same least)
+
+distinct_from : (items : List Item) → (HasRepeat items → ⊥) → Distinct items
+distinct_from [] single = tt
+distinct_from (x ∷ xs) single = (
+  λ on. single (record {
+    first = 0;
+    second = suc on.0;
+    apart = omega arith;
+    within = omega (arith, on.1);
+    same = λ d. sym on.2 ∙ get_or_default xs on.0 x d on.1;
+  }),
+  distinct_from xs (λ more. single (record {
+    first = suc more.first;
+    second = suc more.second;
+    apart = omega (arith, more.apart);
+    within = omega (arith, more.within);
+    same = λ d. more.same d;
+  })),
+)
+
+finite_from : (items : List Item) → (HasEndless items → ⊥) → All (λ k. k.time < endless) items
+finite_from items finite = All-from_get_or (λ k. k.time < endless) items least (λ i within. elim (cases_lt (get_or items i least).time endless) [
+  | inl below ↦ below
+  | inr above ↦ absurd (finite (record { item = get_or items i least; stands = Contains-get_or items i least within; endless = above }))
+])
+
+-- a roll's items are taken
+pub taken_from_ok : (items roll : List Item) (r : Result (List Item) RollFault) → r ≡ Ok roll
+    → (HasEndless items → r ≡ Err Infinity)
+    → ((r ≢ Err Memory) × All (λ k. k.time < endless) items × HasRepeat items → r ≡ Err Repeated)
+    → ((r ≢ Err Memory) × All (λ k. k.time < endless) items × (HasRepeat items → ⊥) × (1000000 < length items) → r ≡ Err Crowded)
+    → IsTaken items
+taken_from_ok items roll r ok at_infinity at_repeat at_many =
+    let finite = finite_from items (λ h. let e = at_infinity h in cc) in
+    let single : HasRepeat items → ⊥ = λ h. let e = at_repeat ((λ m. cc), finite, h) in cc in
+    record {
+      finite = finite;
+      distinct = distinct_from items single;
+      few = elim (cases_lt 1000000 (length items)) [
+        | inl many ↦ let e = at_many ((λ m. cc), finite, single, many) in absurd (cc)
+        | inr few ↦ few
+      ];
+    }

@@ -8,12 +8,14 @@ mod lists;
 mod output;
 mod placing;
 mod refusal;
+mod rolls;
 
 pub use input::{LONGEST_INPUT, read_input};
 pub use lists::{Lists, read_lists};
 pub use output::{Pair, write_recon};
 pub use placing::place_items;
 pub use refusal::{LineFault, Refusal};
+pub use rolls::read_rolls;
 
 #[cfg(test)]
 mod tests;

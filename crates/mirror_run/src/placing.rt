@@ -1,6 +1,6 @@
 //! Placing the items of a list.
 
-ghost use Rattle.std.specs.Prelude.{◌+◌, ◌^◌, ◌<◌, length, IfOk, IfErr, IfSome, IfNone, IsPermutation};
+ghost use Rattle.std.specs.Prelude.{◌+◌, ◌^◌, ◌<◌, length, IfOk, IfErr, IfSome, IfNone, OnOk, IsPermutation};
 ghost use Rattle.mirror_run.specs.Placing.{IsTaken, IsFirstRefused};
 ghost use Rattle.mirror_run.specs.Refused.{IsPlacingRefusal};
 
@@ -48,6 +48,7 @@ fn refusal_of(alloc: Global, items: &[Item], line: usize) -> Refusal
 pub fn place_items(alloc: Global, items: &[Item], line: usize) -> Result<Roll, Refusal>
     requires { line + length items.now < 2 ^ 64 }
     ensures ok { IfOk result (λ roll. IsPermutation items.now roll) }
+    ensures taken { OnOk result (IsTaken items.now) }
     ensures err { IfErr result (IsPlacingRefusal items.now line) }
 {
     match Roll::from_items(alloc, items) {
