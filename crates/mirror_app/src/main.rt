@@ -1,18 +1,20 @@
 //! `nostr-mirror`: the program.
 #![tactic(auto)]
 
+#[cfg(test)]
+mod tests;
 mod words;
 
 use mirror_run::{Refusal, run_recon};
-use std::env;
-use std::io;
 use std::process::ExitCode;
+use std::{env, io};
 use words::{Words, WordsFault, read_words};
 
 /// The bytes that a message may have, where no other limit is named.
 const DEFAULT_LIMIT: usize = 60_000;
 
 const REFUSED: u8 = 1;
+
 const USAGE: u8 = 2;
 
 fn main(rt: HostRuntime) -> io::Result<ExitCode> {
@@ -30,12 +32,7 @@ fn main(rt: HostRuntime) -> io::Result<ExitCode> {
         }
     };
     let done = match words {
-        Words::Recon => run_recon(
-            alloc,
-            &mut rt.stdin(),
-            &mut rt.stdout(),
-            DEFAULT_LIMIT,
-        ),
+        Words::Recon => run_recon(alloc, &mut rt.stdin(), &mut rt.stdout(), DEFAULT_LIMIT),
     };
     match done {
         Ok(()) => Ok(ExitCode::SUCCESS),
