@@ -59,3 +59,12 @@ pub span_at : (ranges : List Range) (i : ℕ) (r : Range) → i < length ranges 
 span_at ranges i r lt is fits =
     let here : get_or (map span_of ranges) i (span_of r) ≡ span_of r = get_or-map span_of ranges i r (span_of r) lt ∙ ap span_of (sym is) in
     subst IsSpan here (fits i (span_of r) (omega (arith, length-map ranges span_of, lt)))
+
+placed_where : (i : ℕ) (before : Item) (rs : List Span) → Ascends before rs → misplaced_from i before rs ≡ None
+placed_where i before [] up = refl
+placed_where i before (r ∷ rs) up = rw (le-ltb (place r.upper) (place before) up.1, lt-ltb before.time endless up.0) (placed_where (i + 1) r.upper rs up.2)
+
+-- ranges that ascend have none out of place
+pub placed_if_ascends : (rs : List Span) → Ascends least rs → first_misplaced rs ≡ None
+unfolding first_misplaced
+placed_if_ascends rs up = placed_where 0 least rs up

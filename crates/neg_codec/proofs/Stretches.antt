@@ -100,7 +100,7 @@ some_from lower (r ∷ rs) k key le =
       | inr ge ↦ let t = some_from r.upper rs k key ge in (t.0, contains_tail (first_stretch lower r) (stretches_from r.upper rs) t.0 t.1, t.2)
     ]
 
-least_below : (k : Item) → place least ≤ place k
+pub least_below : (k : Item) → place least ≤ place k
 unfolding place
 least_below k = omega arith
 

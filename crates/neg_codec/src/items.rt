@@ -2,7 +2,7 @@
 
 ghost use Rattle.std.specs.Prelude.{◌≡◌, ◌<◌, ◌↔◌, IsTrue};
 ghost use Rattle.std.specs.Ordering.{nat_cmp};
-ghost use Rattle.neg_codec.specs.Keys.{IsId, item_of, id_of_bytes, place};
+ghost use Rattle.neg_codec.specs.Keys.{IsId, id_of_bytes, place};
 
 use crate::{Id, Item};
 use std::cmp::Ordering;
@@ -12,13 +12,6 @@ fn is_whole(bytes: &[u8; 32])
     ensures { IsId (id_of_bytes bytes.now) }
 {
     let _ = bytes.as_slice();
-}
-
-/// Compares times, then ids byte by byte.
-fn compare_parts(time: u64, id: &[u8; 32], other_time: u64, other_id: &[u8; 32]) -> Ordering
-    ensures { result ≡ nat_cmp (place (item_of time id.now)) (place (item_of other_time other_id.now)) }
-{
-    time.cmp(&other_time).then(id.cmp(other_id))
 }
 
 impl Id {
@@ -37,7 +30,9 @@ impl Item {
     pub fn compare(&self, other: &Item) -> Ordering
         ensures { result ≡ nat_cmp (place self.now) (place other.now) }
     {
-        compare_parts(self.time, &self.id.0, other.time, &other.id.0)
+        is_whole(&self.id.0);
+        is_whole(&other.id.0);
+        self.cmp(other)
     }
 
     /// Whether the item stands below another.

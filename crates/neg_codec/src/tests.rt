@@ -134,9 +134,10 @@ fn faults(rt: HostRuntime) -> Result<(), Fail> {
     for (bytes, fault) in cases {
         assert!(rt; decode(alloc, bytes).err() == Some(fault));
     }
-    let long = vec![in alloc; 0x61; 1048577].ok().ok_or("memory")?;
+    let long = vec![in alloc; 0x61; 1_048_577].ok().ok_or("memory")?;
     assert!(rt; decode(alloc, &long).err() == Some(CodecFault::TooLong));
-    assert!(rt; decode(alloc, &long[..1048576]).err() == Some(CodecFault::PrefixLength(2)));
+    let longest = vec![in alloc; 0x61; 1_048_576].ok().ok_or("memory")?;
+    assert!(rt; decode(alloc, &longest).err() == Some(CodecFault::PrefixLength(2)));
     Ok(())
 }
 

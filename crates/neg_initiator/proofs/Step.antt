@@ -11,6 +11,7 @@ use Rattle.neg_print.specs.Print.{print_of}
 use Rattle.item_roll.specs.Parts.{IsRoll, part, ids_of}
 use Rattle.item_roll.specs.Truth.{SameIds, Says, IsTrueOf, Meet, Follows}
 use Rattle.item_roll.proofs.Members.{part_keeps, part_gives, ids_give, ids_keep}
+use Rattle.neg_initiator.specs.Listed.{IsListed, IsUnlisted}
 use Rattle.neg_initiator.specs.Settled.{IsMissing, Needs, Has, HasOnePrint, ToldApart, OneTime, IsSkipped, Settled}
 
 -- What the initiator did with a stretch of the reply, by what it says.
@@ -90,14 +91,6 @@ skip_same a b one asked answered up truth follows trusted told s k key hs lies i
 pub record Accounted (a : List Item) (asked answered next : List Span) (trusted : List (Item × Item)) (need have : List Id) : Type 0 where
   -- each key that the next ask leaves in Skips alone lies in a stretch of the reply that is accounted for
   pub each : (k : Item) → IsKey k → IsSkipped next k → (s : Stretch) × Contains (stretches answered) s × Lies k s × Accounts a asked trusted need have s.lower s.upper s.claim
-
--- a new id was listed, and the own part lacks it
-abbrev pub IsListed : List Item → List Span → Id → Type 0
-IsListed a answered i = (s : Stretch) × (is : List Id) × Contains (stretches answered) s × (s.claim ≡ ids is) × Contains is i × (Contains (ids_of (part a s.lower s.upper)) i → ⊥)
-
--- a new id is of an own item, and was not listed
-abbrev pub IsUnlisted : List Item → List Span → Id → Type 0
-IsUnlisted a answered i = (s : Stretch) × (is : List Id) × Contains (stretches answered) s × (s.claim ≡ ids is) × Contains (ids_of (part a s.lower s.upper)) i × (Contains is i → ⊥)
 
 pub record Adds (a : List Item) (answered : List Span) (need have need' have' : List Id) : Type 0 where
   pub need_kept : (i : Id) → Contains need i → Contains need' i

@@ -1,14 +1,10 @@
-//! The asking side of a session.
+//! The asking side of a session (Negentropy protocol V1).
 #![tactic(auto)]
 
+mod found;
+mod ids;
 mod initiator;
+mod phase;
 
-pub use initiator::{InitFault, Initiator, Next};
-
-/// Whether a session goes on.
-#[derive(Clone, Copy, Debug, PartialEq, Eq)]
-pub enum Phase {
-    Asking,
-    Ended,
-    Spent,
-}
+pub use initiator::{InitFault, Initiator, Next, Outcome};
+pub use phase::Phase;

@@ -1,0 +1,37 @@
+use Rattle.std.proofs.Common.{◌≡◌, ◌<◌, ◌≤◌, ℕ, ap, sym, subst, ◌∙◌, arith, map, List}
+use Rattle.std.specs.Prelude.{All}
+use Rattle.std.proofs.lemmas.Result.{IfOk-weaker}
+use Rattle.neg_codec.specs.declared.Item.{Item}
+use Rattle.neg_codec.specs.Keys.{place, IsKey}
+use Rattle.neg_codec.specs.Ranges.{Span, edge_of, span_of, Ascends}
+use Rattle.item_roll.specs.Closed.{closed_from}
+use Rattle.item_roll.specs.Parts.{count_below}
+use Rattle.item_roll.specs.Truth.{IsTrueOf}
+use Rattle.neg_draft.specs.Coverage.{Written, Tells, Told, told_more}
+use Rattle.neg_draft.proofs.Owning.{count_up, edge_key, tells_split}
+use Rattle.neg_draft.proofs.draft.Draft.tell_split.Goals as goal
+
+pub split-requires-clause-piece : goal.split-requires-clause-piece
+split-requires-clause-piece c =
+    let up = count_up c.args.roll.now (edge_of c.end-lower.result) (edge_of c.args.upper) (omega (arith, ap place c.end-lower.ensures.end, c.requires)) in
+    (omega (arith, c.find.ensures.value, c.find-2.ensures.value, up), c.find-2.ensures.within)
+
+pub tell-requires : goal.tell-requires
+tell-requires c =
+    let lt : place (edge_of c.end-lower.result) < place (edge_of c.args.upper) = omega (arith, ap place c.end-lower.ensures.end, c.requires) in
+    let key = edge_key (edge_of c.end-lower.result) (edge_of c.args.upper) c.edge.ensures.edge c.edge-2.ensures.edge lt in
+    let held = rw c.end-lower.ensures.end at (c.in_ok-split.ensures.holds (edge_of c.end-lower.result) key (sym c.find.ensures.value) (omega (arith, lt))) in
+    tells_split c.args.self.end (edge_of c.args.upper) (map span_of c.in_ok-split.split.items) held.1 c.in_ok-split.ensures.last
+
+pub returns : goal.returns
+returns c =
+    let lt : place (edge_of c.end-lower.result) < place (edge_of c.args.upper) = omega (arith, ap place c.end-lower.ensures.end, c.requires) in
+    let key = edge_key (edge_of c.end-lower.result) (edge_of c.args.upper) c.edge.ensures.edge c.edge-2.ensures.edge lt in
+    let held = rw c.end-lower.ensures.end at (c.in_ok-split.ensures.holds (edge_of c.end-lower.result) key (sym c.find.ensures.value) (omega (arith, lt))) in
+    IfOk-weaker c.tell.result (λ d. d ≡ told_more c.args.self (edge_of c.args.upper) (map span_of c.in_ok-split.split.items)) (Told c.args.roll.now c.args.self (edge_of c.args.upper))
+      (λ d e. record {
+        spans = map span_of c.in_ok-split.split.items;
+        tells = tells_split c.args.self.end (edge_of c.args.upper) (map span_of c.in_ok-split.split.items) held.1 c.in_ok-split.ensures.last;
+        holds = held.0;
+        now = e;
+      }) c.tell.ensures

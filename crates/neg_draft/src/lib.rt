@@ -1,0 +1,8 @@
+//! Messages that are written from front to back.
+#![tactic(auto)]
+
+mod draft;
+mod own;
+
+pub use draft::Draft;
+pub use own::is_own_print;

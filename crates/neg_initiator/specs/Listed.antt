@@ -1,0 +1,26 @@
+-- Which ids a reply adds to those found: what it lists of a stretch, against what the own roll has there.
+use Rattle.std.specs.Prelude.{◌≡◌, ◌<◌, ◌⊎◌, ℕ, List, [], ◌∷◌, length, Contains}
+use Rattle.neg_codec.specs.declared.Id.{Id}
+use Rattle.neg_codec.specs.declared.Item.{Item}
+use Rattle.neg_codec.specs.Ranges.{ids, Span, Stretch, stretches}
+use Rattle.item_roll.specs.Parts.{part, ids_of}
+
+-- the reply lists the id in a stretch where the own roll lacks it
+abbrev pub IsListed : List Item → List Span → Id → Type 0
+IsListed a answered i = (s : Stretch) × (is : List Id) × Contains (stretches answered) s × (s.claim ≡ ids is) × Contains is i × (Contains (ids_of (part a s.lower s.upper)) i → ⊥)
+
+-- the own roll has the id in a stretch where the reply doesn't list it
+abbrev pub IsUnlisted : List Item → List Span → Id → Type 0
+IsUnlisted a answered i = (s : Stretch) × (is : List Id) × Contains (stretches answered) s × (s.claim ≡ ids is) × Contains (ids_of (part a s.lower s.upper)) i × (Contains is i → ⊥)
+
+-- no id stands twice
+abbrev pub Distinct : List Id → Type 0
+Distinct [] = Unit {0}
+Distinct (i ∷ is) = (Contains is i → ⊥) × Distinct is
+
+-- more ids than may be needed: found needed before, or listed by the reply
+pub record PassesMost (a : List Item) (answered : List Span) (need : List Id) (most : ℕ) : Type 0 where
+  pub ids : List Id
+  pub distinct : Distinct ids
+  pub more : most < length ids
+  pub each : (i : Id) → Contains ids i → Contains need i ⊎ IsListed a answered i

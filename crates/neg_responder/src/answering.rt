@@ -1,0 +1,97 @@
+//! Answers, as bytes.
+
+ghost use Rattle.std.specs.Prelude.{◌≡◌, ◌≤◌, ◌<◌, ℕ, ◌∷◌, [], List, length, IfOk, IfErr, Err};
+ghost use Rattle.neg_codec.specs.Ranges.{Span};
+ghost use Rattle.neg_codec.specs.Text.{Spells};
+ghost use Rattle.neg_codec.specs.Reading.{longest, message_at};
+ghost use Rattle.neg_codec.specs.declared.CodecFault.{CodecFault};
+ghost use Rattle.neg_codec.specs.declared.CodecFault.TheVariants as codec;
+ghost use Rattle.item_roll.specs.Truth.{Follows};
+ghost use Rattle.neg_responder.specs.Reply.{SkipsSame, Refuses};
+
+use crate::ranges::reply;
+use item_roll::Roll;
+use neg_codec::{CodecFault, Message, decode, encode};
+use std::alloc::{AllocError, Global};
+use thiserror::Error;
+
+/// Why a query wasn't answered.
+#[derive(Clone, Copy, Debug, PartialEq, Eq, Error)]
+pub enum AnswerFault {
+    /// The query is no message.
+    #[error("bad query: {0}")]
+    Bad(CodecFault),
+    /// No memory was found.
+    #[error("out of memory")]
+    Memory,
+}
+
+impl From<AllocError> for AnswerFault {
+    ghost use Rattle.std.specs.Prelude.{◌≡◌};
+    ghost use Rattle.neg_responder.specs.declared.answering.AnswerFault.TheVariants.{Memory};
+
+    ghost from_gives = { λ _ e. e ≡ Memory };
+
+    fn from(_error: AllocError) -> AnswerFault {
+        AnswerFault::Memory
+    }
+}
+
+/// The one byte that tells which version is spoken.
+fn own_version(alloc: Global) -> Result<Vec<u8>, AnswerFault>
+    ensures version { IfOk result (λ v. v.items ≡ 0x61 ∷ []) }
+    ensures fault { IfErr result (λ e. e ≡ AnswerFault.Memory) }
+{
+    match vec![in alloc; 0x61] {
+        Ok(bytes) => Ok(bytes),
+        Err(_) => Err(AnswerFault::Memory),
+    }
+}
+
+/// The answer to a message.
+fn answer_message(alloc: Global, roll: &Roll, asked: &Message) -> Result<Vec<u8>, AnswerFault>
+    ensures follows { IfOk result (λ v. (r : List Span) × Spells v.items r × Follows roll.now asked.now r × SkipsSame roll.now asked.now r) }
+    ensures fault { IfErr result (λ e. e ≡ AnswerFault.Memory) }
+{
+    let message = reply(alloc, roll, asked)?;
+    let bytes = encode(alloc, &message)?;
+    Ok(bytes)
+}
+
+/// The answer to bytes that aren't read as a message.
+fn answer_fault(alloc: Global, fault: CodecFault) -> Result<Vec<u8>, AnswerFault>
+    ensures bad { (f : CodecFault) → result ≡ Err (AnswerFault.Bad f) → (f ≡ fault) × Refuses fault }
+    ensures refused { Refuses fault → result ≡ Err (AnswerFault.Bad fault) }
+    ensures version { (b : ℕ) → fault ≡ codec.Version b → IfOk result (λ v. v.items ≡ 0x61 ∷ []) }
+    ensures others { IfOk result (λ v. (b : ℕ) × (fault ≡ codec.Version b)) }
+{
+    match fault {
+        CodecFault::Version(_) => own_version(alloc),
+        CodecFault::Memory => Err(AnswerFault::Memory),
+        other => Err(AnswerFault::Bad(other)),
+    }
+}
+
+/// The answer of a roll to a query (Negentropy protocol V1). A query of another version is answered by
+/// the one byte 61, the version that is spoken here. It costs a pass over the query and, for each
+/// fingerprint and list in it, a pass over the items that it tells of.
+pub fn answer(
+    alloc: Global,
+    roll: &Roll,
+    query: &[u8],
+    _limit: usize,
+) -> Result<Vec<u8>, AnswerFault>
+    requires { 4096 ≤ _limit }
+    // The answer follows the roll, and skips what is the same on both sides.
+    ensures follows { IfOk result (λ v. (q : List Span) → length query.now ≤ longest → Spells query.now q → (r : List Span) × Spells v.items r × Follows roll.now q r × SkipsSame roll.now q r) }
+    // A query is refused just where it is no message, and by that fault.
+    ensures bad { (f : CodecFault) → result ≡ Err (AnswerFault.Bad f) → (message_at query.now ≡ Err f) × Refuses f }
+    ensures refused { (f : CodecFault) → message_at query.now ≡ Err f → Refuses f → result ≡ Err (AnswerFault.Bad f) }
+    // Another version is no fault.
+    ensures version { (b : ℕ) → message_at query.now ≡ Err (codec.Version b) → IfOk result (λ v. v.items ≡ 0x61 ∷ []) }
+{
+    match decode(alloc, query) {
+        Ok(asked) => answer_message(alloc, roll, &asked),
+        Err(fault) => answer_fault(alloc, fault),
+    }
+}

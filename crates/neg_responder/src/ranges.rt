@@ -1,0 +1,47 @@
+//! A reply, range by range of the question.
+
+ghost use Rattle.std.specs.Prelude.{◌≤◌, IfOk};
+ghost use Rattle.neg_codec.specs.Keys.{place};
+ghost use Rattle.neg_codec.specs.Ranges.{edge_of, span_of};
+ghost use Rattle.item_roll.specs.Truth.{Follows};
+ghost use Rattle.neg_draft.specs.Coverage.{IsDraft};
+ghost use Rattle.neg_responder.specs.Reply.{SkipsSame, Responds};
+
+use item_roll::Roll;
+use neg_codec::{Message, Payload, Range};
+use neg_draft::{Draft, is_own_print};
+use std::alloc::{AllocError, Global};
+
+/// The draft after a range of the question.
+fn reply_range(alloc: Global, roll: &Roll, draft: Draft, range: &Range) -> Result<Draft, AllocError>
+    requires { place draft.end ≤ place (edge_of range.now.upper) }
+    ensures responds { IfOk result (λ d. Responds roll.now draft (span_of range.now) d) }
+    ensures draft { IsDraft draft }
+{
+    let lower = draft.end();
+    if !lower.is_below(&range.upper) {
+        return Ok(draft.skip(range.upper));
+    }
+    match &range.payload {
+        Payload::Skip => Ok(draft.skip(range.upper)),
+        Payload::Print(print) => {
+            if is_own_print(roll, &lower, &range.upper, print) {
+                Ok(draft.skip(range.upper))
+            } else {
+                draft.tell_split(alloc, roll, range.upper)
+            }
+        }
+        Payload::Ids(_) => draft.tell_ids(alloc, roll, range.upper),
+    }
+}
+
+/// The reply to a question.
+pub fn reply(alloc: Global, roll: &Roll, asked: &Message) -> Result<Message, AllocError>
+    ensures { IfOk result (λ m. Follows roll.now asked.now m × SkipsSame roll.now asked.now m) }
+{
+    let mut draft = Draft::new(alloc);
+    for range in asked.ranges() {
+        draft = reply_range(alloc, roll, draft, range)?;
+    }
+    Ok(draft.into_message())
+}

@@ -1,0 +1,71 @@
+-- What a peer in this process answers.
+use Rattle.std.proofs.Common.{◌≡◌, ℕ, ◌≤◌, ◌++◌, List, [], ◌∷◌, length, Bool, true, false, nat_lt, Err, if◌then◌else◌, refl, sym, ap, subst, ltb-false}
+use Rattle.std.specs.Prelude.{All, Contains}
+use Rattle.std.proofs.lemmas.List.Elements.{All-nil, All-cons, All-push, All-weaker, All-contains, All-contains_itself, Contains-append_right}
+use Rattle.neg_codec.specs.declared.CodecFault.TheVariants as fault
+use Rattle.neg_codec.specs.declared.Item.{Item}
+use Rattle.neg_codec.specs.Ranges.{Span}
+use Rattle.neg_codec.specs.Reading.{longest, versioned_at, message_at}
+use Rattle.neg_codec.specs.Text.{Spells}
+use Rattle.item_roll.specs.Truth.{Follows}
+use Rattle.neg_responder.specs.Reply.{SkipsSame}
+use Rattle.neg_session.specs.Exchange.{Exchange, exchange, gained}
+use Rattle.neg_session.specs.Explaining.{IsExplained, AnswersBy}
+use Rattle.neg_session.specs.Asking.{Linked, Chained}
+use Rattle.neg_session.specs.Local.{Local, Keeps, RollExplains}
+
+too_long : (query : List ℕ) → nat_lt longest (length query) ≡ true → message_at query ≡ Err fault.TooLong
+unfolding message_at
+too_long query e = ap (λ t. if t then Err fault.TooLong else versioned_at query) e
+
+pub answered_by : (b : List Item) (query reply : List ℕ)
+    → ((q : List Span) → length query ≤ longest → Spells query q → (r : List Span) × Spells reply r × Follows b q r × SkipsSame b q r)
+    → (message_at query ≡ Err fault.TooLong → ⊥) → AnswersBy b (exchange query reply)
+answered_by b query reply follows short q spells = go (nat_lt longest (length query)) refl
+  where
+    go : (t : Bool) → nat_lt longest (length query) ≡ t → IsExplained b (exchange query reply)
+    go true e = absurd (short (too_long query e))
+    go false e = let r = follows q (ltb-false longest (length query) e) spells in
+        record { asked = q; answered = r.0; asks = spells; answers = r.1; follows = r.2 }
+
+pub keeps_none : (p q : Local) → q.roll ≡ p.roll → q.log ≡ p.log → Keeps p q
+keeps_none p q roll log = record {
+  roll = roll;
+  answers = λ h. subst (λ (b : List Item). All (AnswersBy b) q.log) (sym roll) (subst (λ (es : List Exchange). All (AnswersBy p.roll) es) (sym log) h);
+}
+
+pub keeps_one : (p q : Local) (e : Exchange) → q.roll ≡ p.roll → q.log ≡ p.log ++ e ∷ [] → AnswersBy p.roll e → Keeps p q
+keeps_one p q e roll log new = record {
+  roll = roll;
+  answers = λ h. subst (λ (b : List Item). All (AnswersBy b) q.log) (sym roll)
+      (subst (λ (es : List Exchange). All (AnswersBy p.roll) es) (sym log) (All-push (AnswersBy p.roll) p.log e h new));
+}
+
+IsAsked : Exchange → Type 0
+IsAsked e = (q : List Span) × Spells e.asked q
+
+linked_asked : (own : List Item) (e : Exchange) (es : List Exchange) → Linked own e es → All IsAsked es
+unfolding IsAsked
+linked_asked own e [] l = All-nil IsAsked
+linked_asked own e (f ∷ fs) l = All-cons IsAsked f fs (l.0.asked, l.0.spelled) (linked_asked own f fs l.1)
+
+chained_asked : (own : List Item) (es : List Exchange) → Chained own es → All IsAsked es
+unfolding IsAsked
+chained_asked own [] l = All-nil IsAsked
+chained_asked own (e ∷ es) l = All-cons IsAsked e es (l.0.asked, l.0.spelled) (linked_asked own e es l.1)
+
+all_back : {X : Type 0} (P : X → Type 0) → (xs ys : List X) → All P (xs ++ ys) → All P ys
+all_back P xs ys h = All-weaker (Contains ys) P (λ x m. All-contains P (xs ++ ys) x h (Contains-append_right xs ys x m)) ys (All-contains_itself ys)
+
+pub local_explains : RollExplains
+unfolding IsAsked
+local_explains own b old new roll answers appended chained = record {
+  roll = roll;
+  each = All-weaker (Contains (gained old new)) (IsExplained b)
+      (λ e m. let q = All-contains IsAsked (gained old new) e (chained_asked own (gained old new) chained) m in all_answers e m q.0 q.1)
+      (gained old new) (All-contains_itself (gained old new));
+}
+  where
+    all_answers : (e : Exchange) → Contains (gained old new) e → AnswersBy b e
+    all_answers e m = All-contains (AnswersBy b) (gained old new) e
+        (all_back (AnswersBy b) old (gained old new) (subst (λ (es : List Exchange). All (AnswersBy b) es) appended answers)) m

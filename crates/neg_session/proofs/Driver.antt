@@ -1,0 +1,312 @@
+-- How the log of a session grows, question by question, and how the session ends.
+use Rattle.std.proofs.Common.{◌≡◌, ℕ, ◌+◌, ◌-◌, ◌<◌, ◌≤◌, ◌++◌, ◌⊎◌, inl, inr, List, [], ◌∷◌, length, drop, Result, Ok, Err, refl, sym, ap, ◌∙◌, subst, arith, zero-add, append_assoc, append-nil, length-append}
+use Rattle.std.specs.Prelude.{◌↔◌, All, Contains}
+use Rattle.std.proofs.lemmas.List.Elements.{All-nil, All-head, All-tail, All-push, All-weaker, All-contains, All-contains_itself, Contains-append_left, Contains-push}
+use Rattle.std.proofs.lemmas.List.Sums.{sum_by-append}
+use Rattle.std.proofs.Math.Seq.{drop-append_seam, drop-length}
+use Rattle.neg_codec.specs.declared.CodecFault.{CodecFault}
+use Rattle.neg_codec.specs.declared.Id.{Id}
+use Rattle.neg_codec.specs.declared.Item.{Item}
+use Rattle.neg_codec.specs.Laws.{OneMessage}
+use Rattle.neg_codec.specs.Ranges.{Span, stretches}
+use Rattle.neg_codec.specs.Reading.{message_at}
+use Rattle.neg_codec.specs.Text.{Spells}
+use Rattle.item_roll.specs.Parts.{IsRoll, part}
+use Rattle.item_roll.specs.Truth.{IsTrueOf, Follows}
+use Rattle.neg_initiator.specs.declared.initiator.Outcome.{Outcome}
+use Rattle.neg_initiator.specs.Listed.{IsListed, PassesMost}
+use Rattle.neg_initiator.specs.Session.{Session, Starts, Taken, GoesOn, IsDone, NotAskedAgain, Refuses}
+use Rattle.neg_initiator.specs.Settled.{HasOnePrint, ToldApart, OneTime, Settled, Needs, Has}
+use Rattle.neg_initiator.proofs.Ends.{settled_first, settled_last}
+use Rattle.neg_session.specs.Exchange.{Exchange, exchange, gained, answered_bytes}
+use Rattle.neg_session.specs.Explaining.{IsExplained, Explains}
+use Rattle.neg_session.specs.Asking.{Resumes, Linked, Chained, MayResume, MayAsk}
+use Rattle.neg_session.specs.Ran.{trusted_of, IsRight, LastAnswer, IsRefused, IsOffered, OffersMore, Ran}
+use Rattle.neg_session.specs.Going.{Knows, IsRead, Going}
+use Rattle.neg_session.specs.Faults.{fault_of}
+use Rattle.neg_session.specs.declared.peer.PeerFault.{PeerFault}
+use Rattle.neg_session.specs.declared.peer.PeerFault.TheVariants as peer
+use Rattle.neg_session.specs.declared.limits.SessionLimits.{SessionLimits}
+use Rattle.neg_session.specs.declared.fault.SessionFault.{SessionFault}
+use Rattle.neg_session.specs.declared.fault.SessionFault.TheVariants.{PeerFailed, Bad, Rounds, NeedFull, LogFull, Memory}
+
+-- what a log has gained
+
+gained_none : (old : List Exchange) → gained old old ≡ []
+gained_none old = drop-length old
+
+gained_more : (old now new g : List Exchange) → now ≡ old ++ gained old now → new ≡ now ++ g → gained old new ≡ gained old now ++ g
+gained_more old now new g p q =
+    let e : new ≡ old ++ (gained old now ++ g) = q ∙ (ap (λ w. w ++ g) p ∙ append_assoc old (gained old now) g) in
+    ap (λ w. drop (length old) w) e ∙ drop-append_seam old (gained old now ++ g)
+
+-- questions
+
+linked_more : (own : List Item) (e : Exchange) (es : List Exchange) (q r : List ℕ) → Linked own e es → MayResume own e es q → Linked own e (es ++ exchange q r ∷ [])
+linked_more own e [] q r l m = (m, tt)
+linked_more own e (f ∷ fs) q r l m = (l.0, linked_more own f fs q r l.1 m)
+
+chained_more : (own : List Item) (es : List Exchange) (q r : List ℕ) → Chained own es → MayAsk own es q → Chained own (es ++ exchange q r ∷ [])
+chained_more own [] q r l m = (m, tt)
+chained_more own (e ∷ es) q r l m = (l.0, linked_more own e es q r l.1 m)
+
+resumes_more : (own : List Item) (e : Exchange) (es : List Exchange) (f : Exchange) (q : List ℕ) → Resumes own f q → MayResume own e (es ++ f ∷ []) q
+resumes_more own e [] f q a = a
+resumes_more own e (x ∷ xs) f q a = resumes_more own x xs f q a
+
+may_more : (own : List Item) (es : List Exchange) (f : Exchange) (q : List ℕ) → Resumes own f q → MayAsk own (es ++ f ∷ []) q
+may_more own [] f q a = a
+may_more own (e ∷ es) f q a = resumes_more own e es f q a
+
+-- lists that explain
+
+all_front : {X : Type 0} (P : X → Type 0) → (xs ys : List X) → All P (xs ++ ys) → All P xs
+all_front P xs ys h = All-weaker (Contains xs) P (λ x m. All-contains P (xs ++ ys) x h (Contains-append_left xs ys x m)) xs (All-contains_itself xs)
+
+explains_front : (b : List Item) (es fs : List Exchange) → Explains b (es ++ fs) → Explains b es
+explains_front b es fs h = record { roll = h.roll; each = all_front (IsExplained b) es fs h.each }
+
+explains_last : (b : List Item) (es : List Exchange) (e : Exchange) → Explains b (es ++ e ∷ []) → IsExplained b e
+explains_last b es e h = All-contains (IsExplained b) (es ++ e ∷ []) e h.each (Contains-push es e)
+
+follows_last : OneMessage → (b : List Item) (e : Exchange) (m r : List Span) → Spells e.asked m → Spells e.answered r → IsExplained b e → Follows b m r
+follows_last one b e m r sm sr x =
+    let half : Follows b x.asked r = subst (λ (w : List Span). Follows b x.asked w) (one e.answered x.answered r x.answers sr) x.follows in
+    subst (λ (w : List Span). Follows b w r) (one e.asked x.asked m x.asks sm) half
+
+-- the last answer
+
+last_gives : (P : List ℕ → Type 0) → (es : List Exchange) (e : Exchange) → LastAnswer P (es ++ e ∷ []) → P e.answered
+last_gives P [] e h = h
+last_gives P (x ∷ []) e h = h
+last_gives P (x ∷ y ∷ ys) e h = last_gives P (y ∷ ys) e h
+
+last_is : (P : List ℕ → Type 0) → (es : List Exchange) (e : Exchange) → P e.answered → LastAnswer P (es ++ e ∷ [])
+last_is P [] e h = h
+last_is P (x ∷ []) e h = h
+last_is P (x ∷ y ∷ ys) e h = last_is P (y ∷ ys) e h
+
+read_or_refused : (e : Exchange) (c : CodecFault) → IsRead e → IsRefused c e.answered → ⊥
+read_or_refused e c m h = let r = m.1 in cc
+
+no_refusal : (c : CodecFault) (log : List Exchange) → All IsRead log → LastAnswer (IsRefused c) log → ⊥
+no_refusal c [] h l = l
+no_refusal c (e ∷ []) h l = read_or_refused e c (All-head IsRead e [] h) l
+no_refusal c (e ∷ f ∷ es) h l = no_refusal c (f ∷ es) (All-tail IsRead e (f ∷ es) h) l
+
+bytes_more : (es : List Exchange) (q r : List ℕ) → answered_bytes (es ++ exchange q r ∷ []) ≡ answered_bytes es + length r
+bytes_more es q r = sum_by-append (λ e. length e.answered) es (exchange q r ∷ []) ∙ ap (λ n. answered_bytes es + n) (zero-add (length r))
+
+-- ids that are offered
+
+offered_more : (own : List Item) (es fs : List Exchange) (i : Id) → IsOffered own es i → IsOffered own (es ++ fs) i
+offered_more own es fs i h = record { pair = h.pair; answered = h.answered; stands = Contains-append_left es fs h.pair h.stands; read = h.read; listed = h.listed }
+
+offered_last : (own : List Item) (es : List Exchange) (e : Exchange) (answered : List Span) → message_at e.answered ≡ Ok answered → (i : Id) → IsListed own answered i → IsOffered own (es ++ e ∷ []) i
+offered_last own es e answered read i h = record { pair = e; answered = answered; stands = Contains-push es e; read = read; listed = h }
+
+offers_more : (own : List Item) (es : List Exchange) (e : Exchange) (answered : List Span) (need : List Id) (most : ℕ) → message_at e.answered ≡ Ok answered
+    → ((i : Id) → Contains need i → IsOffered own es i) → PassesMost own answered need most → OffersMore own (es ++ e ∷ []) most
+offers_more own es e answered need most read before h = record {
+  ids = h.ids;
+  distinct = h.distinct;
+  more = h.more;
+  each = All-weaker (Contains h.ids) (IsOffered own (es ++ e ∷ []))
+      (λ i m. elim (h.each i m) [ inl old ↦ offered_more own es (e ∷ []) i (before i old) | inr new ↦ offered_last own es e answered read i new ])
+      h.ids (All-contains_itself h.ids);
+}
+
+-- what is known of the other side
+
+told_before : (own b : List Item) (ts us : List (Item × Item)) → ((t : Item × Item) → Contains ts t → Contains us t) → ToldApart own b us → ToldApart own b ts
+told_before own b ts us kept told =
+    let P : Item × Item → Type 0 = λ t. HasOnePrint own b t → part own t.0 t.1 ≡ part b t.0 t.1 in
+    All-weaker (Contains ts) P (λ t m. All-contains P us t told (kept t m)) ts (All-contains_itself ts)
+
+knows_first : (own b : List Item) (need : ℕ) (text : List ℕ) (s : Session) → Starts own need text s → IsRoll b → Knows own b s
+knows_first own b need text s h roll_b =
+    let roll_a : IsRoll own = subst IsRoll h.roll h.sound.roll in
+    record {
+      one_print = subst (λ ts. All (HasOnePrint own b) ts) (sym h.trusted) (All-nil (HasOnePrint own b));
+      settled = λ told one. subst (λ (hs : List Id). Settled own b s.asked s.need hs) (sym h.have)
+          (subst (λ (ns : List Id). Settled own b s.asked ns []) (sym h.need) (settled_first own b s.asked roll_a.keys roll_b.keys h.skips_nothing));
+    }
+
+knows_more : (b : List Item) (old new : Session) (answered : List Span) → IsRoll b → Follows b old.asked answered → Taken answered old new → Knows old.roll b old → Knows old.roll b new
+knows_more b old new answered roll_b follows taken knows =
+    let step = taken.advances b roll_b follows in
+    record {
+      one_print = All-weaker (λ t. Contains old.trusted t ⊎ HasOnePrint old.roll b t) (HasOnePrint old.roll b)
+          (λ t h. elim h [ inl m ↦ All-contains (HasOnePrint old.roll b) old.trusted t knows.one_print m | inr now ↦ now ]) new.trusted step.one_print;
+      settled = λ told one. step.settled told one (knows.settled (told_before old.roll b old.trusted new.trusted taken.trusted_kept told) one);
+    }
+
+right_of : (own b : List Item) (s : Session) (o : Outcome) → Knows own b s → IsDone s → o.need.keys ≡ s.need → o.have.keys ≡ s.have → trusted_of o ≡ s.trusted → IsRight own b o
+right_of own b s o knows done is_need is_have is_trusted = record {
+  one_print = subst (λ ts. All (HasOnePrint own b) ts) (sym is_trusted) knows.one_print;
+  need = λ told one i. subst (λ (ns : List Id). Contains ns i ↔ Needs own b i) (sym is_need) ((found told one).0 i);
+  have = λ told one i. subst (λ (hs : List Id). Contains hs i ↔ Has own b i) (sym is_have) ((found told one).1 i);
+}
+  where
+    found : ToldApart own b (trusted_of o) → OneTime own b → ((i : Id) → Contains s.need i ↔ Needs own b i) × ((i : Id) → Contains s.have i ↔ Has own b i)
+    found told one = settled_last own b s.asked s.need s.have done.skips_all (knows.settled (subst (λ ts. ToldApart own b ts) is_trusted told) one)
+
+-- a session begins
+
+pub going_first : (own : List Item) (limits : SessionLimits) (old : List Exchange) (before : ℕ) (text : List ℕ) (s : Session)
+    → Starts own limits.need text s → Going own limits 0 old old before before text limits.log s
+going_first own limits old before text s h = record {
+  appended = rw gained_none (sym (append-nil old));
+  chained = rw gained_none tt;
+  may = rw gained_none (record { asked = s.asked; spelled = h.spelled; truth = subst (λ (w : List Item). All (IsTrueOf w) (stretches s.asked)) h.roll h.sound.truth; skips_nothing = h.skips_nothing });
+  count = rw gained_none refl;
+  bytes = rw gained_none (omega arith);
+  read = rw gained_none (All-nil IsRead);
+  unfailed = refl;
+  roll = h.roll;
+  most = h.most;
+  phase = h.phase;
+  sound = h.sound;
+  spelled = h.spelled;
+  offered = λ i m. absurd (contains_none i (subst (λ (ns : List Id). Contains ns i) h.need m));
+  knows = λ b e. knows_first own b limits.need text s h e.roll;
+}
+  where
+    contains_none : (i : Id) → Contains [] i → ⊥
+    contains_none i m = omega arith
+
+-- it ends before it begins
+pub ran_none : (own : List Item) (limits : SessionLimits) (old : List Exchange) (before : ℕ) → Ran own limits old old before before (Err Memory)
+ran_none own limits old before = record {
+  appended = rw gained_none (sym (append-nil old));
+  chained = rw gained_none tt;
+  within = rw gained_none (omega arith);
+  exact = tt;
+  unfailed = tt;
+  failed = λ e. cc;
+  bad = λ c e. cc;
+  rounds = λ e. cc;
+  need_full = λ e. cc;
+  log_full = (λ e. cc, rw gained_none (λ h. absurd (omega arith)));
+  refused = λ c r h l. absurd (subst (LastAnswer (IsRefused c)) (gained_none old) l);
+}
+
+-- it ends without another pair
+module _ (own : List Item) (limits : SessionLimits) (asked : ℕ) (old now new : List Exchange) (before after last : ℕ) (question : List ℕ) (left : ℕ) (s : Session)
+    (going : Going own limits asked old now before after question left s) (same : new ≡ now) where
+  pub ran_quiet : asked ≤ limits.rounds → (e : SessionFault) → (e ≡ PeerFailed → after < last) → ((c : CodecFault) → e ≡ Bad c → ⊥)
+      → (e ≡ Rounds → asked ≡ limits.rounds) → (e ≡ NeedFull → ⊥) → (e ≡ LogFull → ⊥) → Ran own limits old new before last (Err e)
+  ran_quiet room e failed bad rounds need_full log_full = record {
+    appended = rw same going.appended;
+    chained = rw same going.chained;
+    within = rw same (omega (arith, going.count));
+    exact = tt;
+    unfailed = tt;
+    failed = λ h. omega (arith, failed (is h), going.unfailed);
+    bad = λ c h. absurd (bad c (is h));
+    rounds = λ h. rw same (going.count ∙ rounds (is h));
+    need_full = λ h. absurd (need_full (is h));
+    log_full = (λ h. absurd (log_full (is h)), rw same (λ h. absurd (omega (arith, going.bytes))));
+    refused = λ c r h l. absurd (no_refusal c (gained old now) going.read (subst (λ w. LastAnswer (IsRefused c) (gained old w)) same l));
+  }
+    where
+      is : {f : SessionFault} → ◌≡◌ {A = Result Outcome SessionFault} (Err e) (Err f) → e ≡ f
+      is h = cc
+
+  -- the peer gave no answer
+  pub ran_unanswered : asked ≤ limits.rounds → (f : PeerFault) → (f ≡ peer.Failed → after < last) → Ran own limits old new before last (Err (fault_of f))
+  ran_unanswered room peer.Failed rose = ran_quiet room PeerFailed (λ e. rose refl) (λ c e. cc) (λ e. cc) (λ e. cc) (λ e. cc)
+  ran_unanswered room peer.Memory rose = ran_quiet room Memory (λ e. cc) (λ c e. cc) (λ e. cc) (λ e. cc) (λ e. cc)
+
+-- it goes on, or ends, after another pair
+module _ (own : List Item) (limits : SessionLimits) (asked : ℕ) (old now new : List Exchange) (before after last : ℕ) (question : List ℕ) (left : ℕ) (s : Session)
+    (going : Going own limits asked old now before after question left s) (reply : List ℕ) (grew : new ≡ now ++ exchange question reply ∷ []) (same : last ≡ after) where
+  pairs : gained old new ≡ gained old now ++ exchange question reply ∷ []
+  pairs = gained_more old now new _ going.appended grew
+
+  next_appended : new ≡ old ++ gained old new
+  next_appended = rw pairs (grew ∙ (ap (λ w. w ++ exchange question reply ∷ []) going.appended ∙ append_assoc old (gained old now) _))
+
+  next_chained : Chained own (gained old new)
+  next_chained = rw pairs (chained_more own (gained old now) question reply going.chained going.may)
+
+  next_count : length (gained old new) ≡ asked + 1
+  next_count = rw pairs (omega (arith, length-append (gained old now) (exchange question reply ∷ []), going.count))
+
+  next_bytes : answered_bytes (gained old new) ≡ answered_bytes (gained old now) + length reply
+  next_bytes = rw pairs (bytes_more (gained old now) question reply)
+
+  next_knows : OneMessage → (next : Session) (answered : List Span) → Spells reply answered → Taken answered s next → (b : List Item) → Explains b (gained old new) → Knows own b next
+  next_knows one next answered spells taken b h =
+      let all : Explains b (gained old now ++ exchange question reply ∷ []) = subst (Explains b) pairs h in
+      let follows : Follows b s.asked answered = follows_last one b (exchange question reply) s.asked answered going.spelled spells (explains_last b (gained old now) (exchange question reply) all) in
+      let was : Knows s.roll b s = subst (λ (w : List Item). Knows w b s) (sym going.roll) (going.knows b (explains_front b (gained old now) _ all)) in
+      subst (λ (w : List Item). Knows w b next) going.roll (knows_more b s next answered h.roll follows taken was)
+
+  pub going_more : OneMessage → (next : Session) (answered : List Span) (text : List ℕ) → length reply ≤ left → Spells reply answered → message_at reply ≡ Ok answered → Taken answered s next → GoesOn text next
+      → Going own limits (asked + 1) old new before last text (left - length reply) next
+  going_more one next answered text room spells read taken goes = record {
+    appended = next_appended;
+    chained = next_chained;
+    may = rw pairs (may_more own (gained old now) (exchange question reply) text (record {
+      answered = answered;
+      asked = next.asked;
+      answers = spells;
+      spelled = goes.spelled;
+      truth = subst (λ (w : List Item). All (IsTrueOf w) (stretches next.asked)) (taken.roll ∙ going.roll) taken.sound.truth;
+      asks = goes.asks;
+      not_again = subst (λ (w : List Item). NotAskedAgain w answered next.asked) going.roll taken.not_again;
+    }));
+    count = next_count;
+    bytes = omega (arith, next_bytes, going.bytes);
+    read = rw pairs (All-push IsRead (gained old now) (exchange question reply) going.read (answered, read));
+    unfailed = same ∙ going.unfailed;
+    roll = taken.roll ∙ going.roll;
+    most = taken.most ∙ going.most;
+    phase = goes.phase;
+    sound = taken.sound;
+    spelled = goes.spelled;
+    offered = λ i m. rw pairs (elim (taken.need_from i m) [
+      | inl was ↦ offered_more own (gained old now) (exchange question reply ∷ []) i (going.offered i was)
+      | inr listed ↦ offered_last own (gained old now) (exchange question reply) answered read i (subst (λ (w : List Item). IsListed w answered i) going.roll listed)
+    ]);
+    knows = next_knows one next answered spells taken;
+  }
+
+  pub ran_done : OneMessage → (next : Session) (answered : List Span) → asked < limits.rounds → length reply ≤ left → Spells reply answered → message_at reply ≡ Ok answered → Taken answered s next → IsDone next
+      → (o : Outcome) → o.need.keys ≡ next.need → o.have.keys ≡ next.have → trusted_of o ≡ next.trusted → Ran own limits old new before last (Ok o)
+  ran_done one next answered round room spells read taken done o is_need is_have is_trusted = record {
+    appended = next_appended;
+    chained = next_chained;
+    within = omega (arith, next_count);
+    exact = λ b h. right_of own b next o (next_knows one next answered spells taken b h) done is_need is_have is_trusted;
+    unfailed = same ∙ going.unfailed;
+    failed = λ e. cc;
+    bad = λ c e. cc;
+    rounds = λ e. cc;
+    need_full = λ e. cc;
+    log_full = (λ e. cc, λ h. absurd (omega (arith, next_bytes, going.bytes)));
+    refused = λ c r h l. absurd (read_or_refused (exchange question reply) c (answered, read) (last_gives (IsRefused c) (gained old now) (exchange question reply) (subst (LastAnswer (IsRefused c)) pairs l)));
+  }
+
+  pub ran_fault : asked < limits.rounds → (e : SessionFault) → (e ≡ PeerFailed → ⊥) → ((c : CodecFault) → e ≡ Bad c → IsRefused c reply) → (e ≡ Rounds → ⊥)
+      → (e ≡ NeedFull → (answered : List Span) × (message_at reply ≡ Ok answered) × PassesMost s.roll answered s.need s.most) → ((e ≡ LogFull) ↔ (left < length reply))
+      → ((c : CodecFault) → Refuses c → length reply ≤ left → IsRefused c reply → e ≡ Bad c) → Ran own limits old new before last (Err e)
+  ran_fault round e failed bad rounds need_full log_full refused = record {
+    appended = next_appended;
+    chained = next_chained;
+    within = omega (arith, next_count);
+    exact = tt;
+    unfailed = tt;
+    failed = λ h. absurd (failed (is h));
+    bad = λ c h. rw pairs (last_is (IsRefused c) (gained old now) (exchange question reply) (bad c (is h)));
+    rounds = λ h. absurd (rounds (is h));
+    need_full = λ h. let f = need_full (is h) in
+        let passes : PassesMost own f.0 s.need limits.need = subst (λ (w : List Item). PassesMost w f.0 s.need limits.need) going.roll (subst (λ n. PassesMost s.roll f.0 s.need n) going.most f.2) in
+        rw pairs (offers_more own (gained old now) (exchange question reply) f.0 s.need limits.need f.1 going.offered passes);
+    log_full = (λ h. let more : left < length reply = log_full.0 (is h) in omega (arith, next_bytes, going.bytes), λ h. ap Err (log_full.1 (omega (arith, next_bytes, going.bytes, h))));
+    refused = λ c r h l. ap Err (refused c r (omega (arith, next_bytes, going.bytes, h)) (last_gives (IsRefused c) (gained old now) (exchange question reply) (subst (LastAnswer (IsRefused c)) pairs l)));
+  }
+    where
+      is : {f : SessionFault} → ◌≡◌ {A = Result Outcome SessionFault} (Err e) (Err f) → e ≡ f
+      is h = cc

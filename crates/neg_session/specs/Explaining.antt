@@ -1,0 +1,25 @@
+-- Which lists of items explain what a peer answered.
+use Rattle.std.specs.Prelude.{List, All}
+use Rattle.neg_codec.specs.declared.Item.{Item}
+use Rattle.neg_codec.specs.Ranges.{Span}
+use Rattle.neg_codec.specs.Text.{Spells}
+use Rattle.item_roll.specs.Parts.{IsRoll}
+use Rattle.item_roll.specs.Truth.{Follows}
+use Rattle.neg_session.specs.Exchange.{Exchange}
+
+-- question and answer are messages, and the answer follows the list
+pub record IsExplained (b : List Item) (e : Exchange) : Type 0 where
+  pub asked : List Span
+  pub answered : List Span
+  pub asks : Spells e.asked asked
+  pub answers : Spells e.answered answered
+  pub follows : Follows b asked answered
+
+-- a sorted list of distinct items, which each answer follows
+pub record Explains (b : List Item) (log : List Exchange) : Type 0 where
+  pub roll : IsRoll b
+  pub each : All (IsExplained b) log
+
+-- the list explains the pair if the question is a message
+abbrev pub AnswersBy : List Item → Exchange → Type 0
+AnswersBy b e = (q : List Span) → Spells e.asked q → IsExplained b e

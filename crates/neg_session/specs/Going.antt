@@ -1,0 +1,42 @@
+-- Where a session stands between two questions.
+use Rattle.std.specs.Prelude.{◌≡◌, ◌+◌, ◌++◌, ℕ, List, length, All, Contains, Ok}
+use Rattle.neg_codec.specs.declared.Id.{Id}
+use Rattle.neg_codec.specs.declared.Item.{Item}
+use Rattle.neg_codec.specs.Ranges.{Span}
+use Rattle.neg_codec.specs.Reading.{message_at}
+use Rattle.neg_codec.specs.Text.{Spells}
+use Rattle.neg_initiator.specs.declared.phase.Phase.TheVariants.{Asking}
+use Rattle.neg_initiator.specs.Session.{Session, IsSound}
+use Rattle.neg_initiator.specs.Settled.{HasOnePrint, ToldApart, OneTime, Settled}
+use Rattle.neg_session.specs.Exchange.{Exchange, gained, answered_bytes}
+use Rattle.neg_session.specs.Explaining.{Explains}
+use Rattle.neg_session.specs.Asking.{Chained, MayAsk}
+use Rattle.neg_session.specs.Ran.{IsOffered}
+use Rattle.neg_session.specs.declared.limits.SessionLimits.{SessionLimits}
+
+-- what the session knows of a list of the other side
+pub record Knows (own b : List Item) (s : Session) : Type 0 where
+  pub one_print : All (HasOnePrint own b) s.trusted
+  pub settled : ToldApart own b s.trusted → OneTime own b → Settled own b s.asked s.need s.have
+
+-- the answer is a message
+abbrev pub IsRead : Exchange → Type 0
+IsRead e = (m : List Span) × (message_at e.answered ≡ Ok m)
+
+-- So many questions of the session have been answered, `question` is the next, and so many bytes of
+-- answers are left.
+pub record Going (own : List Item) (limits : SessionLimits) (asked : ℕ) (old now : List Exchange) (before after : ℕ) (question : List ℕ) (left : ℕ) (s : Session) : Type 0 where
+  pub appended : now ≡ old ++ gained old now
+  pub chained : Chained own (gained old now)
+  pub may : MayAsk own (gained old now) question
+  pub count : length (gained old now) ≡ asked
+  pub bytes : left + answered_bytes (gained old now) ≡ limits.log
+  pub read : All IsRead (gained old now)
+  pub unfailed : after ≡ before
+  pub roll : s.roll ≡ own
+  pub most : s.most ≡ limits.need
+  pub phase : s.phase ≡ Asking
+  pub sound : IsSound s
+  pub spelled : Spells question s.asked
+  pub offered : (i : Id) → Contains s.need i → IsOffered own (gained old now) i
+  pub knows : (b : List Item) → Explains b (gained old now) → Knows own b s

@@ -1,0 +1,74 @@
+-- What one session did to its peer's log, and what it found.
+use Rattle.std.specs.Prelude.{◌≡◌, ◌↔◌, ◌<◌, ◌≤◌, ◌++◌, ℕ, List, [], ◌∷◌, length, map, All, Contains, Result, Ok, Err, IfOk, OnOk}
+use Rattle.neg_codec.specs.declared.CodecFault.{CodecFault}
+use Rattle.neg_codec.specs.declared.Id.{Id}
+use Rattle.neg_codec.specs.declared.Item.{Item}
+use Rattle.neg_codec.specs.Ranges.{Span}
+use Rattle.neg_codec.specs.Reading.{message_at}
+use Rattle.neg_initiator.specs.declared.initiator.Outcome.{Outcome}
+use Rattle.neg_initiator.specs.Listed.{IsListed, Distinct}
+use Rattle.neg_initiator.specs.Session.{Refuses}
+use Rattle.neg_initiator.specs.Settled.{Needs, Has, HasOnePrint, ToldApart, OneTime}
+use Rattle.neg_initiator.specs.Views.{pair_of}
+use Rattle.neg_session.specs.Exchange.{Exchange, gained, answered_bytes}
+use Rattle.neg_session.specs.Explaining.{Explains}
+use Rattle.neg_session.specs.Asking.{Chained}
+use Rattle.neg_session.specs.declared.limits.SessionLimits.{SessionLimits}
+use Rattle.neg_session.specs.declared.fault.SessionFault.{SessionFault}
+use Rattle.neg_session.specs.declared.fault.SessionFault.TheVariants.{PeerFailed, Bad, Rounds, NeedFull, LogFull}
+
+-- the stretches that were taken as equal by their fingerprint alone
+abbrev pub trusted_of : Outcome → List (Item × Item)
+trusted_of o = map pair_of o.trusted.items
+
+-- What was found is right for a list of the other side: the trusted stretches have one fingerprint,
+-- and if fingerprints tell the parts apart and no id stands under two times, the ids found are just
+-- those that one side has and the other lacks.
+pub record IsRight (own b : List Item) (o : Outcome) : Type 0 where
+  pub one_print : All (HasOnePrint own b) (trusted_of o)
+  pub need : ToldApart own b (trusted_of o) → OneTime own b → (i : Id) → Contains o.need.keys i ↔ Needs own b i
+  pub have : ToldApart own b (trusted_of o) → OneTime own b → (i : Id) → Contains o.have.keys i ↔ Has own b i
+
+-- the last answer
+abbrev pub LastAnswer : (List ℕ → Type 0) → List Exchange → Type 0
+LastAnswer P [] = ⊥
+LastAnswer P (e ∷ []) = P e.answered
+LastAnswer P (e ∷ f ∷ es) = LastAnswer P (f ∷ es)
+
+-- the answer is no message, by that fault of the reader
+abbrev pub IsRefused : CodecFault → List ℕ → Type 0
+IsRefused c answer = message_at answer ≡ Err c
+
+-- some answer lists the id between bounds between which the own roll lacks it
+pub record IsOffered (own : List Item) (log : List Exchange) (i : Id) : Type 0 where
+  pub pair : Exchange
+  pub answered : List Span
+  pub stands : Contains log pair
+  pub read : message_at pair.answered ≡ Ok answered
+  pub listed : IsListed own answered i
+
+-- more ids are offered than may be needed
+pub record OffersMore (own : List Item) (log : List Exchange) (most : ℕ) : Type 0 where
+  pub ids : List Id
+  pub distinct : Distinct ids
+  pub more : most < length ids
+  pub each : All (IsOffered own log) ids
+
+-- How a session with the own roll ended that found its peer's log at old and left it at new, and the
+-- peer's count of failures at before and after.
+pub record Ran (own : List Item) (limits : SessionLimits) (old new : List Exchange) (before after : ℕ) (result : Result Outcome SessionFault) : Type 0 where
+  -- pairs were added, each question one that may follow the pair before it
+  pub appended : new ≡ old ++ gained old new
+  pub chained : Chained own (gained old new)
+  pub within : length (gained old new) ≤ limits.rounds
+  -- what was found is right for each list that explains the pairs
+  pub exact : IfOk result (λ o. (b : List Item) → Explains b (gained old new) → IsRight own b o)
+  pub unfailed : OnOk result (after ≡ before)
+  -- each fault has its cause
+  pub failed : result ≡ Err PeerFailed → before < after
+  pub bad : (c : CodecFault) → result ≡ Err (Bad c) → LastAnswer (IsRefused c) (gained old new)
+  pub rounds : result ≡ Err Rounds → length (gained old new) ≡ limits.rounds
+  pub need_full : result ≡ Err NeedFull → OffersMore own (gained old new) limits.need
+  pub log_full : (result ≡ Err LogFull) ↔ (limits.log < answered_bytes (gained old new))
+  -- and an answer that is no message is refused
+  pub refused : (c : CodecFault) → Refuses c → answered_bytes (gained old new) ≤ limits.log → LastAnswer (IsRefused c) (gained old new) → result ≡ Err (Bad c)

@@ -1,0 +1,48 @@
+//! A whole session.
+
+ghost use Rattle.std.specs.Prelude.{◌≡◌, ◌<◌, ◌^◌, ◌-◌};
+ghost use Rattle.neg_session.specs.Ran.{Ran};
+
+use crate::fault::SessionFault;
+use crate::limits::SessionLimits;
+use crate::peer::Peer;
+use item_roll::Roll;
+use neg_codec::one_message;
+use neg_initiator::{InitFault, Initiator, Next, Outcome};
+use std::alloc::Global;
+
+/// Asks the peer until all is settled, and gives what was found. A fault ends the session, and the
+/// peer keeps its pairs. An answer that takes the answers past their bytes is not read.
+pub fn reconcile_with<P: Peer>(
+    alloc: Global,
+    peer: &mut P,
+    roll: &Roll,
+    limits: &SessionLimits,
+) -> Result<Outcome, SessionFault>
+    requires { P.faults peer.old < 2 ^ 64 - 1 }
+    ensures ran { Ran roll.now limits.now (P.log peer.old) (P.log peer.new) (P.faults peer.old) (P.faults peer.new) result }
+    ensures becomes { P.becomes peer.old peer.new }
+{
+    one_message();
+    let Ok((mut initiator, mut question)) = Initiator::start(alloc, roll, limits.limit, limits.need)
+    else {
+        return Err(SessionFault::Memory);
+    };
+    let mut left = limits.log;
+    for _round in 0..limits.rounds {
+        let answer = peer.ask(&question)?;
+        if answer.len() > left {
+            return Err(SessionFault::LogFull);
+        }
+        left -= answer.len();
+        match initiator.take(&answer) {
+            Ok(Next::Ask(next)) => question = next,
+            Ok(Next::Done) => return Ok(initiator.outcome()),
+            Err(InitFault::Bad(fault)) => return Err(SessionFault::Bad(fault)),
+            Err(InitFault::NeedFull) => return Err(SessionFault::NeedFull),
+            Err(InitFault::Memory) => return Err(SessionFault::Memory),
+            Err(InitFault::Spent) => unreachable!(),
+        }
+    }
+    Err(SessionFault::Rounds)
+}
