@@ -47,22 +47,28 @@ none_skip lower (r ∷ rs) h = All-cons (λ s. IsSkip s → ⊥) (record { lower
 
 pub tells_split : (lower upper : Item) (rs : List Span) → Ascends lower rs → Reaches upper rs → Tells lower upper rs
 tells_split lower upper rs up r = record {
-    ascends = up;
-    ends = ends_at lower upper rs r.ends;
-    some = some_end upper rs r.ends;
-    none_skipped = none_skip lower rs r.told;
-  }
+  ascends = up;
+  ends = ends_at lower upper rs r.ends;
+  some = some_end upper rs r.ends;
+  none_skipped = none_skip lower rs r.told;
+}
 
 abbrev pub listed : Item → List Id → Span
 listed upper is = record { upper = upper; claim = ids is }
 
 pub tells_ids : (lower upper : Item) (is : List Id) → IsKey lower → place lower ≤ place upper → Tells lower upper (listed upper is ∷ [])
 tells_ids lower upper is key le = record {
-    ascends = (key.time, le, tt);
-    ends = refl;
-    some = λ e. cc;
-    none_skipped = All-cons (λ s. IsSkip s → ⊥) (record { lower = lower; upper = upper; claim = ids is }) [] (λ e. cc) (All-nil (λ s. IsSkip s → ⊥));
-  }
+  ascends = (key.time, le, tt);
+  ends = refl;
+  some = λ e. cc;
+  none_skipped = All-cons (λ s. IsSkip s → ⊥) (record { lower = lower; upper = upper; claim = ids is }) [] (λ e. cc) (All-nil (λ s. IsSkip s → ⊥));
+}
 
 pub ids_hold : (roll : List Item) (lower upper : Item) (is : List Id) → is ≡ ids_of (part roll lower upper) → All (IsTrueOf roll) (closed_from lower (listed upper is ∷ []))
 ids_hold roll lower upper is e = All-cons (IsTrueOf roll) (record { lower = lower; upper = upper; claim = ids is }) [] (subst (λ (x : List Id). SameIds is x) e (λ i. (λ h. h, λ h. h))) (All-nil (IsTrueOf roll))
+
+-- the ids between the places of two bounds are those between the bounds
+pub ids_between : (roll : List Item) (lower upper : Item) (lo hi : ℕ) (is : List Id) → is ≡ ids_of (slice_range roll lo hi) → lo ≡ count_below roll lower
+    → part roll lower upper ≡ slice_range roll (count_below roll lower) hi → is ≡ ids_of (part roll lower upper)
+ids_between roll lower upper lo hi is listed_is place_is part_is =
+    listed_is ∙ ap (λ (n : ℕ). ids_of (slice_range roll n hi)) place_is ∙ ap (λ (xs : List Item). ids_of xs) (sym part_is)

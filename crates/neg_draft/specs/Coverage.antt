@@ -6,7 +6,7 @@ use Rattle.neg_codec.specs.Ranges.{skip, Span, Stretch, Lies, IsSkip, Ascends}
 use Rattle.item_roll.specs.Truth.{IsTrueOf}
 use Rattle.item_roll.specs.Closed.{closed_from}
 
--- ranges, and the bound up to which the message has come: from where the ranges end all is skipped
+-- ranges, and the bound up to which the message has come: of the keys between, nothing is said
 pub record Written : Type 0 where
   pub spans : List Span
   pub end : Item
@@ -20,10 +20,12 @@ end_of lower (r ∷ rs) = end_of r.upper rs
 abbrev pub gap : Item → Item → List Span
 gap lower upper = if nat_lt (place lower) (place upper) then record { upper = upper; claim = skip } ∷ [] else []
 
--- the ranges say something
+-- one of the ranges is no Skip
 abbrev pub IsOpen : List Span → Type 0
 IsOpen spans = (s : Stretch) × Contains (closed_from least spans) s × (IsSkip s → ⊥)
 
+-- The ranges stand in order and end no higher than the message has come. Unless there is none, one of
+-- them is no Skip.
 pub record IsDraft (d : Written) : Type 0 where
   pub ascends : Ascends least d.spans
   pub within : (end_of least d.spans ≡ d.end) ⊎ (place (end_of least d.spans) < place d.end)
@@ -56,7 +58,7 @@ pub record Tells (lower upper : Item) (spans : List Span) : Type 0 where
   pub some : (spans ≡ []) → ⊥
   pub none_skipped : All (λ s. IsSkip s → ⊥) (closed_from lower spans)
 
--- the draft tells what a roll has from where it has come to up to a bound
+-- the draft tells what is true of a roll, from where it has come to up to a bound
 pub record Told (roll : List Item) (old : Written) (upper : Item) (new : Written) : Type 0 where
   pub spans : List Span
   pub tells : Tells old.end upper spans

@@ -9,8 +9,9 @@ use neg_codec::{Bound, Message, Payload, Range};
 use std::alloc::{AllocError, Global};
 use std::marker::Model;
 
-/// Ranges that are written from front to back. What lies between two of them, and behind the last, is
-/// skipped: neighbouring Skips are one, and a Skip at the end isn't written.
+/// Ranges that are written from front to back (Negentropy protocol V1, "Message"). Nothing is said of what
+/// lies between two of them, and behind the last: neighbouring Skips are one range, and a Skip at the end
+/// isn't written.
 #[derive(Debug, Drop)]
 pub struct Draft {
     ranges: Vec<Range>,
@@ -34,7 +35,7 @@ impl Model for Draft {
 }
 
 impl Draft {
-    /// A draft that says nothing, at the least key.
+    /// A draft that says nothing and has come no further than the least key. It takes no memory.
     pub fn new(alloc: Global) -> Draft
         ensures { result ≡ record { spans = []; end = least } }
     {
@@ -45,7 +46,7 @@ impl Draft {
         }
     }
 
-    /// Up to where the draft has come.
+    /// Up to where the draft has come, exclusive.
     pub fn end(&self) -> Bound
         ensures end { edge_of result ≡ self.now.end }
         ensures draft { IsDraft self.now }
@@ -61,7 +62,7 @@ impl Draft {
         self.ranges.is_empty()
     }
 
-    /// The draft after the keys below a bound, which are skipped.
+    /// Goes up to a bound, and says nothing of the keys below it. It takes no memory.
     pub fn skip(self, upper: Bound) -> Draft
         requires { place self.end ≤ place (edge_of upper) }
         ensures now { result ≡ passed self (edge_of upper) }
@@ -81,7 +82,8 @@ impl Draft {
         }
     }
 
-    /// The draft after ranges that begin where it has come to and end at a bound.
+    /// Tells ranges, each more than a Skip, from where the draft has come to up to a bound. Where memory is
+    /// refused, the draft is gone.
     pub fn tell(self, ranges: Vec<Range>, upper: Bound) -> Result<Draft, AllocError>
         requires { Tells self.end (edge_of upper) (map span_of ranges.items) }
         ensures { IfOk result (λ d. d ≡ told_more self (edge_of upper) (map span_of ranges.items)) }
@@ -103,7 +105,8 @@ impl Draft {
         })
     }
 
-    /// The message of what was told: behind it all is skipped.
+    /// The message of what was told, which says nothing of the keys behind that. It costs a pass over the
+    /// ranges, and takes no memory.
     pub fn into_message(self) -> Message
         ensures value { result ≡ self.spans }
         ensures draft { IsDraft self }

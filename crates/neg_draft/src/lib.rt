@@ -6,3 +6,6 @@ mod own;
 
 pub use draft::Draft;
 pub use own::is_own_print;
+
+#[cfg(test)]
+mod tests;

@@ -13,7 +13,15 @@ use Rattle.item_roll.specs.Closed.{closed_from}
 use Rattle.item_roll.proofs.Follow.{follows_from}
 use Rattle.neg_draft.specs.Coverage.{Written, end_of, passed, told_more, IsDraft, Covers, Tells}
 use Rattle.neg_draft.proofs.Covering.{covers_none, covers_passes, covers_tells, end-append, end_above, stretch_of, beyond, told_whole, skipped_left_out, left_out_skipped, passed_place}
-use Rattle.neg_responder.specs.Reply.{IsSame, SkipsSame, MaySkip, MustSkip, begun_at, Passes, Responds}
+use Rattle.neg_responder.specs.Reply.{IsSame, SkipsSame, begun_at, Passes, Responds}
+
+-- a key of which the reply may say nothing: what the question says of it is true of the roll
+abbrev pub MaySkip : List Item → List Span → Item → Type 0
+MaySkip roll asked k = (t : Stretch) × Contains (stretches asked) t × Lies k t × IsTrueOf roll t
+
+-- a key of which it must say nothing: the question skips it, or has the own fingerprint of its stretch
+abbrev pub MustSkip : List Item → List Span → Item → Type 0
+MustSkip roll asked k = (t : Stretch) × Contains (stretches asked) t × Lies k t × IsSame roll t
 
 -- The reply to the ranges before a place of the question.
 pub record Replied (roll : List Item) (asked front : List Span) (d : Written) : Type 0 where

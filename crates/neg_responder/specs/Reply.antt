@@ -17,26 +17,22 @@ abbrev pub SkipsSame : List Item → List Span → List Span → Type 0
 SkipsSame roll asked answered =
     (t : Stretch) (k : Item) → Contains (stretches asked) t → IsSame roll t → IsKey k → Lies k t → (s : Stretch) × Contains (stretches answered) s × IsSkip s × Lies k s
 
--- a key that the reply may skip, and one that it must
-abbrev pub MaySkip : List Item → List Span → Item → Type 0
-MaySkip roll asked k = (t : Stretch) × Contains (stretches asked) t × Lies k t × IsTrueOf roll t
-
-abbrev pub MustSkip : List Item → List Span → Item → Type 0
-MustSkip roll asked k = (t : Stretch) × Contains (stretches asked) t × Lies k t × IsSame roll t
-
+-- the range, begun at a bound
 abbrev pub begun_at : Item → Span → Stretch
 begun_at lower r = record { lower = lower; upper = r.upper; claim = r.claim }
 
--- the draft goes past a stretch that is true of the roll
+-- the draft goes past the range, which is true of the roll (one that is empty speaks of no key)
 pub record Passes (roll : List Item) (old : Written) (r : Span) (new : Written) : Type 0 where
   pub holds : (k : Item) → Lies k (begun_at old.end r) → IsTrueOf roll (begun_at old.end r)
   pub now : new ≡ passed old r.upper
 
--- or it tells what the roll has there, where that isn't known as the same
+-- The draft after a range of the question: it goes past what is true of the roll, or it tells what the
+-- roll has there, unless that is a Skip or an own fingerprint.
 abbrev pub Responds : List Item → Written → Span → Written → Type 0
 Responds roll old r new = Passes roll old r new ⊎ (Told roll old r.upper new × (IsSame roll (begun_at old.end r) → ⊥))
 
--- a fault of the reader that refuses a query: another version is answered, and want of memory is no fault of the query
+-- The reader's fault refuses the query. Another version is answered, and want of memory is no fault of
+-- the query.
 abbrev pub Refuses : CodecFault → Type 0
 Refuses (codec.Version b) = ⊥
 Refuses codec.Memory = ⊥

@@ -15,13 +15,13 @@ use neg_codec::{CodecFault, Message, decode, encode};
 use std::alloc::{AllocError, Global};
 use thiserror::Error;
 
-/// Why a query wasn't answered.
+/// Why a query wasn't answered. Both leave the roll as it was.
 #[derive(Clone, Copy, Debug, PartialEq, Eq, Error)]
 pub enum AnswerFault {
-    /// The query is no message.
+    /// The query is no message: the reader's first fault, which is neither `Version` nor `Memory`.
     #[error("bad query: {0}")]
     Bad(CodecFault),
-    /// No memory was found.
+    /// A growth was refused.
     #[error("out of memory")]
     Memory,
 }
@@ -72,9 +72,22 @@ fn answer_fault(alloc: Global, fault: CodecFault) -> Result<Vec<u8>, AnswerFault
     }
 }
 
-/// The answer of a roll to a query (Negentropy protocol V1). A query of another version is answered by
-/// the one byte 61, the version that is spoken here. It costs a pass over the query and, for each
-/// fingerprint and list in it, a pass over the items that it tells of.
+/// The answer of a roll to a query (Negentropy protocol V1).
+///
+/// Range by range of the query: a Skip stays one, and so does a fingerprint that is the roll's own;
+/// another fingerprint is answered by the ids of fewer than 32 items or by 16 fingerprints, and ids by the
+/// roll's ids. Neighbouring Skips are one range, and a Skip at the end isn't written. A query of another
+/// version is answered by the one byte 61, the version that is spoken here.
+///
+/// The limit counts the bytes of the answer and has no effect yet.
+///
+/// The cost is a pass over the query and, for each fingerprint and list in it, a pass over the items that
+/// it tells of.
+///
+/// # Errors
+///
+/// `Bad` where the query is no message of this version, with the reader's fault, and `Memory` where a
+/// growth was refused.
 pub fn answer(
     alloc: Global,
     roll: &Roll,

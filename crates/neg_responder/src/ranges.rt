@@ -12,7 +12,7 @@ use neg_codec::{Message, Payload, Range};
 use neg_draft::{Draft, is_own_print};
 use std::alloc::{AllocError, Global};
 
-/// The draft after a range of the question.
+/// The draft after a range of the question, which begins where the draft has come to.
 fn reply_range(alloc: Global, roll: &Roll, draft: Draft, range: &Range) -> Result<Draft, AllocError>
     requires { place draft.end ≤ place (edge_of range.now.upper) }
     ensures responds { IfOk result (λ d. Responds roll.now draft (span_of range.now) d) }

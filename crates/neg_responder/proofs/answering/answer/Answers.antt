@@ -53,14 +53,14 @@ no_version f q b e h = let g = subst (λ (x : CodecFault). Fails x (found q)) e 
 
 pub returns-in-Err : goal.returns-in-Err
 returns-in-Err c = record {
-    follows = IfOk-weaker c.answer_fault.result (λ v. (b : ℕ) × (c.in-Err.fault ≡ codec.Version b))
+  follows = IfOk-weaker c.answer_fault.result (λ v. (b : ℕ) × (c.in-Err.fault ≡ codec.Version b))
       (λ v. (q : List Span) → length c.args.query.now ≤ longest → Spells c.args.query.now q → (r : List Span) × Spells v.items r × Follows c.args.roll.now q r × SkipsSame c.args.roll.now q r)
       (λ v h q le spelled. absurd (no_version c.in-Err.fault q h.0 h.1 (c.in-Err.ensures.only q le spelled))) c.answer_fault.ensures.others;
-    bad = λ f e.
+  bad = λ f e.
       let b = c.answer_fault.ensures.bad f e in
       (fault_read c.in-Err.fault (message_at c.args.query.now) b.1 c.in-Err.ensures.exact ∙ ap (λ (x : CodecFault). err x) (sym b.0), subst Refuses (sym b.0) b.1);
-    refused = λ f m r.
+  refused = λ f m r.
       let same = same_fault c.in-Err.fault f (c.in-Err.ensures.first f m) in
       subst (λ (x : CodecFault). c.answer_fault.result ≡ Err (answer_fault.Bad x)) same (c.answer_fault.ensures.refused (subst Refuses (sym same) r));
-    version = λ b m. c.answer_fault.ensures.version b (same_fault c.in-Err.fault (codec.Version b) (c.in-Err.ensures.first (codec.Version b) m));
-  }
+  version = λ b m. c.answer_fault.ensures.version b (same_fault c.in-Err.fault (codec.Version b) (c.in-Err.ensures.first (codec.Version b) m));
+}
