@@ -6,3 +6,4 @@ mod OutputLemmas
 mod FormLemmas
 mod InputLemmas
 mod PlacingLemmas
+mod SessionLemmas

@@ -4,30 +4,15 @@ ghost use Rattle.std.specs.Prelude.{◌≡◌, ◌≤◌, ◌⊎◌, [], length,
 ghost use Rattle.std.specs.Io.KnownBytes.{Appends, Keeps};
 ghost use Rattle.mirror_run.specs.Waiting.{Sends};
 ghost use Rattle.hex.specs.Hex.{encode_lower};
-ghost use Rattle.mirror_run.specs.Exchange.{message_text, exchange_text, count_text, ids_text, recon_text};
+ghost use Rattle.mirror_run.specs.ReconText.{message_text, exchange_text, count_text, ids_text, recon_text};
 
 use crate::refusal::Refusal;
 use neg_codec::Id;
+use neg_session::Pair;
 use std::alloc::Global;
 use std::collections::BTreeSet;
 use std::io;
 use std::io::Write;
-use std::marker::Model;
-
-/// A question and its answer.
-#[derive(Debug, Drop)]
-pub struct Pair {
-    pub asked: Vec<u8>,
-    pub answered: Vec<u8>,
-}
-
-impl Model for Pair {
-    ghost use Rattle.mirror_run.specs.Exchange.{Exchange};
-
-    ghost Value = { Exchange };
-
-    ghost view = { λ p. record { asked = p.asked.items; answered = p.answered.items } };
-}
 
 /// Writes what waits.
 fn send<W: Write>(out: &mut W, wait: &mut Vec<u8>) -> io::Result<()>

@@ -1,9 +1,10 @@
 //! Inputs from a table, readers and writers that fail.
 
 use crate::{
-    LineFault, Lists, Pair, Refusal, place_items, read_input, read_lists, read_rolls, write_recon,
+    LineFault, Lists, Refusal, place_items, read_input, read_lists, read_rolls, write_recon,
 };
 use neg_codec::{Id, Item};
+use neg_session::Pair;
 use std::alloc::Global;
 use std::collections::BTreeSet;
 use std::io;

@@ -1,5 +1,5 @@
 use Rattle.std.proofs.lemmas.Result.{on_ok_weaker}
-use Rattle.mirror_run.specs.Exchange.{recon_text}
+use Rattle.mirror_run.specs.ReconText.{recon_text}
 use Rattle.mirror_run.proofs.OutputLemmas.{Appends-both}
 use Rattle.mirror_run.proofs.output.write_all_of.Goals as goal
 

@@ -2,7 +2,7 @@ use Rattle.std.proofs.Common.{map}
 use Rattle.std.specs.List.{flat_map}
 use Rattle.mirror_run.specs.Waiting.{Sends}
 use Rattle.std.specs.Map.Iter.{deref}
-use Rattle.mirror_run.specs.Exchange.{message_text}
+use Rattle.mirror_run.specs.ReconText.{message_text}
 use Rattle.mirror_run.proofs.output.write_ids.Given as goal
 
 abbrev pub invariant-loop-id : goal.invariant-loop-id

@@ -1,5 +1,5 @@
 use Rattle.std.proofs.Common.{sym, arith}
-use Rattle.mirror_run.specs.Exchange.{exchange_text}
+use Rattle.mirror_run.specs.ReconText.{exchange_text}
 use Rattle.mirror_run.proofs.OutputLemmas.{Appends-both, Appends-same, flat_map-more}
 use Rattle.mirror_run.proofs.output.write_pairs.Goals as goal
 

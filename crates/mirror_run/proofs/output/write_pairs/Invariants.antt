@@ -1,7 +1,7 @@
 use Rattle.std.proofs.Common.{take}
 use Rattle.std.specs.List.{flat_map}
 use Rattle.mirror_run.specs.Waiting.{Sends}
-use Rattle.mirror_run.specs.Exchange.{exchange_text}
+use Rattle.mirror_run.specs.ReconText.{exchange_text}
 use Rattle.mirror_run.proofs.output.write_pairs.Given as goal
 
 abbrev pub invariant-loop-pair : goal.invariant-loop-pair

@@ -1,4 +1,4 @@
-use Rattle.std.proofs.Common.{refl, Ok, ap, ◌∙◌}
+use Rattle.std.proofs.Common.{refl}
 use Rattle.mirror_run.proofs.PlacingLemmas.{taken_distinct, taken_from_ok}
 use Rattle.mirror_run.proofs.placing.place_items.Goals as goal
 

@@ -3,11 +3,7 @@ use Rattle.std.specs.Prelude.{ℕ, List, [], ◌∷◌, ◌++◌, length, codes,
 use Rattle.std.specs.List.{flat_map}
 use Rattle.hex.specs.Hex.{encode_lower}
 use Rattle.neg_codec.specs.declared.Id.{Id}
-
--- a question and its answer, as bytes
-pub record Exchange : Type 0 where
-  pub asked : List ℕ
-  pub answered : List ℕ
+use Rattle.neg_session.specs.Exchange.{Exchange}
 
 -- a word, a space, the bytes in lower-case hex digits
 abbrev pub message_text : List ℕ → List ℕ → List ℕ
