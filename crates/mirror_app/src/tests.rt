@@ -1,0 +1,43 @@
+//! Words from a table.
+
+use crate::words::{Words, WordsFault, read_words};
+use std::alloc::Global;
+use std::test::Fail;
+
+fn named(alloc: Global, line: &str) -> Result<Vec<String>, Fail> {
+    let mut words = Vec::new(alloc);
+    words.push(String::from_str(alloc, "nostr-mirror")?)?;
+    for word in line.split_whitespace() {
+        words.push(String::from_str(alloc, word)?)?;
+    }
+    Ok(words)
+}
+
+#[test]
+fn words_that_name_a_job_and_others(rt: HostRuntime) -> Result<(), Fail> {
+    let alloc = rt.alloc();
+    let words = named(alloc, "recon")?;
+    let read = read_words(alloc, words.as_slice());
+    assert!(rt; matches!(&read, Ok(Words::Recon)));
+    for line in [
+        "",
+        "--help",
+        "-h",
+        "help",
+        "recon --help",
+        "recon more",
+        "recon --limit 5000",
+        "plan",
+        "Recon",
+        "--version",
+        "recon recon",
+    ] {
+        let words = named(alloc, line)?;
+        let Err(WordsFault::Usage(text)) = read_words(alloc, words.as_slice()) else {
+            assert!(rt; false, "{line}");
+            return Ok(());
+        };
+        assert!(rt; !text.as_str().is_empty(), "{line}");
+    }
+    Ok(())
+}

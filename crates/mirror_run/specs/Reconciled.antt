@@ -1,0 +1,75 @@
+-- A session between two lists, and how `recon` ends.
+use Rattle.std.specs.Prelude.{◌≡◌, ℕ, ◌<◌, List, [], length, Option, Ok, Err, IsPermutation}
+use Rattle.std.specs.Io.KnownBytes.{Appends}
+use Rattle.neg_codec.specs.declared.Item.{Item}
+use Rattle.neg_initiator.specs.declared.initiator.Outcome.{Outcome}
+use Rattle.neg_session.specs.declared.limits.SessionLimits.{SessionLimits}
+use Rattle.neg_session.specs.declared.fault.SessionFault.{SessionFault}
+use Rattle.neg_session.specs.Exchange.{Exchange}
+use Rattle.neg_session.specs.Explaining.{Explains}
+use Rattle.neg_session.specs.Faults.{number_of}
+use Rattle.neg_session.specs.Ran.{Ran, IsRight}
+use Rattle.mirror_run.specs.declared.refusal.Refusal.{Refusal}
+use Rattle.mirror_run.specs.declared.refusal.Refusal.TheVariants.{Write, Session, Memory}
+use Rattle.mirror_run.specs.ItemLists.{IsInput}
+use Rattle.mirror_run.specs.ReconText.{recon_text}
+use Rattle.mirror_run.specs.Refused.{IsInputRefusal}
+
+-- the limits of the program's sessions
+pub record AreLimits (limit : ℕ) (limits : SessionLimits) : Type 0 where
+  pub limit_is : limits.limit ≡ limit
+  pub rounds : limits.rounds ≡ 4096
+  pub need : limits.need ≡ 200000
+  pub log : limits.log ≡ 67108864
+
+-- A session of `mine` with a peer that answers by `theirs`, its pairs and what it found: each answer is
+-- true of `theirs`, and what was found is right for the two.
+pub record Reconciles (limit : ℕ) (mine theirs : List Item) (log : List Exchange) (o : Outcome) : Type 0 where
+  pub limits : SessionLimits
+  pub are : AreLimits limit limits
+  pub ran : Ran mine limits [] log 0 0 (Ok o)
+  pub explained : Explains theirs log
+  pub right : IsRight mine theirs o
+
+-- such a session that ended by a fault, which has that number
+pub record Fails (limit : ℕ) (mine theirs : List Item) (number : ℕ) : Type 0 where
+  pub limits : SessionLimits
+  pub log : List Exchange
+  pub failures : ℕ
+  pub fault : SessionFault
+  pub are : AreLimits limit limits
+  pub ran : Ran mine limits [] log 0 failures (Err fault)
+  pub explained : Explains theirs log
+  pub is : number ≡ number_of fault
+  pub not_memory : number < 6
+
+-- the input tells two lists, whose items in order are the rolls
+pub record TellsRolls (input : List ℕ) (mine theirs : List Item) : Type 0 where
+  pub first : List Item
+  pub second : List Item
+  pub told : IsInput input first second
+  pub mine_is : IsPermutation first mine
+  pub theirs_is : IsPermutation second theirs
+
+-- why a session gave nothing
+abbrev pub IsSessionRefusal : ℕ → List Item → List Item → Refusal → Type 0
+IsSessionRefusal limit mine theirs (Session number) = Fails limit mine theirs number
+IsSessionRefusal limit mine theirs Memory = Unit {0}
+IsSessionRefusal limit mine theirs _ = ⊥
+
+-- what was written is the text of a session between the two lists of the input
+pub record IsPrinted (limit : ℕ) (input : List ℕ) (old new : Option (List ℕ)) : Type 0 where
+  pub mine : List Item
+  pub theirs : List Item
+  pub log : List Exchange
+  pub outcome : Outcome
+  pub told : TellsRolls input mine theirs
+  pub session : Reconciles limit mine theirs log outcome
+  pub written : Appends old new (recon_text log outcome.need.keys outcome.have.keys (length outcome.trusted.items))
+
+-- why `recon` gave nothing
+abbrev pub IsReconRefusal : ℕ → List ℕ → Refusal → Type 0
+IsReconRefusal limit input Write = Unit {0}
+IsReconRefusal limit input (Session number) =
+    (mine : List Item) × (theirs : List Item) × TellsRolls input mine theirs × Fails limit mine theirs number
+IsReconRefusal limit input e = IsInputRefusal input e

@@ -1,0 +1,52 @@
+//! The whole of an input.
+
+ghost use Rattle.std.specs.Prelude.{◌≡◌, ◌≤◌, ◌⊎◌, length, take, IfOk, IfErr, IfSome, string_bytes};
+ghost use Rattle.mirror_run.specs.Refused.{IsTextRefusal};
+
+use crate::refusal::Refusal;
+use std::alloc::Global;
+use std::io::{ErrorKind, Read};
+
+/// The most bytes that an input may have.
+pub const LONGEST_INPUT: usize = 67_108_864;
+
+/// All that the reader gives, up to one byte more than an input may have.
+fn read_bytes<R: Read>(alloc: Global, reader: &mut R) -> Result<Vec<u8>, Refusal>
+    ensures ok { IfOk result (λ v. IfSome (R.remaining reader.old) (λ input. v.items ≡ take 67108865 input)) }
+    ensures err { IfErr result (λ e. (e ≡ Refusal.Read) ⊎ (e ≡ Refusal.Memory)) }
+{
+    let mut bytes = Vec::new(alloc);
+    let mut limited = reader.take(67_108_865);
+    match limited.read_to_end(&mut bytes) {
+        Ok(_) => Ok(bytes),
+        Err(e) if e.kind() == ErrorKind::OutOfMemory => Err(Refusal::Memory),
+        Err(_) => Err(Refusal::Read),
+    }
+}
+
+/// The text of bytes, if there aren't too many.
+fn text_of(bytes: Vec<u8>) -> Result<String, Refusal>
+    ensures ok { IfOk result (λ text. string_bytes text ≡ bytes.items) }
+    ensures short { IfOk result (λ text. length (string_bytes text) ≤ 67108864) }
+    ensures err { IfErr result (IsTextRefusal bytes.items) }
+{
+    if bytes.len() > LONGEST_INPUT {
+        return Err(Refusal::InputTooLong);
+    }
+    match String::from_utf8(bytes) {
+        Ok(text) => Ok(text),
+        Err(_) => Err(Refusal::NotUtf8),
+    }
+}
+
+/// The text that the reader gives.
+pub fn read_input<R: Read>(alloc: Global, reader: &mut R) -> Result<String, Refusal>
+    ensures ok { IfOk result (λ text. IfSome (R.remaining reader.old) (λ input. string_bytes text ≡ input)) }
+    ensures short { IfOk result (λ text. length (string_bytes text) ≤ 67108864) }
+    ensures err { IfErr result (λ e. IfSome (R.remaining reader.old) (λ input. IsTextRefusal input e)) }
+{
+    match read_bytes(alloc, reader) {
+        Ok(bytes) => text_of(bytes),
+        Err(refusal) => Err(refusal),
+    }
+}

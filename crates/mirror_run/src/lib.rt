@@ -1,0 +1,23 @@
+//! The program's jobs, over any reader and any writer.
+#![tactic(auto)]
+
+mod input;
+mod item_text;
+mod lines;
+mod lists;
+mod output;
+mod placing;
+mod recon;
+mod refusal;
+mod rolls;
+
+pub use input::{LONGEST_INPUT, read_input};
+pub use lists::{Lists, read_lists};
+pub use output::write_recon;
+pub use placing::place_items;
+pub use recon::run_recon;
+pub use refusal::{LineFault, Refusal};
+pub use rolls::read_rolls;
+
+#[cfg(test)]
+mod tests;
