@@ -1,14 +1,13 @@
 -- How a session begins and ends.
-use Rattle.std.proofs.Common.{◌≡◌, ℕ, ◌<◌, ◌≤◌, List, [], ◌∷◌, ◌++◌, refl, sym, ap, subst, ◌∙◌, arith}
+use Rattle.std.proofs.Common.{List, [], subst, arith}
 use Rattle.std.specs.Prelude.{Contains, All, ◌↔◌}
 use Rattle.std.proofs.lemmas.List.Elements.{All-contains}
 use Rattle.neg_codec.proofs.Stretches.{some_stretch}
 use Rattle.neg_codec.specs.declared.Id.{Id}
 use Rattle.neg_codec.specs.declared.Item.{Item}
-use Rattle.neg_codec.specs.Keys.{place, least, IsKey}
-use Rattle.neg_codec.specs.Ranges.{Claim, skip, print, ids, Span, Stretch, stretches, Lies, IsSkip}
-use Rattle.item_roll.specs.Parts.{IsRoll, part, ids_of}
-use Rattle.neg_initiator.specs.Settled.{IsMissing, Needs, Has, IsSkipped, Settled}
+use Rattle.neg_codec.specs.Keys.{IsKey}
+use Rattle.neg_codec.specs.Ranges.{Span, stretches, IsSkip}
+use Rattle.neg_initiator.specs.Settled.{Needs, Has, Settled}
 
 -- nothing is found before an ask that skips nothing
 pub settled_first : (a b : List Item) (asked : List Span) → All IsKey a → All IsKey b → All (λ s. IsSkip s → ⊥) (stretches asked) → Settled a b asked [] []

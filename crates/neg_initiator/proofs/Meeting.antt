@@ -1,16 +1,16 @@
 -- Which stretches have a key in common.
-use Rattle.std.proofs.Common.{◌≡◌, ℕ, zero, suc, ◌+◌, ◌<◌, ◌≤◌, ◌⊎◌, ◌↔◌, inl, inr, Bool, true, false, cond, ltb, List, [], ◌∷◌, ◌++◌, length, take, drop, get_or, refl, sym, ap, subst, ◌∙◌, arith}
-use Rattle.std.specs.Prelude.{Contains, All}
+use Rattle.std.proofs.Common.{◌≡◌, ◌<◌, ◌≤◌, ◌⊎◌, ◌↔◌, inl, inr, Bool, true, false, cond, ltb, List, [], ◌∷◌, ◌++◌, refl, sym, ap, subst, arith}
+use Rattle.std.specs.Prelude.{Contains}
 use Rattle.std.proofs.lemmas.Bool.{cases_lt}
 use Rattle.std.proofs.lemmas.List.Elements.{Contains-append_left, Contains-append_right, Contains-append_cases}
-use Rattle.neg_codec.proofs.Stretches.{contains_head, contains_tail, contains_cases, contains_none, key_below}
+use Rattle.neg_codec.proofs.Stretches.{contains_head, contains_cases, contains_none}
 use Rattle.neg_codec.specs.declared.Item.{Item}
-use Rattle.neg_codec.specs.Keys.{place, least, endless, infinity, IsKey}
-use Rattle.neg_codec.specs.Ranges.{skip, Span, Stretch, stretches, stretches_from, Lies, IsSkip, Ascends, IsEdge}
+use Rattle.neg_codec.specs.Keys.{place, endless, infinity}
+use Rattle.neg_codec.specs.Ranges.{skip, Span, Stretch, stretches_from, IsSkip, Ascends, IsEdge}
 use Rattle.item_roll.specs.Closed.{closed_from}
 use Rattle.item_roll.specs.Truth.{Meet}
 use Rattle.neg_draft.specs.Coverage.{end_of}
-use Rattle.neg_draft.proofs.Covering.{edge_low, end_above}
+use Rattle.neg_draft.proofs.Covering.{end_above}
 use Rattle.neg_draft.proofs.Owning.{edge_key}
 use Rattle.neg_initiator.specs.Trusting.{between, IsSkippedIn}
 

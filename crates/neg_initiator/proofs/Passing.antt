@@ -1,11 +1,10 @@
 -- A walk over the ranges of a reply, to find a Skip that has a key in common with a stretch.
-use Rattle.std.proofs.Common.{◌≡◌, ℕ, ◌+◌, ◌<◌, ◌≤◌, ◌⊎◌, ◌↔◌, ◌||◌, IsTrue, inl, inr, Bool, true, false, cond, ltb, List, [], ◌∷◌, ◌++◌, refl, sym, ap, subst, ◌∙◌, arith}
-use Rattle.std.specs.Prelude.{Contains}
-use Rattle.std.proofs.lemmas.Bool.{cases_lt, lt-ltb, le-ltb}
+use Rattle.std.proofs.Common.{◌≡◌, ◌<◌, ◌≤◌, ◌⊎◌, ◌||◌, IsTrue, inl, inr, Bool, true, false, cond, ltb, List, [], ◌∷◌, ◌++◌, refl, sym, ap, subst, ◌∙◌, arith}
+use Rattle.std.proofs.lemmas.Bool.{cases_lt, lt-ltb}
 use Rattle.neg_codec.proofs.Stretches.{endless_above}
 use Rattle.neg_codec.specs.declared.Item.{Item}
 use Rattle.neg_codec.specs.Keys.{place, endless, infinity}
-use Rattle.neg_codec.specs.Ranges.{skip, Span, Stretch, stretches_from, IsSkip, Ascends}
+use Rattle.neg_codec.specs.Ranges.{Span, Stretch, stretches_from, Ascends}
 use Rattle.item_roll.specs.Closed.{closed_from}
 use Rattle.item_roll.specs.Truth.{Meet}
 use Rattle.neg_draft.specs.Coverage.{end_of}

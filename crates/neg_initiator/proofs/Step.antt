@@ -1,18 +1,18 @@
 -- What is settled before a reply is settled after it.
-use Rattle.std.proofs.Common.{◌≡◌, ℕ, ◌<◌, ◌≤◌, ◌⊎◌, inl, inr, List, [], ◌∷◌, ◌++◌, refl, sym, ap, subst, ◌∙◌, arith}
+use Rattle.std.proofs.Common.{◌≡◌, ℕ, ◌<◌, ◌≤◌, ◌⊎◌, inl, inr, List, ◌++◌, refl, sym, ap, subst, ◌∙◌}
 use Rattle.std.specs.Prelude.{Contains, All}
 use Rattle.std.proofs.lemmas.List.Elements.{All-contains, All-weaker, Contains-append_left, Contains-append_right, Contains-append_cases}
 use Rattle.neg_codec.proofs.Stretches.{some_stretch, one_stretch}
 use Rattle.neg_codec.specs.declared.Id.{Id}
 use Rattle.neg_codec.specs.declared.Item.{Item}
 use Rattle.neg_codec.specs.Keys.{place, least, IsKey}
-use Rattle.neg_codec.specs.Ranges.{Claim, skip, print, ids, Span, Stretch, stretches, Lies, IsSkip, Ascends}
+use Rattle.neg_codec.specs.Ranges.{Claim, skip, print, ids, Span, Stretch, stretches, Lies, Ascends}
 use Rattle.neg_print.specs.Print.{print_of}
-use Rattle.item_roll.specs.Parts.{IsRoll, part, ids_of}
+use Rattle.item_roll.specs.Parts.{part, ids_of}
 use Rattle.item_roll.specs.Truth.{SameIds, Says, IsTrueOf, Meet, Follows}
 use Rattle.item_roll.proofs.Members.{part_keeps, part_gives, ids_give, ids_keep}
 use Rattle.neg_initiator.specs.Listed.{IsListed, IsUnlisted}
-use Rattle.neg_initiator.specs.Settled.{IsMissing, Needs, Has, HasOnePrint, ToldApart, OneTime, IsSkipped, Settled}
+use Rattle.neg_initiator.specs.Settled.{Needs, Has, HasOnePrint, ToldApart, OneTime, IsSkipped, Settled}
 
 -- What the initiator did with a stretch of the reply, by what it says.
 abbrev pub Accounts : List Item → List Span → List (Item × Item) → List Id → List Id → Item → Item → Claim → Type 0

@@ -1,23 +1,19 @@
 -- A reply, range by range: what was found, and what the next ask leaves out.
-use Rattle.std.proofs.Common.{◌≡◌, ℕ, ◌<◌, ◌≤◌, ◌⊎◌, ◌++◌, inl, inr, List, [], ◌∷◌, refl, sym, ap, subst, ◌∙◌, arith}
+use Rattle.std.proofs.Common.{◌≡◌, ℕ, ◌≤◌, ◌⊎◌, ◌++◌, inl, inr, List, [], ◌∷◌, refl, sym, ap, subst, ◌∙◌, arith}
 use Rattle.std.specs.Prelude.{Contains, All}
 use Rattle.neg_codec.proofs.Stretches.{one_stretch, some_stretch, key_below}
 use Rattle.neg_codec.specs.declared.Id.{Id}
 use Rattle.neg_codec.specs.declared.Item.{Item}
-use Rattle.neg_codec.specs.Keys.{place, least, infinity, IsKey}
+use Rattle.neg_codec.specs.Keys.{place, least, infinity}
 use Rattle.neg_codec.specs.Ranges.{Claim, skip, print, ids, Span, Stretch, stretches, Lies, IsSkip, Ascends}
-use Rattle.neg_print.specs.Print.{print_of}
-use Rattle.item_roll.specs.Parts.{part, ids_of}
 use Rattle.item_roll.specs.Truth.{IsTrueOf, Meet}
-use Rattle.neg_draft.specs.Coverage.{Written, end_of, passed, Told, IsDraft, Covers}
+use Rattle.neg_draft.specs.Coverage.{Written, end_of, IsDraft, Covers}
 use Rattle.neg_draft.proofs.Covering.{covers_none, covers_passes, covers_tells, end-append, stretch_of, beyond, told_whole, skipped_left_out, left_out_skipped, passed_place}
 use Rattle.neg_draft.proofs.Walking.{ascends_after}
 use Rattle.neg_initiator.specs.Listed.{IsListed, IsUnlisted}
 use Rattle.neg_initiator.specs.Session.{IsAnswered, NotAskedAgain}
-use Rattle.neg_initiator.specs.Settled.{IsSkipped}
 use Rattle.neg_initiator.specs.Settling.{Findings, AccountsFor, Finds, Settles}
-use Rattle.neg_initiator.specs.Settling as settling
-use Rattle.neg_initiator.specs.Trusting.{begun_at, between, bounds_of, TrustsSkipped, IsTrustedBy, IsOwnPrint}
+use Rattle.neg_initiator.specs.Trusting.{begun_at, between, bounds_of, TrustsSkipped, IsOwnPrint}
 use Rattle.neg_initiator.proofs.Meeting.{meet_bounds}
 use Rattle.neg_initiator.proofs.Step.{Accounts, Accounted}
 

@@ -1,30 +1,30 @@
 -- What a session is after a reply that was walked.
-use Rattle.std.proofs.Common.{◌≡◌, ℕ, zero, suc, ◌+◌, ◌<◌, ◌≤◌, ◌⊎◌, ◌++◌, inl, inr, Bool, true, false, cond, ltb, List, [], ◌∷◌, length, map, take, drop, get_or, refl, sym, ap, subst, ◌∙◌, arith}
+use Rattle.std.proofs.Common.{◌≡◌, ℕ, suc, ◌+◌, ◌<◌, ◌⊎◌, ◌++◌, inl, inr, List, [], ◌∷◌, length, map, take, drop, get_or, refl, sym, ap, subst, ◌∙◌, arith}
 use Rattle.std.specs.Prelude.{Contains, All}
 use Rattle.std.proofs.lemmas.List.Elements.{All-contains, All-weaker, All-contains_itself}
 use Rattle.neg_codec.proofs.Stretches.{contains_head, contains_tail, contains_cases, contains_none}
 use Rattle.neg_codec.specs.declared.Id.{Id}
 use Rattle.neg_codec.specs.declared.Item.{Item}
 use Rattle.neg_codec.specs.declared.Range.{Range}
-use Rattle.neg_codec.specs.Keys.{place, least, infinity, endless, IsKey}
-use Rattle.neg_codec.specs.Ranges.{Claim, skip, print, ids, Span, Stretch, stretches, stretches_from, IsSkip, Ascends, span_of}
+use Rattle.neg_codec.specs.Keys.{place, least, infinity}
+use Rattle.neg_codec.specs.Ranges.{Claim, print, Span, Stretch, stretches, stretches_from, IsSkip, Ascends, span_of}
 use Rattle.neg_print.specs.Print.{print_of}
 use Rattle.item_roll.specs.Closed.{closed_from}
 use Rattle.item_roll.specs.Parts.{IsRoll, part, ids_of}
 use Rattle.item_roll.specs.Truth.{Says, IsTrueOf, Follows}
-use Rattle.neg_draft.specs.Coverage.{Written, end_of, gap, told_more, IsDraft, IsOpen, Tells, Told}
-use Rattle.neg_draft.proofs.Covering.{stretch_of, draft_none, end_above}
+use Rattle.neg_draft.specs.Coverage.{Written, end_of, gap, IsDraft, Told}
+use Rattle.neg_draft.proofs.Covering.{stretch_of}
 use Rattle.neg_draft.proofs.Walking.{ranges_at, ranges_upto}
-use Rattle.neg_initiator.specs.Listed.{IsListed, PassesMost}
+use Rattle.neg_initiator.specs.Listed.{PassesMost}
 use Rattle.neg_initiator.specs.declared.phase.Phase.{Phase}
 use Rattle.std.proofs.lemmas.Bool.{le-ltb}
 use Rattle.neg_initiator.specs.Made.{asking}
-use Rattle.neg_initiator.specs.Session.{Session, Starts, Taken, Advances, HasOpen}
+use Rattle.neg_initiator.specs.Session.{Session, Taken, HasOpen}
 use Rattle.neg_initiator.specs.Settled.{HasOnePrint}
 use Rattle.neg_initiator.specs.Settling.{Findings, Finds, Settles, ListsTooMany}
 use Rattle.neg_initiator.specs.Trusting.{begun_at, bounds_of, TrustsSkipped, IsSkippedPrint, IsOwnPrint}
 use Rattle.neg_initiator.proofs.Meeting.{stretches-append}
-use Rattle.neg_initiator.proofs.Step.{Adds, settled_after}
+use Rattle.neg_initiator.proofs.Step.{settled_after}
 use Rattle.neg_initiator.proofs.Stepping.{Progress, Found, Walked, progress_more}
 
 says_print : (items : List Item) (s : Stretch) (p : List ℕ) → s.claim ≡ print p → IsTrueOf items s → p ≡ print_of (ids_of (part items s.lower s.upper))

@@ -1,19 +1,18 @@
 -- What is trusted, range by range of the last ask.
-use Rattle.std.proofs.Common.{suc, length, map, take, drop, get_or, ◌≡◌, ℕ, ◌+◌, ◌<◌, ◌≤◌, ◌⊎◌, IsTrue, inl, inr, Bool, true, false, cond, ltb, List, [], ◌∷◌, ◌++◌, append_assoc, refl, sym, ap, subst, ◌∙◌, arith}
+use Rattle.std.proofs.Common.{suc, length, map, take, drop, get_or, ◌≡◌, ℕ, ◌<◌, ◌≤◌, IsTrue, inl, inr, Bool, true, false, cond, ltb, List, [], ◌∷◌, ◌++◌, append_assoc, refl, sym, ap, subst, ◌∙◌, arith}
 use Rattle.std.specs.Prelude.{Contains}
-use Rattle.std.proofs.lemmas.List.Elements.{Contains-append_left, Contains-append_right, Contains-append_cases}
-use Rattle.neg_codec.proofs.Stretches.{contains_head, contains_tail, contains_cases, contains_none, least_below}
+use Rattle.std.proofs.lemmas.List.Elements.{Contains-append_cases}
+use Rattle.neg_codec.proofs.Stretches.{contains_cases, contains_none}
 use Rattle.neg_codec.specs.declared.Item.{Item}
 use Rattle.neg_codec.specs.Keys.{place, least, endless, infinity}
 use Rattle.neg_codec.specs.Ranges.{Claim, skip, print, Span, Stretch, stretches, stretches_from, IsSkip, Ascends, span_of}
 use Rattle.item_roll.specs.Closed.{closed_from}
-use Rattle.item_roll.specs.Truth.{Meet}
 use Rattle.neg_codec.specs.declared.Range.{Range}
 use Rattle.neg_draft.specs.Coverage.{end_of}
 use Rattle.neg_draft.proofs.Walking.{ranges_at}
-use Rattle.neg_draft.proofs.Covering.{closed-append, end-append, end_above, stretch_of}
-use Rattle.neg_initiator.specs.Trusting.{begun_at, between, bounds_of, IsSkippedIn, IsSkippedPrint, TrustsOne, TrustsSkipped}
-use Rattle.neg_initiator.proofs.Meeting.{meet_bounds, skipped-append, stretches-append, none_before, overlap_of}
+use Rattle.neg_draft.proofs.Covering.{closed-append, end-append, stretch_of}
+use Rattle.neg_initiator.specs.Trusting.{begun_at, between, bounds_of, IsSkippedIn, TrustsOne, TrustsSkipped}
+use Rattle.neg_initiator.proofs.Meeting.{meet_bounds, skipped-append, stretches-append, none_before}
 use Rattle.neg_initiator.proofs.Passing.{Iff}
 
 -- How far a walk over the last ask has come in the reply.

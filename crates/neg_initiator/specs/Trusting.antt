@@ -2,7 +2,6 @@
 use Rattle.std.specs.Prelude.{◌≡◌, ◌⊎◌, ℕ, Bool, IsTrue, List, Contains}
 use Rattle.neg_codec.specs.declared.Item.{Item}
 use Rattle.neg_codec.specs.Ranges.{print, skip, Span, Stretch, stretches, IsSkip}
-use Rattle.item_roll.specs.Parts.{part, ids_of}
 use Rattle.item_roll.specs.Truth.{IsTrueOf, Meet}
 
 -- a fingerprint of the last ask has a key in common with a Skip of the reply

@@ -1,4 +1,4 @@
-use Rattle.std.proofs.Common.{◌≡◌, ◌<◌, ◌≤◌, length, arith}
+use Rattle.std.proofs.Common.{◌≤◌, length, arith}
 use Rattle.std.specs.Prelude.{Contains}
 use Rattle.neg_initiator.proofs.Noting.{not_there, passes_one, notes_put}
 use Rattle.neg_initiator.proofs.found.note.Goals as goal

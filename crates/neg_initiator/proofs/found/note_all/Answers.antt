@@ -1,8 +1,6 @@
-use Rattle.std.proofs.Common.{◌≡◌, ◌<◌, ◌≤◌, length, take, [], arith, Result, Err}
+use Rattle.std.proofs.Common.{◌≤◌, length, [], arith}
 use Rattle.std.proofs.lemmas.List.{take_all}
 use Rattle.neg_codec.specs.declared.Id.{Id}
-use Rattle.neg_initiator.specs.declared.fault.InitFault.{InitFault}
-use Rattle.neg_initiator.specs.declared.fault.InitFault.TheVariants as fault
 use Rattle.neg_initiator.proofs.Noting.{notes_none, notes_more, passes_at}
 use Rattle.neg_initiator.proofs.found.note_all.Goals as goal
 

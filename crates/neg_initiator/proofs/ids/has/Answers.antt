@@ -1,4 +1,3 @@
-use Rattle.std.proofs.Common.{rules}
 use Rattle.std.proofs.lemmas.Map.Views.{btree_set_contains_iff}
 use Rattle.neg_initiator.proofs.Keys.{id_total, id_exact}
 use Rattle.neg_initiator.proofs.ids.has.Goals as goal

@@ -1,4 +1,4 @@
-use Rattle.std.proofs.Common.{◌≡◌, ◌+◌, ◌<◌, ◌≤◌, ◌⊎◌, inl, inr, sym, subst, take, [], List, length, arith}
+use Rattle.std.proofs.Common.{◌+◌, ◌<◌, ◌≤◌, inl, inr, sym, subst, take, [], List, length, arith}
 use Rattle.std.specs.Prelude.{Contains}
 use Rattle.std.proofs.lemmas.List.{take_all}
 use Rattle.neg_codec.specs.declared.Id.{Id}

@@ -1,22 +1,16 @@
-use Rattle.std.proofs.Common.{rules, ◌≡◌, ℕ, ◌<◌, ◌≤◌, ◌⊎◌, inl, inr, List, [], ◌∷◌, length, map, take, refl, sym, ap, subst, ◌∙◌, arith, Result, Err}
+use Rattle.std.proofs.Common.{◌≡◌, ◌<◌, ◌≤◌, List, [], ◌∷◌, length, map, take, refl, sym, ap, ◌∙◌, arith, Result, Err}
 use Rattle.std.proofs.lemmas.List.{take_all}
-use Rattle.neg_codec.specs.declared.Range.{Range}
 use Rattle.neg_codec.specs.Keys.{place, least}
-use Rattle.neg_codec.specs.Ranges.{Span, Ascends, stretches, edge_of, span_of}
-use Rattle.neg_draft.specs.Coverage.{Written, end_of, IsDraft}
+use Rattle.neg_codec.specs.Ranges.{Span, Ascends, stretches, span_of}
 use Rattle.neg_draft.proofs.Covering.{end-append}
 use Rattle.neg_draft.proofs.Walking.{ranges_upto}
 use Rattle.neg_initiator.specs.Findings.{findings_of}
-use Rattle.neg_initiator.specs.Listed.{PassesMost}
 use Rattle.neg_initiator.specs.Pairs.{pair_of}
-use Rattle.neg_initiator.specs.Made.{asking}
-use Rattle.neg_initiator.specs.Session.{Taken, HasOpen}
-use Rattle.neg_initiator.specs.Settling.{Findings, Finds, Settles, ListsTooMany}
+use Rattle.neg_initiator.specs.Settling.{Findings}
 use Rattle.neg_initiator.specs.Trusting.{TrustsSkipped}
 use Rattle.neg_initiator.specs.declared.fault.InitFault.{InitFault}
 use Rattle.neg_initiator.specs.declared.fault.InitFault.TheVariants as fault
-use Rattle.neg_initiator.specs.declared.found.Found.{Found}
-use Rattle.neg_initiator.proofs.Stepping.{Progress, progress_none, walked}
+use Rattle.neg_initiator.proofs.Stepping.{progress_none, walked}
 use Rattle.neg_initiator.proofs.Taking.{taken_from, progress_at, too_many_at, open_of}
 use Rattle.neg_initiator.proofs.Trusts.{reaches_upper}
 use Rattle.neg_initiator.proofs.settle.settle.Goals as goal

@@ -1,5 +1,4 @@
-use Rattle.std.proofs.Common.{◌≡◌, ℕ, List, ap, sym, subst, ◌∙◌, inl, map, refl}
-use Rattle.neg_codec.specs.declared.Payload.{Payload}
+use Rattle.std.proofs.Common.{ap, inl, map, refl}
 use Rattle.neg_codec.specs.Ranges.{edge_of, span_of, claim_of}
 use Rattle.neg_initiator.specs.Findings.{findings_of}
 use Rattle.neg_initiator.specs.Pairs.{pair_of}

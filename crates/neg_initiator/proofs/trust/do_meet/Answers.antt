@@ -1,8 +1,8 @@
-use Rattle.std.proofs.Common.{◌≡◌, ◌↔◌, IsTrue, Bool, true, ◌&&◌}
+use Rattle.std.proofs.Common.{◌&&◌}
 use Rattle.std.proofs.lemmas.Bool.{and_parts, and_from}
 use Rattle.neg_codec.specs.Ranges.{edge_of}
 use Rattle.neg_initiator.specs.Trusting.{between}
-use Rattle.neg_initiator.proofs.Meeting.{Overlap, meet_of, overlap_of}
+use Rattle.neg_initiator.proofs.Meeting.{meet_of, overlap_of}
 use Rattle.neg_initiator.proofs.trust.do_meet.Goals as goal
 
 pub returns : goal.returns

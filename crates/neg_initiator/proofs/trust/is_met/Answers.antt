@@ -1,8 +1,6 @@
-use Rattle.std.proofs.Common.{◌≡◌, ℕ, refl, sym, ap, subst, ◌∙◌, [], ◌∷◌}
-use Rattle.neg_codec.specs.declared.Range.{Range}
-use Rattle.neg_codec.specs.Keys.{place}
-use Rattle.neg_codec.specs.Ranges.{Stretch, Claim, skip, edge_of, span_of, claim_of}
-use Rattle.neg_initiator.specs.Trusting.{begun_at, between, IsSkippedIn}
+use Rattle.std.proofs.Common.{refl, ap}
+use Rattle.neg_codec.specs.Ranges.{Stretch, edge_of, span_of, claim_of}
+use Rattle.neg_initiator.specs.Trusting.{begun_at, between}
 use Rattle.neg_initiator.proofs.Meeting.{meet_bounds, skipped-one}
 use Rattle.neg_initiator.proofs.trust.is_met.Goals as goal
 

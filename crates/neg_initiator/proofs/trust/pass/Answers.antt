@@ -1,15 +1,12 @@
-use Rattle.std.proofs.Common.{rules, ◌≡◌, ℕ, ◌<◌, ◌≤◌, ◌++◌, ◌||◌, IsTrue, List, [], ◌∷◌, length, map, take, drop, suc, refl, sym, ap, subst, ◌∙◌, arith, Bool, false, ◌↔◌, inl, inr}
+use Rattle.std.proofs.Common.{◌≡◌, ℕ, ◌<◌, ◌≤◌, ◌++◌, IsTrue, List, ◌∷◌, length, map, take, drop, suc, subst, arith, Bool, false, ◌↔◌, inl, inr}
 use Rattle.std.proofs.lemmas.Bool.{cases_lt}
 use Rattle.std.proofs.Math.Seq.{take-length}
 use Rattle.std.proofs.lemmas.List.{take_all}
-use Rattle.neg_codec.specs.declared.Item.{Item}
-use Rattle.neg_codec.specs.declared.Range.{Range}
-use Rattle.neg_codec.specs.Keys.{place, infinity}
-use Rattle.neg_codec.specs.Ranges.{Span, Stretch, Ascends, stretches_from, edge_of, span_of}
-use Rattle.neg_draft.specs.Coverage.{end_of}
+use Rattle.neg_codec.specs.Keys.{place}
+use Rattle.neg_codec.specs.Ranges.{Span, Ascends, edge_of, span_of}
 use Rattle.neg_draft.proofs.Walking.{ranges_at, ranges_upto}
-use Rattle.neg_initiator.specs.Trusting.{begun_at, between, IsSkippedIn}
-use Rattle.neg_initiator.proofs.Passing.{Iff, Passing, passing_none, passing_more, passing_stop, passing_end, ascends_behind}
+use Rattle.neg_initiator.specs.Trusting.{between}
+use Rattle.neg_initiator.proofs.Passing.{passing_none, passing_more, passing_stop, passing_end, ascends_behind}
 use Rattle.neg_initiator.proofs.trust.pass.Goals as goal
 
 not_below : (a b : ℕ) (t : Bool) → (IsTrue t ↔ a < b) → t ≡ false → b ≤ a

@@ -1,4 +1,4 @@
-use Rattle.std.proofs.Common.{◌≡◌, ap, arith}
+use Rattle.std.proofs.Common.{ap, arith}
 use Rattle.neg_codec.specs.Keys.{place}
 use Rattle.neg_codec.specs.Ranges.{edge_of}
 use Rattle.neg_draft.proofs.Covering.{edge_low}

@@ -1,17 +1,14 @@
-use Rattle.std.proofs.Common.{rules, ◌≡◌, ℕ, ◌<◌, ◌≤◌, ◌++◌, IsTrue, List, [], ◌∷◌, length, map, take, drop, suc, refl, sym, ap, subst, ◌∙◌, arith}
+use Rattle.std.proofs.Common.{◌≡◌, ◌<◌, ◌≤◌, ◌++◌, List, [], ◌∷◌, length, map, take, drop, suc, sym, ap, subst, ◌∙◌, arith}
 use Rattle.std.proofs.lemmas.List.{take_all, take-append-drop, map-append}
-use Rattle.neg_codec.specs.declared.Item.{Item}
-use Rattle.neg_codec.specs.declared.Range.{Range}
 use Rattle.neg_codec.specs.Keys.{place, least}
-use Rattle.neg_codec.specs.Ranges.{Span, Ascends, stretches, edge_of, span_of}
+use Rattle.neg_codec.specs.Ranges.{Span, Ascends, edge_of, span_of}
 use Rattle.item_roll.specs.Closed.{closed_from}
-use Rattle.neg_draft.specs.Coverage.{end_of}
 use Rattle.neg_draft.proofs.Covering.{end-append}
 use Rattle.neg_draft.proofs.Walking.{ranges_at, ranges_upto}
 use Rattle.neg_initiator.specs.Pairs.{pair_of}
 use Rattle.neg_initiator.specs.Trusting.{between, TrustsSkipped}
 use Rattle.neg_initiator.proofs.Meeting.{overlap_of}
-use Rattle.neg_initiator.proofs.Trusts.{At, at_start, at_ascends, met_is, at_more, trusts_none, trusts_more, trusts_all, reaches_upper}
+use Rattle.neg_initiator.proofs.Trusts.{at_start, at_ascends, met_is, at_more, trusts_none, trusts_more, trusts_all, reaches_upper}
 use Rattle.neg_initiator.proofs.trust.trust_skipped.Goals as goal
 
 pub loop-range-init : goal.loop-range-init

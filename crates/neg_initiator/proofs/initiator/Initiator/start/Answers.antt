@@ -1,6 +1,4 @@
-use Rattle.std.proofs.Common.{◌≡◌, ◌<◌, sym, ap, subst, ◌∙◌, map, refl}
-use Rattle.neg_codec.specs.Keys.{place, infinity}
-use Rattle.neg_draft.specs.Coverage.{Written}
+use Rattle.std.proofs.Common.{ap, map, refl}
 use Rattle.neg_initiator.specs.Pairs.{pair_of}
 use Rattle.neg_initiator.proofs.Taking.{least_low, begun}
 use Rattle.neg_initiator.proofs.initiator.Initiator.start.Goals as goal
