@@ -9,7 +9,7 @@ use Rattle.neg_initiator.specs.declared.initiator.Outcome.{Outcome}
 use Rattle.neg_initiator.specs.Listed.{IsListed, Distinct}
 use Rattle.neg_initiator.specs.Session.{Refuses}
 use Rattle.neg_initiator.specs.Settled.{Needs, Has, HasOnePrint, ToldApart, OneTime}
-use Rattle.neg_initiator.specs.Views.{pair_of}
+use Rattle.neg_initiator.specs.Pairs.{pair_of}
 use Rattle.neg_session.specs.Exchange.{Exchange, gained, answered_bytes}
 use Rattle.neg_session.specs.Explaining.{Explains}
 use Rattle.neg_session.specs.Asking.{Chained}

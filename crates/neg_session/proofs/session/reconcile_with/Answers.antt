@@ -1,8 +1,8 @@
 use Rattle.std.proofs.Common.{rules, ◌≡◌, ◌<◌, ◌≤◌, length, Result, Err, arith, refl, sym, ap, subst}
 use Rattle.std.proofs.lemmas.Result.{err_from_is_err_and}
 use Rattle.neg_codec.specs.declared.CodecFault.{CodecFault}
-use Rattle.neg_initiator.specs.declared.initiator.InitFault.{InitFault}
-use Rattle.neg_initiator.specs.declared.initiator.InitFault.TheVariants as initiator
+use Rattle.neg_initiator.specs.declared.fault.InitFault.{InitFault}
+use Rattle.neg_initiator.specs.declared.fault.InitFault.TheVariants as initiator
 use Rattle.neg_initiator.specs.declared.initiator.Next.{Next}
 use Rattle.neg_session.specs.Ran.{Ran}
 use Rattle.neg_session.specs.declared.fault.SessionFault.TheVariants.{Bad}
