@@ -1,11 +1,11 @@
 -- What a group of relays has to take in any sharing.
-use Rattle.std.proofs.Common.{◌≡◌, ℕ, ◌+◌, ◌-◌, ◌*◌, ◌<◌, ◌≤◌, ◌==◌, Bool, true, false, cond, ◌||◌, ◌&&◌, eqb, List, [], ◌∷◌, length, refl, sym, ap, ◌∙◌, subst, arith, rules, inl, inr, ◌⊎◌}
-use Rattle.std.specs.List.{All, list_any, list_all, sum_by, count_by}
-use Rattle.std.proofs.lemmas.List.Sums.{sum_by-cons, sum_by-le-sum_by, sum_by-le}
+use Rattle.std.proofs.Common.{◌≡◌, ℕ, ◌+◌, ◌-◌, ◌*◌, ◌<◌, ◌≤◌, ◌==◌, Bool, true, false, cond, ◌||◌, ◌&&◌, List, [], ◌∷◌, length, refl, ap, ◌∙◌, arith, inl, inr, ◌⊎◌}
+use Rattle.std.specs.List.{All, list_all, sum_by, count_by}
+use Rattle.std.proofs.lemmas.List.Sums.{sum_by-cons, sum_by-le}
 use Rattle.std.proofs.lemmas.List.Elements.{All-head, All-tail}
 use Rattle.std.proofs.lemmas.Bool.{false≢true, cases_lt, or_parts, or_left, or_right, and_from, eq-eqb}
 use Rattle.std.proofs.Math.Nat.{mul-le-mul_left, mul_comm}
-use Rattle.sharing.specs.Sharing.{is_among, IsSharing, load, IsGreatest, alone, Shows, Distinct, ShowsFrom, NoneSmaller}
+use Rattle.sharing.specs.Sharing.{is_among, IsSharing, load, alone, Shows, Distinct, ShowsFrom, NoneSmaller}
 
 -- a sum of sums
 pub sum_by-add : {X : Type 0} (g h : X → ℕ) (xs : List X) → sum_by (λ x. g x + h x) xs ≡ sum_by g xs + sum_by h xs
@@ -49,7 +49,7 @@ pub counted : (r : ℕ) (group : List ℕ) → is_among group r ≡ true → 1 �
 counted r [] h = absurd (false≢true h)
 counted r (x ∷ xs) h =
     elim (or_cases (r == x) (is_among xs r) h) [
-      inl e ↦ omega (arith, sum_by-cons (λ y. unit (r == y)) x xs, unit_of_true (r == x) e)
+      | inl e ↦ omega (arith, sum_by-cons (λ y. unit (r == y)) x xs, unit_of_true (r == x) e)
       | inr e ↦ omega (arith, sum_by-cons (λ y. unit (r == y)) x xs, counted r xs e)
     ]
 
@@ -58,7 +58,7 @@ pub among_all : (p : ℕ → Bool) (rs : List ℕ) (r : ℕ) → ((a b : ℕ) �
 among_all p [] r same all one = absurd (false≢true one)
 among_all p (x ∷ xs) r same all one =
     elim (or_cases (r == x) (is_among xs r) one) [
-      inl e ↦ ap p (same r x e) ∙ and_left (p x) (list_all p xs) all
+      | inl e ↦ ap p (same r x e) ∙ and_left (p x) (list_all p xs) all
       | inr e ↦ among_all p xs r same (and_right (p x) (list_all p xs) all) e
     ]
 
@@ -80,10 +80,10 @@ module _ {A : Type 0} where
       let head : is_among p.1 (f p.0) ≡ true = All-head (λ p. is_among p.1 (f p.0) ≡ true) p offers h in
       let rest : alone group offers ≤ sum_by (load f offers) group = alone-le-loads f offers group (All-tail (λ p. is_among p.1 (f p.0) ≡ true) p offers h) in
       let here : unit (list_all (is_among group) p.1) ≤ count_by (λ r. f p.0 == r) group =
-          elim (true_or_false (list_all (is_among group) p.1)) [
-            inl e ↦ omega (arith, unit_of_true (list_all (is_among group) p.1) e, counted (f p.0) group (among_all (is_among group) p.1 (f p.0) eqb_same e head))
-            | inr e ↦ omega (arith, ap unit e)
-          ] in
+      elim (true_or_false (list_all (is_among group) p.1)) [
+        | inl e ↦ omega (arith, unit_of_true (list_all (is_among group) p.1) e, counted (f p.0) group (among_all (is_among group) p.1 (f p.0) eqb_same e head))
+        | inr e ↦ omega (arith, ap unit e)
+      ] in
       omega (arith, loads-cons f p offers group, sum_by-cons (λ q. unit (list_all (is_among group) q.1)) p offers)
 
   -- the same where loads begin at a base
@@ -94,9 +94,9 @@ module _ {A : Type 0} where
 pub least_of_group : (size held least most : ℕ) → (least - 1) * size < held → held ≤ size * most → least ≤ most
 least_of_group size held least most more fits =
     elim (cases_lt most least) [
-      inl lt ↦
-        (let le : most ≤ least - 1 = omega arith in
-         absurd (omega (arith, mul-le-mul_left size le, mul_comm size (least - 1))))
+      | inl lt ↦
+          (let le : most ≤ least - 1 = omega arith in
+          absurd (omega (arith, mul-le-mul_left size le, mul_comm size (least - 1))))
       | inr ge ↦ ge
     ]
 
@@ -110,9 +110,9 @@ pub count_distinct : (r : ℕ) (group : List ℕ) → Distinct group → count_b
 count_distinct r [] h = omega arith
 count_distinct r (x ∷ xs) h =
     elim (true_or_false (r == x)) [
-      inl e ↦
-        (let absent : is_among xs r ≡ false = ap (is_among xs) (eqb_same r x e) ∙ h.0 in
-         omega (arith, sum_by-cons (λ y. unit (r == y)) x xs, ap unit e, count_absent r xs absent))
+      | inl e ↦
+          (let absent : is_among xs r ≡ false = ap (is_among xs) (eqb_same r x e) ∙ h.0 in
+          omega (arith, sum_by-cons (λ y. unit (r == y)) x xs, ap unit e, count_absent r xs absent))
       | inr e ↦ omega (arith, sum_by-cons (λ y. unit (r == y)) x xs, ap unit e, count_distinct r xs h.1)
     ]
 
@@ -132,10 +132,10 @@ loads-le-alone {A} f (p ∷ offers) group distinct keeps =
     let P : A × List ℕ → Type 0 = λ p. is_among group (f p.0) ≡ true → (r : ℕ) → is_among p.1 r ≡ true → is_among group r ≡ true in
     let rest : sum_by (load f offers) group ≤ alone group offers = loads-le-alone f offers group distinct (All-tail P p offers keeps) in
     let here : count_by (λ r. f p.0 == r) group ≤ unit (list_all (is_among group) p.1) =
-        elim (true_or_false (is_among group (f p.0))) [
-          inl e ↦ omega (arith, count_distinct (f p.0) group distinct, unit_of_true (list_all (is_among group) p.1) (all_from_among (is_among group) p.1 (All-head P p offers keeps e)))
-          | inr e ↦ omega (arith, count_absent (f p.0) group e)
-        ] in
+    elim (true_or_false (is_among group (f p.0))) [
+      | inl e ↦ omega (arith, count_distinct (f p.0) group distinct, unit_of_true (list_all (is_among group) p.1) (all_from_among (is_among group) p.1 (All-head P p offers keeps e)))
+      | inr e ↦ omega (arith, count_absent (f p.0) group e)
+    ] in
     omega (arith, loads-cons f p offers group, sum_by-cons (λ q. unit (list_all (is_among group) q.1)) p offers)
 
 -- each of a group has low or more
@@ -150,7 +150,7 @@ sum_over g low [] one h m more = absurd (false≢true m)
 sum_over g low (x ∷ xs) one h m more =
     let rest : (r : ℕ) → is_among xs r ≡ true → low ≤ g r = λ r m. h r (or_right (r == x) (is_among xs r) m) in
     elim (or_cases (one == x) (is_among xs one) m) [
-      inl e ↦ omega (arith, sum_by-cons g x xs, ap g (eqb_same one x e), sum_from_below g low xs rest)
+      | inl e ↦ omega (arith, sum_by-cons g x xs, ap g (eqb_same one x e), sum_from_below g low xs rest)
       | inr e ↦ omega (arith, sum_by-cons g x xs, h x (or_left (x == x) (is_among xs x) (eq-eqb x x refl)), sum_over g low xs one rest e more)
     ]
 
@@ -162,22 +162,29 @@ some_among (x ∷ xs) r h = omega arith
 pub shows_from_closed : {A : Type 0} (f : A → ℕ) (offers : List (A × List ℕ)) (group : List ℕ) (most one : ℕ) → Distinct group → KeepsWithin group f offers →
     ((r : ℕ) → is_among group r ≡ true → most ≤ load f offers r + 1) → 0 < most → is_among group one ≡ true → load f offers one ≡ most → Shows group offers most
 shows_from_closed f offers group most one distinct keeps high some m e =
-    inr (some_among group one m,
-      omega (arith, loads-le-alone f offers group distinct keeps, sum_over (load f offers) (most - 1) group one (λ r m. omega (arith, high r m)) m (omega (arith, e))))
-
+    inr (
+      some_among group one m,
+      omega (arith, loads-le-alone f offers group distinct keeps, sum_over (load f offers) (most - 1) group one (λ r m. omega (arith, high r m)) m (omega (arith, e))),
+    )
 
 -- and with bases
 pub shows_over_bases : {A : Type 0} (base : ℕ → ℕ) (f : A → ℕ) (offers : List (A × List ℕ)) (group : List ℕ) (most one : ℕ) → Distinct group → KeepsWithin group f offers →
     ((r : ℕ) → is_among group r ≡ true → most ≤ base r + load f offers r + 1) → 0 < most → is_among group one ≡ true → base one + load f offers one ≡ most → ShowsFrom base group offers most
 shows_over_bases base f offers group most one distinct keeps high some m e =
-    inr (some_among group one m,
-      omega (arith, loads-le-alone f offers group distinct keeps, sum_by-add base (load f offers) group,
-        sum_over (λ r. base r + load f offers r) (most - 1) group one (λ r m. omega (arith, high r m)) m (omega (arith, e))))
+    inr (
+      some_among group one m,
+      omega (
+        arith,
+        loads-le-alone f offers group distinct keeps,
+        sum_by-add base (load f offers) group,
+        sum_over (λ r. base r + load f offers r) (most - 1) group one (λ r m. omega (arith, high r m)) m (omega (arith, e)),
+      ),
+    )
 
 -- no sharing has a busiest load below what a group shows
 pub none_smaller : {A : Type 0} (offers : List (A × List ℕ)) (group : List ℕ) (least : ℕ) → Shows group offers least → NoneSmaller offers least
 none_smaller offers group least shows g most share greatest =
     elim shows [
-      inl none ↦ omega arith
+      | inl none ↦ omega arith
       | inr more ↦ least_of_group (length group) (alone group offers) least most more.1 (omega (arith, alone_over_base (λ _. 0) g offers group most share (λ r. omega (arith, greatest.0 r)), sum_by-zero group))
     ]

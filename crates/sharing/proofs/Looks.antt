@@ -1,7 +1,6 @@
 -- What stands beside an id, in pairs whose ids are in order.
-use Rattle.std.proofs.Common.{◌≡◌, ℕ, ◌+◌, ◌<◌, ◌≤◌, ◌==◌, Bool, true, false, cond, List, [], ◌∷◌, length, map, Option, Some, None, get_or, refl, sym, ap, ◌∙◌, subst, arith, inl, inr}
+use Rattle.std.proofs.Common.{◌≡◌, ℕ, ◌==◌, true, cond, List, [], ◌∷◌, map, Some, get_or, refl, sym, ap, ◌∙◌, subst, arith, inl, inr}
 use Rattle.std.specs.Prelude.{unwrap_or, count_by}
-use Rattle.std.specs.declared.cmp.Ordering.{Ordering}
 use Rattle.std.specs.declared.cmp.Ordering.TheVariants.{Less}
 use Rattle.std.specs.List.{All}
 use Rattle.std.proofs.lemmas.Bool.{false≢true, or_cases, eqb-true}
@@ -9,7 +8,7 @@ use Rattle.std.proofs.lemmas.List.Elements.{All-head, All-tail, All-cons, All-ni
 use Rattle.std.proofs.lemmas.List.Sums.{sum_by-cons}
 use Rattle.neg_codec.specs.declared.Id.{Id}
 use Rattle.sharing.specs.Sharing.{is_among, load}
-use Rattle.sharing.specs.Offers.{id_cmp, is_id, Ascend, beside, relays_of, relay_in}
+use Rattle.sharing.specs.Offers.{id_cmp, Ascend, beside, relay_in}
 use Rattle.sharing.proofs.Orders.{id_itself, id_apart, head_sorted, tail_sorted, All-unmap}
 
 -- what each of a list passes, a member passes
@@ -17,7 +16,7 @@ pub among_each : (P : ℕ → Type 0) (xs : List ℕ) (r : ℕ) → All P xs →
 among_each P [] r h m = absurd (false≢true m)
 among_each P (x ∷ xs) r h m =
     elim (or_cases (r == x) (is_among xs r) m) [
-      inl e ↦ subst P (sym (eqb-true r x e)) (All-head P x xs h)
+      | inl e ↦ subst P (sym (eqb-true r x e)) (All-head P x xs h)
       | inr e ↦ among_each P xs r (All-tail P x xs h) e
     ]
 
@@ -41,8 +40,8 @@ module _ {X : Type 0} where
       let later : All (λ (p : Id × X). id_cmp x.0 p.0 ≡ Less) xs = All-unmap (λ i. id_cmp x.0 i ≡ Less) (λ (p : Id × X). p.0) xs (head_sorted id_cmp x.0 (map (λ p. p.0) xs) h) in
       let rest : All (λ p. beside xs p.0 ≡ Some p.1) xs = found_itself xs (tail_sorted id_cmp x.0 (map (λ p. p.0) xs) h) in
       All-cons (λ p. beside (x ∷ xs) p.0 ≡ Some p.1) x xs
-        (ap (λ b. cond b (Some x.1) (beside xs x.0)) (id_itself x.0))
-        (λ k d lt. ap (λ b. cond b (Some x.1) (beside xs (get_or xs k d).0)) (id_apart x.0 (get_or xs k d).0 (later k d lt)) ∙ rest k d lt)
+      (ap (λ b. cond b (Some x.1) (beside xs x.0)) (id_itself x.0))
+      (λ k d lt. ap (λ b. cond b (Some x.1) (beside xs (get_or xs k d).0)) (id_apart x.0 (get_or xs k d).0 (later k d lt)) ∙ rest k d lt)
 
   -- looked up by their ids, pairs give themselves
   pub looked_up : (pairs : List (Id × X)) (d : X) → Ascend (map (λ p. p.0) pairs) → map (λ i. (i, unwrap_or (beside pairs i) d)) (map (λ p. p.0) pairs) ≡ pairs
@@ -64,6 +63,10 @@ load_by_gives f (o ∷ os) [] r same agrees = absurd (cc)
 load_by_gives f (o ∷ os) (g ∷ gs) r same agrees =
     let head : o.0 ≡ g.0 = cc in
     let tail : map (λ p. p.0) os ≡ map (λ p. p.0) gs = cc in
-    omega (arith, load_by_gives f os gs r tail (All-tail (λ (g : Id × ℕ). f g.0 ≡ g.1) g gs agrees),
-      sum_by-cons (λ (p : Id × List ℕ). cond (f p.0 == r) 1 0) o os, sum_by-cons (λ (p : Id × ℕ). cond (p.1 == r) 1 0) g gs,
-      ap {B = ℕ} (λ x. cond (x == r) 1 0) (ap f head ∙ All-head (λ (g : Id × ℕ). f g.0 ≡ g.1) g gs agrees))
+    omega (
+      arith,
+      load_by_gives f os gs r tail (All-tail (λ (g : Id × ℕ). f g.0 ≡ g.1) g gs agrees),
+      sum_by-cons (λ (p : Id × List ℕ). cond (f p.0 == r) 1 0) o os,
+      sum_by-cons (λ (p : Id × ℕ). cond (p.1 == r) 1 0) g gs,
+      ap {B = ℕ} (λ x. cond (x == r) 1 0) (ap f head ∙ All-head (λ (g : Id × ℕ). f g.0 ≡ g.1) g gs agrees),
+    )

@@ -1,11 +1,11 @@
 -- Lists in order.
-use Rattle.std.proofs.Common.{◌≡◌, ◌≢◌, ℕ, ◌<◌, ◌≤◌, ◌==◌, Bool, true, false, List, [], ◌∷◌, ◌++◌, length, map, ◌||◌, inl, inr, refl, sym, ap, ◌∙◌, subst, arith}
+use Rattle.std.proofs.Common.{◌≡◌, ℕ, ◌<◌, ◌==◌, true, false, List, [], ◌∷◌, ◌++◌, map, ◌||◌, inl, inr, refl, sym, ap, ◌∙◌, subst, arith}
 use Rattle.std.specs.declared.cmp.Ordering.{Ordering}
 use Rattle.std.specs.declared.cmp.Ordering.TheVariants.{Less, Equal, Greater}
 use Rattle.std.specs.Ordering.{nat_cmp, is_eq, ordering_reverse, ordering_then}
 use Rattle.std.specs.Cmp.Lexicographic.{slice_cmp}
 use Rattle.std.specs.Cmp.{IsTotalOrder}
-use Rattle.std.specs.List.{All, AllByRecursion, list_any}
+use Rattle.std.specs.List.{All}
 use Rattle.std.specs.List.Sorted.{IsStrictlySortedBy}
 use Rattle.std.proofs.lemmas.Bool.{ne_eqb, eq-eqb, or_from, or_left, cases_lt, cases_eq, false≢true, false_from_ne_true}
 use Rattle.std.proofs.lemmas.Cmp.{ranked, nat_list_cmp_total, on_total, tied_itself}
@@ -23,9 +23,10 @@ module _ {K : Type 0} (c : K → K → Ordering) where
   pub sorted_push : (xs : List K) (y : K) → IsStrictlySortedBy c xs → All (λ x. c x y ≡ Less) xs → IsStrictlySortedBy c (xs ++ y ∷ [])
   unfolding IsStrictlySortedBy
   sorted_push [] y h before = (tt, tt)
-  sorted_push (x ∷ xs) y h before =
-      (recursion_from_All (λ z. c x z ≡ Less) (xs ++ y ∷ []) (All-push (λ z. c x z ≡ Less) xs y (All-from_recursion (λ z. c x z ≡ Less) xs h.0) (All-head (λ z. c z y ≡ Less) x xs before)),
-       sorted_push xs y h.1 (All-tail (λ z. c z y ≡ Less) x xs before))
+  sorted_push (x ∷ xs) y h before = (
+    recursion_from_All (λ z. c x z ≡ Less) (xs ++ y ∷ []) (All-push (λ z. c x z ≡ Less) xs y (All-from_recursion (λ z. c x z ≡ Less) xs h.0) (All-head (λ z. c z y ≡ Less) x xs before)),
+    sorted_push xs y h.1 (All-tail (λ z. c z y ≡ Less) x xs before),
+  )
 
 pub less_from : (a b : ℕ) → a < b → nat_cmp a b ≡ Less
 less_from a b lt = grind arith
@@ -61,14 +62,14 @@ among_head x xs = or_left (x == x) (is_among xs x) (eq-eqb x x refl)
 absent_below : (r x : ℕ) (xs : List ℕ) → r < x → IsStrictlySortedBy nat_cmp (x ∷ xs) → is_among (x ∷ xs) r ≡ false
 absent_below r x xs lt h =
     or_from (r == x) (is_among xs r) (ne_eqb r x (λ e. absurd (omega arith)))
-      (absent_above r xs (All-weaker (λ y. nat_cmp x y ≡ Less) (λ y. nat_cmp r y ≡ Less) (λ y less. less_from r y (let more : x < y = lt_from_less x y less in omega arith)) xs (head_sorted nat_cmp x xs h)))
+    (absent_above r xs (All-weaker (λ y. nat_cmp x y ≡ Less) (λ y. nat_cmp r y ≡ Less) (λ y less. less_from r y (let more : x < y = lt_from_less x y less in omega arith)) xs (head_sorted nat_cmp x xs h)))
 
 same_head : (x y : ℕ) (xs ys : List ℕ) → IsStrictlySortedBy nat_cmp (x ∷ xs) → IsStrictlySortedBy nat_cmp (y ∷ ys) → ((r : ℕ) → is_among (x ∷ xs) r ≡ is_among (y ∷ ys) r) → x ≡ y
 same_head x y xs ys h g same =
     elim (cases_lt x y) [
-      inl lt ↦ absurd (false≢true (sym (absent_below x y ys lt g) ∙ sym (same x) ∙ among_head x xs))
+      | inl lt ↦ absurd (false≢true (sym (absent_below x y ys lt g) ∙ sym (same x) ∙ among_head x xs))
       | inr ge ↦ elim (cases_lt y x) [
-        inl lt ↦ absurd (false≢true (sym (absent_below y x xs lt h) ∙ same y ∙ among_head y ys))
+        | inl lt ↦ absurd (false≢true (sym (absent_below y x xs lt h) ∙ same y ∙ among_head y ys))
         | inr le ↦ omega arith
       ]
     ]
@@ -76,7 +77,7 @@ same_head x y xs ys h g same =
 same_tail : (x : ℕ) (xs ys : List ℕ) → IsStrictlySortedBy nat_cmp (x ∷ xs) → IsStrictlySortedBy nat_cmp (x ∷ ys) → ((r : ℕ) → is_among (x ∷ xs) r ≡ is_among (x ∷ ys) r) → (r : ℕ) → is_among xs r ≡ is_among ys r
 same_tail x xs ys h g same r =
     elim (cases_eq r x) [
-      inl e ↦ ap (is_among xs) e ∙ absent_above x xs (head_sorted nat_cmp x xs h) ∙ sym (ap (is_among ys) e ∙ absent_above x ys (head_sorted nat_cmp x ys g))
+      | inl e ↦ ap (is_among xs) e ∙ absent_above x xs (head_sorted nat_cmp x xs h) ∙ sym (ap (is_among ys) e ∙ absent_above x ys (head_sorted nat_cmp x ys g))
       | inr ne ↦ sym (ap (λ b. b || is_among xs r) (ne_eqb r x ne)) ∙ same r ∙ ap (λ b. b || is_among ys r) (ne_eqb r x ne)
     ]
 

@@ -1,6 +1,5 @@
 -- A search among pairs whose ids are in order.
-use Rattle.std.proofs.Common.{◌≡◌, ℕ, ◌+◌, ◌<◌, ◌≤◌, cond, false, List, [], ◌∷◌, length, map, get_or, Option, Some, None, refl, sym, ap, ◌∙◌, arith, inl, inr, suc}
-use Rattle.std.specs.declared.cmp.Ordering.{Ordering}
+use Rattle.std.proofs.Common.{◌≡◌, ℕ, ◌+◌, ◌<◌, ◌≤◌, cond, false, List, [], ◌∷◌, length, map, get_or, Some, None, refl, sym, ap, ◌∙◌, arith, inl, inr, suc}
 use Rattle.std.specs.declared.cmp.Ordering.TheVariants.{Less, Equal, Greater}
 use Rattle.std.specs.Ordering.{is_eq, ordering_reverse}
 use Rattle.std.proofs.lemmas.Bool.{cases_lt, cases_eq}
@@ -41,9 +40,9 @@ module _ {X : Type 0} where
         apart = from;
         below = h.below;
         above = λ k le lt. elim (cases_eq k middle) [
-          inl e ↦ ap (λ k. id_cmp id (id_at k)) e ∙ less
+          | inl e ↦ ap (λ k. id_cmp id (id_at k)) e ∙ less
           | inr ne ↦ id_total.trans id (id_at middle) (id_at k) less (earlier middle k ordered (omega arith) lt)
-        ]
+        ];
       }
 
       pub go_up : id_cmp id (id_at middle) ≡ Greater → IsBetween none pairs id (middle + 1) high
@@ -53,10 +52,10 @@ module _ {X : Type 0} where
             within = h.within;
             apart = omega arith;
             below = λ k lt. elim (cases_eq k middle) [
-              inl e ↦ ap (λ k. id_cmp (id_at k) id) e ∙ less
+              | inl e ↦ ap (λ k. id_cmp (id_at k) id) e ∙ less
               | inr ne ↦ id_total.trans (id_at k) (id_at middle) id (earlier k middle ordered (omega arith) (omega (arith, h.within))) less
             ];
-            above = h.above
+            above = h.above;
           }
 
     -- the id at the place is the one that is sought
@@ -73,6 +72,6 @@ module _ {X : Type 0} where
   pub not_found : (none : X) (pairs : List (Id × X)) (id : Id) (low high : ℕ) → IsBetween none pairs id low high → high ≤ low → beside pairs id ≡ None
   not_found none pairs id low high h met =
       not_beside none pairs id (λ k lt. elim (cases_lt k low) [
-        inl below ↦ ap is_eq (id_total.antisymm id (get_or pairs k (record { 0 = [] }, none)).0 ∙ ap ordering_reverse (h.below k below))
+        | inl below ↦ ap is_eq (id_total.antisymm id (get_or pairs k (record { 0 = [] }, none)).0 ∙ ap ordering_reverse (h.below k below))
         | inr above ↦ ap is_eq (h.above k (omega arith) lt)
       ])

@@ -21,11 +21,9 @@ pub const MOST_IDS: usize = 200_000;
 /// Where a group shows a number, no sharing of these offers has a smaller busiest load.
 pub fn pigeonhole()
     ensures { (offers : List (Id × List ℕ)) (group : List ℕ) (least : ℕ) → Shows group offers least → NoneSmaller offers least }
-{
-}
+{}
 
 /// The same, where each relay's load begins at a base.
 pub fn pigeonhole_over_bases()
     ensures { (base : ℕ → ℕ) (offers : List (Id × List ℕ)) (group : List ℕ) (least most : ℕ) (f : Id → ℕ) → ShowsFrom base group offers least → IsSharing f offers → IsGreatest (load_from base f offers) most → least ≤ most }
-{
-}
+{}
