@@ -187,8 +187,9 @@ ran_none own limits old before = record {
   bad = λ c e. cc;
   rounds = λ e. cc;
   need_full = λ e. cc;
-  log_full = (λ e. cc, rw gained_none (λ h. absurd (omega arith)));
-  refused = λ c r h l. absurd (subst (LastAnswer (IsRefused c)) (gained_none old) l);
+  log_full = λ e. cc;
+  within_log = tt;
+  refused = λ c r l. absurd (subst (LastAnswer (IsRefused c)) (gained_none old) l);
 }
 
 -- it ends without another pair
@@ -206,8 +207,9 @@ module _ (own : List Item) (limits : SessionLimits) (asked : ℕ) (old now new :
     bad = λ c h. absurd (bad c (is h));
     rounds = λ h. rw same (going.count ∙ rounds (is h));
     need_full = λ h. absurd (need_full (is h));
-    log_full = (λ h. absurd (log_full (is h)), rw same (λ h. absurd (omega (arith, going.bytes))));
-    refused = λ c r h l. absurd (no_refusal c (gained old now) going.read (subst (λ w. LastAnswer (IsRefused c) (gained old w)) same l));
+    log_full = λ h. absurd (log_full (is h));
+    within_log = tt;
+    refused = λ c r l. absurd (no_refusal c (gained old now) going.read (subst (λ w. LastAnswer (IsRefused c) (gained old w)) same l));
   }
     where
       is : {f : SessionFault} → ◌≡◌ {A = Result Outcome SessionFault} (Err e) (Err f) → e ≡ f
@@ -285,13 +287,14 @@ module _ (own : List Item) (limits : SessionLimits) (asked : ℕ) (old now new :
     bad = λ c e. cc;
     rounds = λ e. cc;
     need_full = λ e. cc;
-    log_full = (λ e. cc, λ h. absurd (omega (arith, next_bytes, going.bytes)));
-    refused = λ c r h l. absurd (read_or_refused (exchange question reply) c (answered, read) (last_gives (IsRefused c) (gained old now) (exchange question reply) (subst (LastAnswer (IsRefused c)) pairs l)));
+    log_full = λ e. cc;
+    within_log = omega (arith, next_bytes, going.bytes);
+    refused = λ c r l. absurd (read_or_refused (exchange question reply) c (answered, read) (last_gives (IsRefused c) (gained old now) (exchange question reply) (subst (LastAnswer (IsRefused c)) pairs l)));
   }
 
-  pub ran_fault : asked < limits.rounds → (e : SessionFault) → (e ≡ PeerFailed → ⊥) → ((c : CodecFault) → e ≡ Bad c → IsRefused c reply) → (e ≡ Rounds → ⊥)
-      → (e ≡ NeedFull → (answered : List Span) × (message_at reply ≡ Ok answered) × PassesMost s.roll answered s.need s.most) → ((e ≡ LogFull) ↔ (left < length reply))
-      → ((c : CodecFault) → Refuses c → length reply ≤ left → IsRefused c reply → e ≡ Bad c) → Ran own limits old new before last (Err e)
+  pub ran_fault : asked < limits.rounds → (e : SessionFault) → (e ≡ PeerFailed → ⊥) → ((c : CodecFault) → e ≡ Bad c → IsRefused c reply) → (e ≡ Rounds → asked + 1 ≡ limits.rounds)
+      → (e ≡ NeedFull → (answered : List Span) × (message_at reply ≡ Ok answered) × PassesMost s.roll answered s.need s.most) → (e ≡ LogFull → left < length reply)
+      → ((c : CodecFault) → Refuses c → IsRefused c reply → e ≡ Bad c) → Ran own limits old new before last (Err e)
   ran_fault round e failed bad rounds need_full log_full refused = record {
     appended = next_appended;
     chained = next_chained;
@@ -300,13 +303,25 @@ module _ (own : List Item) (limits : SessionLimits) (asked : ℕ) (old now new :
     unfailed = tt;
     failed = λ h. absurd (failed (is h));
     bad = λ c h. rw pairs (last_is (IsRefused c) (gained old now) (exchange question reply) (bad c (is h)));
-    rounds = λ h. absurd (rounds (is h));
+    rounds = λ h. next_count ∙ rounds (is h);
     need_full = λ h. let f = need_full (is h) in
         let passes : PassesMost own f.0 s.need limits.need = subst (λ (w : List Item). PassesMost w f.0 s.need limits.need) going.roll (subst (λ n. PassesMost s.roll f.0 s.need n) going.most f.2) in
         rw pairs (offers_more own (gained old now) (exchange question reply) f.0 s.need limits.need f.1 going.offered passes);
-    log_full = (λ h. let more : left < length reply = log_full.0 (is h) in omega (arith, next_bytes, going.bytes), λ h. ap Err (log_full.1 (omega (arith, next_bytes, going.bytes, h))));
-    refused = λ c r h l. ap Err (refused c r (omega (arith, next_bytes, going.bytes, h)) (last_gives (IsRefused c) (gained old now) (exchange question reply) (subst (LastAnswer (IsRefused c)) pairs l)));
+    log_full = λ h. let more : left < length reply = log_full (is h) in omega (arith, next_bytes, going.bytes);
+    within_log = tt;
+    refused = λ c r l. ap Err (refused c r (last_gives (IsRefused c) (gained old now) (exchange question reply) (subst (LastAnswer (IsRefused c)) pairs l)));
   }
     where
       is : {f : SessionFault} → ◌≡◌ {A = Result Outcome SessionFault} (Err e) (Err f) → e ≡ f
       is h = cc
+
+  not_refused : (m : List Span) → message_at reply ≡ Ok m → (c : CodecFault) → IsRefused c reply → ⊥
+  not_refused m read c refused = let r = read in cc
+
+  -- no question may follow
+  pub ran_rounds : asked < limits.rounds → asked + 1 ≡ limits.rounds → (m : List Span) → message_at reply ≡ Ok m → Ran own limits old new before last (Err Rounds)
+  ran_rounds round end m read = ran_fault round Rounds (λ e. cc) (λ c e. cc) (λ e. end) (λ e. cc) (λ e. cc) (λ c r l. absurd (not_refused m read c l))
+
+  -- the answers have too many bytes
+  pub ran_log_full : asked < limits.rounds → left < length reply → (m : List Span) → message_at reply ≡ Ok m → Ran own limits old new before last (Err LogFull)
+  ran_log_full round more m read = ran_fault round LogFull (λ e. cc) (λ c e. cc) (λ e. cc) (λ e. cc) (λ e. more) (λ c r l. absurd (not_refused m read c l))

@@ -64,11 +64,12 @@ pub record Ran (own : List Item) (limits : SessionLimits) (old new : List Exchan
   -- what was found is right for each list that explains the pairs
   pub exact : IfOk result (λ o. (b : List Item) → Explains b (gained old new) → IsRight own b o)
   pub unfailed : OnOk result (after ≡ before)
+  pub within_log : OnOk result (answered_bytes (gained old new) ≤ limits.log)
   -- each fault has its cause
   pub failed : result ≡ Err PeerFailed → before < after
   pub bad : (c : CodecFault) → result ≡ Err (Bad c) → LastAnswer (IsRefused c) (gained old new)
   pub rounds : result ≡ Err Rounds → length (gained old new) ≡ limits.rounds
   pub need_full : result ≡ Err NeedFull → OffersMore own (gained old new) limits.need
-  pub log_full : (result ≡ Err LogFull) ↔ (limits.log < answered_bytes (gained old new))
+  pub log_full : result ≡ Err LogFull → limits.log < answered_bytes (gained old new)
   -- and an answer that is no message is refused
-  pub refused : (c : CodecFault) → Refuses c → answered_bytes (gained old new) ≤ limits.log → LastAnswer (IsRefused c) (gained old new) → result ≡ Err (Bad c)
+  pub refused : (c : CodecFault) → Refuses c → LastAnswer (IsRefused c) (gained old new) → result ≡ Err (Bad c)

@@ -12,7 +12,7 @@ use neg_initiator::{InitFault, Initiator, Next, Outcome};
 use std::alloc::Global;
 
 /// Asks the peer until all is settled, and gives what was found. A fault ends the session, and the
-/// peer keeps its pairs. An answer that takes the answers past their bytes is not read.
+/// peer keeps its pairs. Of several faults of one answer the one with the lowest number is given.
 pub fn reconcile_with<P: Peer>(
     alloc: Global,
     peer: &mut P,
@@ -29,15 +29,25 @@ pub fn reconcile_with<P: Peer>(
         return Err(SessionFault::Memory);
     };
     let mut left = limits.log;
-    for _round in 0..limits.rounds {
+    for round in 0..limits.rounds {
         let answer = peer.ask(&question)?;
-        if answer.len() > left {
-            return Err(SessionFault::LogFull);
-        }
-        left -= answer.len();
         match initiator.take(&answer) {
-            Ok(Next::Ask(next)) => question = next,
-            Ok(Next::Done) => return Ok(initiator.outcome()),
+            Ok(Next::Ask(next)) => {
+                if round + 1 == limits.rounds {
+                    return Err(SessionFault::Rounds);
+                }
+                if answer.len() > left {
+                    return Err(SessionFault::LogFull);
+                }
+                left -= answer.len();
+                question = next;
+            }
+            Ok(Next::Done) => {
+                if answer.len() > left {
+                    return Err(SessionFault::LogFull);
+                }
+                return Ok(initiator.outcome());
+            }
             Err(InitFault::Bad(fault)) => return Err(SessionFault::Bad(fault)),
             Err(InitFault::NeedFull) => return Err(SessionFault::NeedFull),
             Err(InitFault::Memory) => return Err(SessionFault::Memory),

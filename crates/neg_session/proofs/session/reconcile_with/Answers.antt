@@ -1,4 +1,4 @@
-use Rattle.std.proofs.Common.{rules, ◌≡◌, ◌<◌, ◌≤◌, length, Result, Err, arith, refl, sym, ap, subst}
+use Rattle.std.proofs.Common.{rules, ◌≡◌, ◌<◌, ◌≤◌, ◌+◌, length, Result, Err, arith, refl, sym, ap, subst}
 use Rattle.std.proofs.lemmas.Result.{err_from_is_err_and}
 use Rattle.neg_codec.specs.declared.CodecFault.{CodecFault}
 use Rattle.neg_initiator.specs.declared.fault.InitFault.{InitFault}
@@ -6,7 +6,7 @@ use Rattle.neg_initiator.specs.declared.fault.InitFault.TheVariants as initiator
 use Rattle.neg_initiator.specs.declared.initiator.Next.{Next}
 use Rattle.neg_session.specs.Ran.{Ran}
 use Rattle.neg_session.specs.declared.fault.SessionFault.TheVariants.{Bad}
-use Rattle.neg_session.proofs.Driver.{going_first, going_more, ran_unanswered, ran_quiet, ran_done, ran_fault}
+use Rattle.neg_session.proofs.Driver.{going_first, going_more, ran_rounds, ran_log_full, ran_unanswered, ran_quiet, ran_done, ran_fault}
 use Rattle.neg_session.proofs.session.reconcile_with.Goals as goal
 
 is_bad : (e : InitFault) (c f : CodecFault) → e ≡ initiator.Bad c → Bad c ≡ Bad f → ◌≡◌ {A = Result Next InitFault} (Err e) (Err (initiator.Bad f))
@@ -24,14 +24,8 @@ loop-round-init g c = record {
 pub returns-in_err-answer-clause-ran : goal.returns-in_err-answer-clause-ran
 returns-in_err-answer-clause-ran g c =
     let p = err_from_is_err_and c.from_residual.result c.from_residual.ensures.1 in
-    let room : c.loop-round._round ≤ c.args.limits.now.rounds = omega (arith, c.loop-round-test.true) in
+    let room : c.loop-round.round ≤ c.args.limits.now.rounds = omega (arith, c.loop-round-test.true) in
     rw (p.1, p.2) (ran_unanswered _ _ _ _ _ _ _ _ _ _ _ _ c.loop-round.invariant.going c.in_err-answer.ensures.err room c.in_err-answer.field-0.0 (λ e. c.in_err-answer.ensures.failed (ap Err e)))
-
-pub returns-then-len-left-clause-ran : goal.returns-then-len-left-clause-ran
-returns-then-len-left-clause-ran g c =
-    let asked = rw c.deref.ensures.value at c.in_ok-answer.ensures.ok in
-    let more : c.loop-round.left < length c.in_ok-answer.answer.items = omega arith in
-    ran_fault _ _ _ _ _ _ _ _ _ _ _ _ c.loop-round.invariant.going _ asked.0 asked.1 c.loop-round-test.true _ (λ e. cc) (λ f e. cc) (λ e. cc) (λ e. cc) (λ e. more, λ h. refl) (λ f r h l. absurd (omega arith))
 
 pub returns-in-Ok-Done-clause-ran : goal.returns-in-Ok-Done-clause-ran
 returns-in-Ok-Done-clause-ran g c =
@@ -50,8 +44,8 @@ returns-in-Err-Bad-clause-ran g c =
     let refused = rw c.deref-in-loop-round.ensures.value at c.in-Err-Bad.ensures.refused in
     subst (λ (f : CodecFault). Ran c.args.roll.now c.args.limits.now (g.P.Peer.log c.args.peer.now) (g.P.Peer.log c.ask.new.self) (g.P.Peer.faults c.args.peer.now) (g.P.Peer.faults c.ask.new.self) (Err (Bad f)))
     (sym c.in-Err-Bad.fault-is)
-    (ran_fault _ _ _ _ _ _ _ _ _ _ _ _ c.loop-round.invariant.going _ asked.0 asked.1 c.loop-round-test.true (Bad c.in-Err-Bad.fault) (λ e. cc) (λ f e. (bad f (is_bad c.in-Err-Bad.field-0 c.in-Err-Bad.fault f field e)).0) (λ e. cc) (λ e. cc) ((λ e. cc), (λ h. absurd (omega arith)))
-    (λ f r h l. from_bad c.in-Err-Bad.field-0 c.in-Err-Bad.fault f field (refused f c.loop-round.invariant.going.phase l r)))
+    (ran_fault _ _ _ _ _ _ _ _ _ _ _ _ c.loop-round.invariant.going _ asked.0 asked.1 c.loop-round-test.true (Bad c.in-Err-Bad.fault) (λ e. cc) (λ f e. (bad f (is_bad c.in-Err-Bad.field-0 c.in-Err-Bad.fault f field e)).0) (λ e. cc) (λ e. cc) (λ e. cc)
+    (λ f r l. from_bad c.in-Err-Bad.field-0 c.in-Err-Bad.fault f field (refused f c.loop-round.invariant.going.phase l r)))
 
 pub returns-in-Err-NeedFull-clause-ran : goal.returns-in-Err-NeedFull-clause-ran
 returns-in-Err-NeedFull-clause-ran g c =
@@ -59,16 +53,16 @@ returns-in-Err-NeedFull-clause-ran g c =
     let full = rw c.deref-in-loop-round.ensures.value at c.in-Err-NeedFull.ensures.need_full in
     let refused = rw c.deref-in-loop-round.ensures.value at c.in-Err-NeedFull.ensures.refused in
     let field = c.in-Err-NeedFull.field-0-is in
-    ran_fault _ _ _ _ _ _ _ _ _ _ _ _ c.loop-round.invariant.going _ asked.0 asked.1 c.loop-round-test.true _ (λ e. cc) (λ f e. cc) (λ e. cc) (λ e. full (ap Err field)) ((λ e. cc), (λ h. absurd (omega arith)))
-    (λ f r h l. let no = refused f c.loop-round.invariant.going.phase l r in cc)
+    ran_fault _ _ _ _ _ _ _ _ _ _ _ _ c.loop-round.invariant.going _ asked.0 asked.1 c.loop-round-test.true _ (λ e. cc) (λ f e. cc) (λ e. cc) (λ e. full (ap Err field)) (λ e. cc)
+    (λ f r l. let no = refused f c.loop-round.invariant.going.phase l r in cc)
 
 pub returns-in-Err-Memory-clause-ran : goal.returns-in-Err-Memory-clause-ran
 returns-in-Err-Memory-clause-ran g c =
     let asked = rw c.deref.ensures.value at c.in_ok-answer.ensures.ok in
     let refused = rw c.deref-in-loop-round.ensures.value at c.in-Err-Memory.ensures.refused in
     let field = c.in-Err-Memory.field-0-is in
-    ran_fault _ _ _ _ _ _ _ _ _ _ _ _ c.loop-round.invariant.going _ asked.0 asked.1 c.loop-round-test.true _ (λ e. cc) (λ f e. cc) (λ e. cc) (λ e. cc) ((λ e. cc), (λ h. absurd (omega arith)))
-    (λ f r h l. let no = refused f c.loop-round.invariant.going.phase l r in cc)
+    ran_fault _ _ _ _ _ _ _ _ _ _ _ _ c.loop-round.invariant.going _ asked.0 asked.1 c.loop-round-test.true _ (λ e. cc) (λ f e. cc) (λ e. cc) (λ e. cc) (λ e. cc)
+    (λ f r l. let no = refused f c.loop-round.invariant.going.phase l r in cc)
 
 pub loop-round-preserved : goal.loop-round-preserved
 loop-round-preserved g c =
@@ -84,5 +78,26 @@ loop-round-preserved g c =
 
 pub returns-clause-ran : goal.returns-clause-ran
 returns-clause-ran g c =
-    let end : c.loop-round._round ≡ c.args.limits.now.rounds = omega arith in
+    let end : c.loop-round.round ≡ c.args.limits.now.rounds = omega arith in
     ran_quiet _ _ _ _ _ _ _ _ _ _ _ _ c.loop-round.invariant.going refl (omega (arith, end)) _ (λ e. cc) (λ f e. cc) (λ e. end) (λ e. cc) (λ e. cc)
+
+pub returns-then-round-limits-clause-ran : goal.returns-then-round-limits-clause-ran
+returns-then-round-limits-clause-ran g c =
+    let asked = rw c.deref.ensures.value at c.in_ok-answer.ensures.ok in
+    let taken = rw c.deref-in-loop-round.ensures.value at c.in-Ok-Ask.ensures.taken in
+    let end : c.loop-round.round + 1 ≡ c.args.limits.now.rounds = omega arith in
+    ran_rounds _ _ _ _ _ _ _ _ _ _ _ _ c.loop-round.invariant.going _ asked.0 asked.1 c.loop-round-test.true end taken.0 taken.2
+
+pub returns-then-len-left-clause-ran : goal.returns-then-len-left-clause-ran
+returns-then-len-left-clause-ran g c =
+    let asked = rw c.deref.ensures.value at c.in_ok-answer.ensures.ok in
+    let taken = rw c.deref-in-loop-round.ensures.value at c.in-Ok-Ask.ensures.taken in
+    let more : c.loop-round.left < length c.in_ok-answer.answer.items = omega arith in
+    ran_log_full _ _ _ _ _ _ _ _ _ _ _ _ c.loop-round.invariant.going _ asked.0 asked.1 c.loop-round-test.true more taken.0 taken.2
+
+pub returns-then-len-left-2-clause-ran : goal.returns-then-len-left-2-clause-ran
+returns-then-len-left-2-clause-ran g c =
+    let asked = rw c.deref.ensures.value at c.in_ok-answer.ensures.ok in
+    let taken = rw c.deref-in-loop-round.ensures.value at c.in-Ok-Done.ensures.taken in
+    let more : c.loop-round.left < length c.in_ok-answer.answer.items = omega arith in
+    ran_log_full _ _ _ _ _ _ _ _ _ _ _ _ c.loop-round.invariant.going _ asked.0 asked.1 c.loop-round-test.true more taken.0 taken.2
