@@ -1,12 +1,11 @@
 -- From what the fields are to what their tests say.
-use Rattle.std.proofs.Common.{◌≡◌, ℕ, ◌<◌, List, true, false, length, nat_lt, Option, Some, None, is_some, option_map, option_and_then, unwrap_or, refl, ap, ◌∙◌, codes}
-use Rattle.hex.specs.Hex.{encode_lower, IsBytes}
-use Rattle.serde_json.specs.Data.{Num, unsigned, Data, null, boolean, number, string, array, object}
-use Rattle.serde_json.specs.Find.{get, as_object, as_u64}
-use Rattle.serde_json.specs.View.{number_view}
+use Rattle.std.proofs.Common.{◌≡◌, ℕ, List, true, Some, None, is_some, refl, ap, ◌∙◌, codes}
+use Rattle.hex.specs.Hex.{encode_lower}
+use Rattle.serde_json.specs.Data.{Data, null, boolean, number, string, array, object}
+use Rattle.serde_json.specs.Find.{get, as_object}
 use Rattle.nostr_event.specs.declared.fields.Shapes.{Shapes}
 use Rattle.nostr_event.specs.EventView.{IsBytesOf}
-use Rattle.nostr_event.specs.EventJson.{HasShapes, IsHexAt, first_failing, shape_tests, is_below_at}
+use Rattle.nostr_event.specs.EventJson.{HasShapes, IsHexAt, first_failing, shape_tests}
 use Rattle.nostr_event.proofs.Find.{tags_are}
 
 pub object_from_get : (k : List ℕ) (d e : Data) → get k d ≡ Some e → is_some (as_object d) ≡ true

@@ -1,9 +1,7 @@
 -- What is written of two things is the same only where they are.
-use Rattle.std.proofs.Common.{◌≡◌, ℕ, List, [], ◌∷◌, Result, Ok, refl, sym, ap, ap₂, ◌∙◌}
+use Rattle.std.proofs.Common.{◌≡◌, ℕ, List, [], ◌∷◌, Ok, refl, ap, ap₂}
 use Rattle.hex.specs.Hex.{encode_lower, IsBytes, decode_of}
-use Rattle.hex.specs.declared.error.FromHexError.{FromHexError}
 use Rattle.hex.proofs.HexLemmas.{decode_of-encode_lower}
-use Rattle.serde_json.specs.Data.{Data, string, array, Items, no_items, item}
 use Rattle.nostr_event.specs.EventJson.{tag_items, tags_items}
 
 pub encode_lower-injective : (xs ys : List ℕ) → IsBytes xs → IsBytes ys → encode_lower xs ≡ encode_lower ys → xs ≡ ys

@@ -1,16 +1,14 @@
 -- A JSON value has the fields of at most one event, and what refuses it leaves none.
-use Rattle.std.proofs.Common.{◌≡◌, ◌≢◌, ℕ, List, [], ◌∷◌, ◌<◌, nat_lt, Option, None, Some, true, refl, sym, ap, ◌∙◌, codes, subst, arith, rules}
+use Rattle.std.proofs.Common.{◌≡◌, ◌≢◌, ℕ, List, nat_lt, None, Some, true, refl, sym, codes, subst, rules}
 use Rattle.hex.specs.Hex.{encode_lower}
-use Rattle.serde_json.specs.Data.{Data, Num, unsigned, number, string, array}
+use Rattle.serde_json.specs.Data.{Data, unsigned, number, string, array}
 use Rattle.serde_json.specs.Find.{get}
-use Rattle.neg_codec.specs.declared.Id.{Id}
-use Rattle.nostr_event.specs.declared.draft.Draft.{Draft}
 use Rattle.nostr_event.specs.declared.fault.EventField.{EventField}
 use Rattle.nostr_event.specs.declared.fault.EventField.TheVariants.{Object, Id as IdField, Pubkey, CreatedAt, Kind, Tags, Content, Sig}
 use Rattle.nostr_event.specs.declared.fault.EventFault.{EventFault}
 use Rattle.nostr_event.specs.declared.fault.EventFault.TheVariants.{Shape, Hex, Range, WrongId, Memory}
 use Rattle.nostr_event.specs.EventView.{EventView, IsBytesOf, IsIdOf}
-use Rattle.nostr_event.specs.EventJson.{HasFields, IsHexAt, Reads, Refuses, IsFirstNotHex, first_failing, shape_tests, range_tests, tags_items}
+use Rattle.nostr_event.specs.EventJson.{HasFields, Reads, Refuses, IsFirstNotHex, first_failing, shape_tests, range_tests, tags_items}
 use Rattle.nostr_event.proofs.Injective.{encode_lower-injective, tags_items-injective}
 use Rattle.nostr_event.proofs.FieldTests.{object_from_get}
 use Rattle.nostr_event.proofs.Find.{tags_are}

@@ -1,5 +1,5 @@
 -- What is written of an event reads as that event.
-use Rattle.std.proofs.Common.{◌≡◌, refl}
+use Rattle.std.proofs.Common.{refl}
 use Rattle.serde_json.proofs.OnLiterals.{serde_json_on_literals}
 use Rattle.nostr_event.specs.EventView.{EventView, IsEvent}
 use Rattle.nostr_event.specs.EventJson.{HasFields, Reads, object_of}

@@ -1,7 +1,7 @@
 -- Events as JSON objects (NIP-01).
 use Rattle.std.specs.Prelude.{◌≡◌, ◌^◌, ℕ, List, [], ◌∷◌, map, Bool, true, false, ◌&&◌, if◌then◌else◌, nat_lt, Option, Some, None, is_some, option_map, option_and_then, unwrap_or, codes, ⊤}
 use Rattle.hex.specs.Hex.{encode_lower}
-use Rattle.serde_json.specs.Data.{Num, unsigned, Data, number, string, array, object, Items, no_items, item, Members, no_members, member}
+use Rattle.serde_json.specs.Data.{unsigned, Data, number, string, array, object, Items, no_items, item, no_members, member}
 use Rattle.serde_json.specs.Find.{get, as_str, as_number, as_array, as_object, as_u64}
 use Rattle.serde_json.specs.View.{items_of, number_view}
 use Rattle.neg_codec.specs.Keys.{endless}

@@ -1,7 +1,6 @@
-use Rattle.std.proofs.Common.{◌≡◌, true, nat_lt, refl, codes, arith, rules}
+use Rattle.std.proofs.Common.{◌≡◌, true, nat_lt, refl, codes, rules}
 use Rattle.std.proofs.lemmas.Result.{err_from_is_err_and}
 use Rattle.serde_json.specs.View.{view}
-use Rattle.nostr_event.specs.EventJson.{IsHexAt}
 use Rattle.nostr_event.proofs.FieldTests.{shapes_pass, not_hex_at, hex_at}
 use Rattle.nostr_event.proofs.reading.parts_of.Goals as goal
 
