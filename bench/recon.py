@@ -4,7 +4,8 @@
     bench/recon.py --baseline PATH [--mirror PATH] [--items N,N,..] [--ppm P,P,..] [--runs R]
 
 The baseline also makes the inputs (`BASELINE gen items --n N --ppm P`): N items, of which P in a
-million differ between the sides. Both programs run in turn, R times each; the least wall time, the
+million differ between the sides. The baseline is told to keep messages whole, up to 1,048,576 bytes,
+as `nostr-mirror` does. Both programs run in turn, R times each; the least wall time, the
 least processor time and the greatest peak of resident memory are compared. Outputs are compared too.
 """
 import argparse
@@ -13,6 +14,10 @@ import subprocess
 import sys
 import tempfile
 import time
+
+
+class Refused(Exception):
+    """A program ended with another status than 0."""
 
 
 def once(words, source, target):
@@ -26,7 +31,7 @@ def once(words, source, target):
         child.returncode = os.waitstatus_to_exitcode(status)
         child.stderr.close()
     if child.returncode != 0:
-        sys.exit("%s: status %d\n%s" % (" ".join(words), child.returncode, errors.decode(errors="replace")))
+        raise Refused("%s: %s" % (os.path.basename(words[0]), errors.decode(errors="replace").strip()))
     return wall, usage.ru_utime + usage.ru_stime, usage.ru_maxrss
 
 
@@ -64,9 +69,13 @@ def main():
                     subprocess.run([options.baseline, "gen", "items", "--n", str(items), "--ppm", str(ppm)],
                                    stdout=made, check=True)
                 a, b = [], []
-                for _ in range(options.runs):
-                    a.append(once([options.mirror, "recon"], source, ours))
-                    b.append(once([options.baseline, "recon"], source, theirs))
+                try:
+                    for _ in range(options.runs):
+                        a.append(once([options.mirror, "recon"], source, ours))
+                        b.append(once([options.baseline, "recon", "--limit", "1048576"], source, theirs))
+                except Refused as refused:
+                    print("%9d %8d | %s" % (items, ppm, refused), flush=True)
+                    continue
                 equal = same(ours, theirs)
                 wrong = wrong or not equal
                 cells = []
