@@ -23,7 +23,7 @@ use Rattle.offer_table.specs.RelayBits.{among_those, those_among, bits_of-member
 pub among_those_is : (p : ℕ → Bool) (n r : ℕ) → r < n → is_among (those p n) r ≡ p r
 among_those_is p n r lt =
     elim (cases_Bool (p r)) [
-      inl e ↦ those_among p n r lt e ∙ sym e
+      | inl e ↦ those_among p n r lt e ∙ sym e
       | inr e ↦ false_from_ne_true (is_among (those p n) r) (λ h. false≢true (sym e ∙ (among_those p n r h).1)) ∙ sym e
     ]
 
@@ -35,25 +35,25 @@ pub with_member : (bits k r : ℕ) → k < RELAYS → is_among (members (bit_or 
 with_member bits k r within =
     let more : ℕ = bit_or bits (1 * 2 ^ k % 2 ^ 64) in
     elim (cases_lt r RELAYS) [
-      inl lt ↦
-        among_those_is (λ r. bit_at more r == 1) RELAYS r lt ∙
-        elim (cases_eq r k) [
-          inl e ↦ ap (λ i. bit_at more i == 1) e ∙ eq-eqb (bit_at more k) 1 (bit_at_set_same w64 bits k within) ∙ sym (ap (λ b. b || is_among (members bits) r) (eq-eqb r k e))
-          | inr ne ↦
-            ap (λ b. b == 1) (bit_at_set_other w64 bits k within r ne) ∙ sym (among_those_is (λ r. bit_at bits r == 1) RELAYS r lt)
-            ∙ sym (ap (λ b. b || is_among (members bits) r) (ne_eqb r k ne))
-        ]
+      | inl lt ↦
+          among_those_is (λ r. bit_at more r == 1) RELAYS r lt ∙
+          elim (cases_eq r k) [
+            | inl e ↦ ap (λ i. bit_at more i == 1) e ∙ eq-eqb (bit_at more k) 1 (bit_at_set_same w64 bits k within) ∙ sym (ap (λ b. b || is_among (members bits) r) (eq-eqb r k e))
+            | inr ne ↦
+                ap (λ b. b == 1) (bit_at_set_other w64 bits k within r ne) ∙ sym (among_those_is (λ r. bit_at bits r == 1) RELAYS r lt)
+                ∙ sym (ap (λ b. b || is_among (members bits) r) (ne_eqb r k ne))
+          ]
       | inr ge ↦
-        (let ne : r ≡ k → false ≡ true = λ e. absurd (omega arith) in
-         none_past (λ r. bit_at more r == 1) RELAYS r ge
-         ∙ sym (none_past (λ r. bit_at bits r == 1) RELAYS r ge)
-         ∙ sym (ap (λ b. b || is_among (members bits) r) (ne_eqb r k (λ e. absurd (omega arith)))))
+          (let ne : r ≡ k → false ≡ true = λ e. absurd (omega arith) in
+          none_past (λ r. bit_at more r == 1) RELAYS r ge
+          ∙ sym (none_past (λ r. bit_at bits r == 1) RELAYS r ge)
+          ∙ sym (ap (λ b. b || is_among (members bits) r) (ne_eqb r k (λ e. absurd (omega arith)))))
     ]
 
 max_bit : (x y : ℕ) → x < 2 → y < 2 → (max x y == 1) ≡ ((x == 1) || (y == 1))
 max_bit x y hx hy =
     elim (cases_eq x 1) [
-      inl e ↦ eq-eqb (max x y) 1 (omega arith) ∙ sym (or_left (x == 1) (y == 1) (eq-eqb x 1 e))
+      | inl e ↦ eq-eqb (max x y) 1 (omega arith) ∙ sym (or_left (x == 1) (y == 1) (eq-eqb x 1 e))
       | inr ne ↦ (let z : max x y ≡ y = omega arith in ap (λ k. k == 1) z ∙ sym (ap (λ b. b || (y == 1)) (ne_eqb x 1 ne)))
     ]
 
@@ -86,12 +86,12 @@ bit_of b lt = elim (cases_eq b 1) [ inl e ↦ inl e | inr ne ↦ inr (omega arit
 apart_at : (a b i : ℕ) → list_any (is_among (members b)) (members a) ≡ false → i < RELAYS → bit_at (bit_and a b) i ≡ 0
 apart_at a b i h lt =
     elim (bit_of (bit_at a i) (bit_at-lt a i)) [
-      inl x ↦ elim (bit_of (bit_at b i) (bit_at-lt b i)) [
-        inl y ↦
-          (let mine : is_among (members a) i ≡ true = among_those_is (λ r. bit_at a r == 1) RELAYS i lt ∙ eq-eqb (bit_at a i) 1 x in
-           let theirs : is_among (members b) i ≡ true = among_those_is (λ r. bit_at b r == 1) RELAYS i lt ∙ eq-eqb (bit_at b i) 1 y in
-           let at = place_of (members a) i mine in
-           absurd (false≢true (sym h ∙ list_any_at (is_among (members b)) (members a) at.0 at.1 at.2 (ap (is_among (members b)) at.3 ∙ theirs))))
+      | inl x ↦ elim (bit_of (bit_at b i) (bit_at-lt b i)) [
+        | inl y ↦
+            (let mine : is_among (members a) i ≡ true = among_those_is (λ r. bit_at a r == 1) RELAYS i lt ∙ eq-eqb (bit_at a i) 1 x in
+            let theirs : is_among (members b) i ≡ true = among_those_is (λ r. bit_at b r == 1) RELAYS i lt ∙ eq-eqb (bit_at b i) 1 y in
+            let at = place_of (members a) i mine in
+            absurd (false≢true (sym h ∙ list_any_at (is_among (members b)) (members a) at.0 at.1 at.2 (ap (is_among (members b)) at.3 ∙ theirs))))
         | inr y ↦ omega (arith, bit_at_and a b i)
       ]
       | inr x ↦ omega (arith, bit_at_and a b i)
@@ -100,7 +100,7 @@ apart_at a b i h lt =
 apart_bits : (a b : ℕ) → a < 2 ^ 64 → list_any (is_among (members b)) (members a) ≡ false → bit_and a b ≡ 0
 apart_bits a b small h =
     same_from_bits (bit_and a b) 0 (λ i. elim (cases_lt i RELAYS) [
-      inl lt ↦ apart_at a b i h lt ∙ sym (bit_at-zero i)
+      | inl lt ↦ apart_at a b i h lt ∙ sym (bit_at-zero i)
       | inr ge ↦ (let none : bit_at a i ≡ 0 = bit_at_above a 64 i small ge in omega (arith, bit_at_and a b i, bit_at-zero i))
     ])
 
@@ -116,14 +116,14 @@ AreBelow xs n = IsStrictlySortedBy nat_cmp xs × All (λ x. x < n) xs
 pub union_member : (a b r : ℕ) → is_among (members (bit_or a b)) r ≡ (is_among (members a) r || is_among (members b) r)
 union_member a b r =
     elim (cases_lt r RELAYS) [
-      inl lt ↦
-        (let all : is_among (members (bit_or a b)) r ≡ (bit_at (bit_or a b) r == 1) = among_those_is (λ r. bit_at (bit_or a b) r == 1) RELAYS r lt in
-         let here : is_among (members a) r ≡ (bit_at a r == 1) = among_those_is (λ r. bit_at a r == 1) RELAYS r lt in
-         let there : is_among (members b) r ≡ (bit_at b r == 1) = among_those_is (λ r. bit_at b r == 1) RELAYS r lt in
-         all ∙ ap (λ k. k == 1) (bit_at_or a b r) ∙ max_bit (bit_at a r) (bit_at b r) (bit_at-lt a r) (bit_at-lt b r) ∙ sym (ap (λ x. x || is_among (members b) r) here ∙ ap (λ x. (bit_at a r == 1) || x) there))
+      | inl lt ↦
+          (let all : is_among (members (bit_or a b)) r ≡ (bit_at (bit_or a b) r == 1) = among_those_is (λ r. bit_at (bit_or a b) r == 1) RELAYS r lt in
+          let here : is_among (members a) r ≡ (bit_at a r == 1) = among_those_is (λ r. bit_at a r == 1) RELAYS r lt in
+          let there : is_among (members b) r ≡ (bit_at b r == 1) = among_those_is (λ r. bit_at b r == 1) RELAYS r lt in
+          all ∙ ap (λ k. k == 1) (bit_at_or a b r) ∙ max_bit (bit_at a r) (bit_at b r) (bit_at-lt a r) (bit_at-lt b r) ∙ sym (ap (λ x. x || is_among (members b) r) here ∙ ap (λ x. (bit_at a r == 1) || x) there))
       | inr ge ↦
-        none_past (λ r. bit_at (bit_or a b) r == 1) RELAYS r ge
-        ∙ sym (ap (λ x. x || is_among (members b) r) (none_past (λ r. bit_at a r == 1) RELAYS r ge) ∙ none_past (λ r. bit_at b r == 1) RELAYS r ge)
+          none_past (λ r. bit_at (bit_or a b) r == 1) RELAYS r ge
+          ∙ sym (ap (λ x. x || is_among (members b) r) (none_past (λ r. bit_at a r == 1) RELAYS r ge) ∙ none_past (λ r. bit_at b r == 1) RELAYS r ge)
     ]
 
 -- one bit less is one member less
@@ -131,14 +131,14 @@ pub without_member : (bits k r : ℕ) → k < RELAYS → is_among (members (bit_
 without_member bits k r within =
     let less : ℕ = bit_and bits (bit_not w64 (1 * 2 ^ k % 2 ^ 64)) in
     elim (cases_lt r RELAYS) [
-      inl lt ↦
-        among_those_is (λ r. bit_at less r == 1) RELAYS r lt ∙
-        elim (cases_eq r k) [
-          inl e ↦ ap (λ i. bit_at less i == 1) e ∙ ap (λ b. b == 1) (bit_at_clear_same w64 bits k within) ∙ sym (and_right (is_among (members bits) r) (not (r == k)) (ap not (eq-eqb r k e)))
-          | inr ne ↦
-            ap (λ b. b == 1) (bit_at_clear_other w64 bits k within r lt ne) ∙ sym (among_those_is (λ r. bit_at bits r == 1) RELAYS r lt)
-            ∙ sym (ap (λ b. is_among (members bits) r && not b) (ne_eqb r k ne) ∙ and_true (is_among (members bits) r))
-        ]
+      | inl lt ↦
+          among_those_is (λ r. bit_at less r == 1) RELAYS r lt ∙
+          elim (cases_eq r k) [
+            | inl e ↦ ap (λ i. bit_at less i == 1) e ∙ ap (λ b. b == 1) (bit_at_clear_same w64 bits k within) ∙ sym (and_right (is_among (members bits) r) (not (r == k)) (ap not (eq-eqb r k e)))
+            | inr ne ↦
+                ap (λ b. b == 1) (bit_at_clear_other w64 bits k within r lt ne) ∙ sym (among_those_is (λ r. bit_at bits r == 1) RELAYS r lt)
+                ∙ sym (ap (λ b. is_among (members bits) r && not b) (ne_eqb r k ne) ∙ and_true (is_among (members bits) r))
+          ]
       | inr ge ↦ none_past (λ r. bit_at less r == 1) RELAYS r ge ∙ sym (and_left (is_among (members bits) r) (not (r == k)) (none_past (λ r. bit_at bits r == 1) RELAYS r ge))
     ]
 
@@ -146,7 +146,7 @@ without_member bits k r within =
 pub meet_iff : (a b : ℕ) → a < 2 ^ 64 → list_any (is_among (members b)) (members a) ≡ not (bit_and a b == 0)
 meet_iff a b small =
     elim (cases_Bool (list_any (is_among (members b)) (members a))) [
-      inl e ↦ e ∙ sym (meeting a b e)
+      | inl e ↦ e ∙ sym (meeting a b e)
       | inr e ↦ e ∙ sym (ap not (eq-eqb (bit_and a b) 0 (apart_bits a b small e)))
     ]
 
@@ -175,8 +175,8 @@ zero_of_none bits small e = sym (bits_of-members bits small) ∙ ap bits_of e
 pub without_none : (bits k r : ℕ) → RELAYS ≤ k → is_among (members bits) r ≡ (is_among (members bits) r && not (r == k))
 without_none bits k r past =
     elim (cases_lt r RELAYS) [
-      inl lt ↦ sym (ap (λ b. is_among (members bits) r && not b) (ne_eqb r k (λ e. absurd (omega arith))) ∙ and_true (is_among (members bits) r))
+      | inl lt ↦ sym (ap (λ b. is_among (members bits) r && not b) (ne_eqb r k (λ e. absurd (omega arith))) ∙ and_true (is_among (members bits) r))
       | inr ge ↦
-        (let none : is_among (members bits) r ≡ false = none_past (λ r. bit_at bits r == 1) RELAYS r ge in
-         none ∙ sym (and_left (is_among (members bits) r) (not (r == k)) none))
+          (let none : is_among (members bits) r ≡ false = none_past (λ r. bit_at bits r == 1) RELAYS r ge in
+          none ∙ sym (and_left (is_among (members bits) r) (not (r == k)) none))
     ]

@@ -45,7 +45,7 @@ module _ {X : Type 0} where
   beside_here [] k w none = ap (λ b. cond b (Some w) None) (id_itself k)
   beside_here (x ∷ xs) k w none =
       elim (cases_Bool (is_id k x.0)) [
-        inl t ↦ absurd (let e : Some x.1 ≡ None = sym (ap (λ b. cond b (Some x.1) (beside xs k)) t) ∙ none in cc)
+        | inl t ↦ absurd (let e : Some x.1 ≡ None = sym (ap (λ b. cond b (Some x.1) (beside xs k)) t) ∙ none in cc)
         | inr f ↦ ap (λ b. cond b (Some x.1) (beside (xs ++ (k, w) ∷ []) k)) f ∙ beside_here xs k w (sym (ap (λ b. cond b (Some x.1) (beside xs k)) f) ∙ none)
       ]
 
@@ -102,7 +102,7 @@ adding_none old = record {
   has = λ i. sym (or_false (is_some (beside old i)));
   long = omega arith;
   relays = λ h g. h;
-  some = λ h g. h
+  some = λ h g. h;
 }
 
 counted : (x y : Bool) → x ≡ y → cond {A = ℕ} x 0 1 ≡ cond (not y) 1 0
@@ -133,15 +133,15 @@ module _ (old done now new : List (Id × List ℕ)) (k : Id) (w both : List ℕ)
   member_step : (i : Id) (r : ℕ) → is_among (relays_of new i) r ≡ (is_among (relays_of old i) r || is_among (relays_of (done ++ (k, w) ∷ []) i) r)
   member_step i r =
       elim (cases_Bool (is_id k i)) [
-        inl t ↦ subst (λ j. is_among (relays_of new j) r ≡ (is_among (relays_of old j) r || is_among (relays_of (done ++ (k, w) ∷ []) j) r)) (same_id k i t) (at_key r)
+        | inl t ↦ subst (λ j. is_among (relays_of new j) r ≡ (is_among (relays_of old j) r || is_among (relays_of (done ++ (k, w) ∷ []) j) r)) (same_id k i t) (at_key r)
         | inr f ↦ elsewhere i r f
       ]
 
   has_step : (i : Id) → is_some (beside new i) ≡ (is_some (beside old i) || is_some (beside (done ++ (k, w) ∷ []) i))
   has_step i =
       elim (cases_Bool (is_id k i)) [
-        inl t ↦ subst (λ j. is_some (beside new j) ≡ (is_some (beside old j) || is_some (beside (done ++ (k, w) ∷ []) j))) (same_id k i t)
-          (ap is_some (updates k ∙ ap (λ b. cond b (Some both) (beside now k)) (id_itself k)) ∙ sym (or_right (is_some (beside old k)) (is_some (beside (done ++ (k, w) ∷ []) k)) (ap is_some (beside_here done k w fresh))))
+        | inl t ↦ subst (λ j. is_some (beside new j) ≡ (is_some (beside old j) || is_some (beside (done ++ (k, w) ∷ []) j))) (same_id k i t)
+            (ap is_some (updates k ∙ ap (λ b. cond b (Some both) (beside now k)) (id_itself k)) ∙ sym (or_right (is_some (beside old k)) (is_some (beside (done ++ (k, w) ∷ []) k)) (ap is_some (beside_here done k w fresh))))
         | inr f ↦ ap is_some (updates i ∙ ap (λ b. cond b (Some both) (beside now i)) f) ∙ a.has i ∙ sym (ap (λ o. is_some (beside old i) || is_some o) (beside_other done k w i (id_flips k i f)))
       ]
 
@@ -157,18 +157,23 @@ module _ (old done now new : List (Id × List ℕ)) (k : Id) (w both : List ℕ)
     has = has_step;
     long = omega (arith, longer, a.long, sum_by_push (λ (p : Id × List ℕ). cond (not (is_some (beside old p.0))) 1 0) done (k, w), counted (is_some (beside now k)) (is_some (beside old k)) now_old);
     relays = λ h g.
-      (let parts : All (λ p. AreRelays p.1) done × AreRelays w = all_parts AreRelays done (k, w) g in
-       subst (All (λ p. AreRelays p.1)) (sym entries) (All-inserted AreRelays now k both (a.relays h parts.0) (ordered' parts.1)));
+        (let parts : All (λ p. AreRelays p.1) done × AreRelays w = all_parts AreRelays done (k, w) g in
+        subst (All (λ p. AreRelays p.1)) (sym entries) (All-inserted AreRelays now k both (a.relays h parts.0) (ordered' parts.1)));
     some = λ h g.
-      (let parts : All (λ p. 0 < length p.1) done × (0 < length w) = all_parts (λ rs. 0 < length rs) done (k, w) g in
-       subst (All (λ p. 0 < length p.1)) (sym entries) (All-inserted (λ rs. 0 < length rs) now k both (a.some h parts.0) (more parts.1)))
+        (let parts : All (λ p. 0 < length p.1) done × (0 < length w) = all_parts (λ rs. 0 < length rs) done (k, w) g in
+        subst (All (λ p. 0 < length p.1)) (sym entries) (All-inserted (λ rs. 0 < length rs) now k both (a.some h parts.0) (more parts.1)));
   }
 
 pub new_in-same : (a b xs : List (Id × List ℕ)) → ((i : Id) → is_some (beside a i) ≡ is_some (beside b i)) → new_in a xs ≡ new_in b xs
 new_in-same a b [] h = refl
 new_in-same a b (x ∷ xs) h =
-    omega (arith, new_in-same a b xs h, sum_by-cons (λ (p : Id × List ℕ). cond (not (is_some (beside a p.0))) 1 0) x xs, sum_by-cons (λ (p : Id × List ℕ). cond (not (is_some (beside b p.0))) 1 0) x xs,
-      ap {B = ℕ} (λ t. cond (not t) 1 0) (h x.0))
+    omega (
+      arith,
+      new_in-same a b xs h,
+      sum_by-cons (λ (p : Id × List ℕ). cond (not (is_some (beside a p.0))) 1 0) x xs,
+      sum_by-cons (λ (p : Id × List ℕ). cond (not (is_some (beside b p.0))) 1 0) x xs,
+      ap {B = ℕ} (λ t. cond (not t) 1 0) (h x.0),
+    )
 
 pub new_in-none : (xs : List (Id × List ℕ)) → new_in [] xs ≡ length xs
 new_in-none [] = refl
@@ -189,10 +194,10 @@ and_true false = refl
 pub strike_none : (xs : List (Id × List ℕ)) (k : Id) (q : ℕ) → is_among (relays_of xs k) q ≡ false → (i : Id) (r : ℕ) → is_among (relays_of xs i) r ≡ (is_among (relays_of xs i) r && not (is_id k i && (r == q)))
 strike_none xs k q none i r =
     elim (cases_Bool (is_id k i && (r == q))) [
-      inl t ↦
-        (let parts : (is_id k i ≡ true) × ((r == q) ≡ true) = and_parts (is_id k i) (r == q) t in
-         let gone : is_among (relays_of xs i) r ≡ false = ap (λ j. is_among (relays_of xs j) r) (sym (same_id k i parts.0)) ∙ ap (is_among (relays_of xs k)) (eqb-true r q parts.1) ∙ none in
-         gone ∙ sym (and_left (is_among (relays_of xs i) r) (not (is_id k i && (r == q))) gone))
+      | inl t ↦
+          (let parts : (is_id k i ≡ true) × ((r == q) ≡ true) = and_parts (is_id k i) (r == q) t in
+          let gone : is_among (relays_of xs i) r ≡ false = ap (λ j. is_among (relays_of xs j) r) (sym (same_id k i parts.0)) ∙ ap (is_among (relays_of xs k)) (eqb-true r q parts.1) ∙ none in
+          gone ∙ sym (and_left (is_among (relays_of xs i) r) (not (is_id k i && (r == q))) gone))
       | inr f ↦ sym (ap (λ b. is_among (relays_of xs i) r && not b) f ∙ and_true (is_among (relays_of xs i) r))
     ]
 
@@ -201,13 +206,13 @@ pub strike_step : (xs ys : List (Id × List ℕ)) (k : Id) (q : ℕ) (v : Option
     (i : Id) (r : ℕ) → is_among (relays_of ys i) r ≡ (is_among (relays_of xs i) r && not (is_id k i && (r == q)))
 strike_step xs ys k q v updates left i r =
     elim (cases_Bool (is_id k i)) [
-      inl t ↦
-        ap (λ o. is_among (unwrap_or o []) r) (updates i ∙ ap (λ b. cond b v (beside xs i)) t) ∙ left r
-        ∙ ap (λ j. is_among (relays_of xs j) r && not (r == q)) (same_id k i t)
-        ∙ sym (ap (λ b. is_among (relays_of xs i) r && not (b && (r == q))) t)
+      | inl t ↦
+          ap (λ o. is_among (unwrap_or o []) r) (updates i ∙ ap (λ b. cond b v (beside xs i)) t) ∙ left r
+          ∙ ap (λ j. is_among (relays_of xs j) r && not (r == q)) (same_id k i t)
+          ∙ sym (ap (λ b. is_among (relays_of xs i) r && not (b && (r == q))) t)
       | inr f ↦
-        ap (λ o. is_among (unwrap_or o []) r) (updates i ∙ ap (λ b. cond b v (beside xs i)) f)
-        ∙ sym (ap (λ b. is_among (relays_of xs i) r && not (b && (r == q))) f ∙ and_true (is_among (relays_of xs i) r))
+          ap (λ o. is_among (unwrap_or o []) r) (updates i ∙ ap (λ b. cond b v (beside xs i)) f)
+          ∙ sym (ap (λ b. is_among (relays_of xs i) r && not (b && (r == q))) f ∙ and_true (is_among (relays_of xs i) r))
     ]
 
 is_there : (o : Option (List ℕ)) (r : ℕ) → is_among (unwrap_or o []) r ≡ true → is_some o ≡ true
@@ -222,7 +227,7 @@ pub All-removed : {X : Type 0} (P : X → Type 0) (test : Id → Bool) (es : Lis
 All-removed P test [] h = h
 All-removed P test (e ∷ es) h =
     elim (cases_Bool (test e.0)) [
-      inl t ↦ subst (λ b. All (λ e. P e.1) (cond b es (e ∷ remove_entry test es))) (sym t) (All-tail (λ e. P e.1) e es h)
+      | inl t ↦ subst (λ b. All (λ e. P e.1) (cond b es (e ∷ remove_entry test es))) (sym t) (All-tail (λ e. P e.1) e es h)
       | inr f ↦ subst (λ b. All (λ e. P e.1) (cond b es (e ∷ remove_entry test es))) (sym f) (All-cons (λ e. P e.1) e (remove_entry test es) (All-head (λ e. P e.1) e es h) (All-removed P test es (All-tail (λ e. P e.1) e es h)))
     ]
 
@@ -278,5 +283,5 @@ none_sorted c = tt
 pub none_ok : (reported : List ℕ) → IsTable (record { reported = reported; offers = [] })
 none_ok reported = record {
   offers_ok = record { ascend = none_sorted id_cmp; relays = All-nil (λ (p : Id × List ℕ). AreRelays p.1); some = All-nil (λ (p : Id × List ℕ). 0 < length p.1) };
-  few = omega arith
+  few = omega arith;
 }

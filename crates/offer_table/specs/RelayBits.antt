@@ -34,11 +34,11 @@ among_those p zero r h = absurd (false≢true h)
 among_those p (suc n) r h =
     let both : (is_among (those p n) r || is_among (if_passes (p n) n) r) ≡ true = sym (among-append (those p n) (if_passes (p n) n) r) ∙ h in
     elim (or_cases _ _ both) [
-      inl e ↦ (let k : (r < n) × (p r ≡ true) = among_those p n r e in (omega arith, k.1))
+      | inl e ↦ (let k : (r < n) × (p r ≡ true) = among_those p n r e in (omega arith, k.1))
       | inr e ↦
-        (let parts : (p n ≡ true) × ((r == n) ≡ true) = and_parts (p n) (r == n) (sym (among_last (p n) n r) ∙ e) in
-         let same : r ≡ n = eqb-true r n parts.1 in
-         (omega arith, ap p same ∙ parts.0))
+          (let parts : (p n ≡ true) × ((r == n) ≡ true) = and_parts (p n) (r == n) (sym (among_last (p n) n r) ∙ e) in
+          let same : r ≡ n = eqb-true r n parts.1 in
+          (omega arith, ap p same ∙ parts.0))
     ]
 
 -- and each number below n that passes is a member
@@ -48,7 +48,7 @@ those_among p zero r lt h = absurd (omega arith)
 those_among p (suc n) r lt h =
     among-append (those p n) (if_passes (p n) n) r ∙
     elim (cases_eq r n) [
-      inl e ↦ or_right _ _ (among_last (p n) n r ∙ and_from (p n) (r == n) (ap p (sym e) ∙ h) (eq-eqb r n e))
+      | inl e ↦ or_right _ _ (among_last (p n) n r ∙ and_from (p n) (r == n) (ap p (sym e) ∙ h) (eq-eqb r n e))
       | inr e ↦ or_left _ _ (those_among p n r (omega arith) h)
     ]
 
@@ -61,7 +61,7 @@ those-same p q (suc n) h = ap (λ xs. xs ++ if_passes (p n) n) (those-same p q n
 bit_sum : (b n : ℕ) → b < 2 → sum_by (λ r. 2 ^ r) (if_passes (b == 1) n) ≡ b * 2 ^ n
 bit_sum b n lt =
     elim (cases_eq b 1) [
-      inl e ↦ ap (λ t. sum_by (λ r. 2 ^ r) (if_passes t n)) (eq-eqb b 1 e) ∙ (let one : sum_by (λ r. 2 ^ r) (if_passes true n) ≡ 1 * 2 ^ n = omega arith in one ∙ ap (λ t. t * 2 ^ n) (sym e))
+      | inl e ↦ ap (λ t. sum_by (λ r. 2 ^ r) (if_passes t n)) (eq-eqb b 1 e) ∙ (let one : sum_by (λ r. 2 ^ r) (if_passes true n) ≡ 1 * 2 ^ n = omega arith in one ∙ ap (λ t. t * 2 ^ n) (sym e))
       | inr e ↦ ap (λ t. sum_by (λ r. 2 ^ r) (if_passes t n)) (ne_eqb b 1 e) ∙ (let z : b ≡ 0 = omega arith in (let none : sum_by (λ r. 2 ^ r) (if_passes false n) ≡ 0 * 2 ^ n = omega arith in none ∙ ap (λ t. t * 2 ^ n) (sym z)))
     ]
 

@@ -36,9 +36,7 @@ impl RelaySet {
     pub fn empty() -> RelaySet
         ensures { result ≡ [] }
     {
-        RelaySet {
-            bits: 0,
-        }
+        RelaySet { bits: 0 }
     }
 
     /// Whether this relay is a member. False for a number that is no relay.

@@ -55,9 +55,18 @@ fn two_reports_are_put_together(rt: HostRuntime) -> Result<(), Fail> {
     let both = merged(a, b)?;
     let listed = both.ids().copied().collect::<Vec<Id>>(rt.alloc())?;
     assert!(rt; listed.as_slice() == [numbered(1), numbered(2), numbered(3)].as_slice());
-    for (number, first, last) in [(1, true, false), (2, true, true), (3, false, true), (4, false, false)] {
+    for (number, first, last) in [
+        (1, true, false),
+        (2, true, true),
+        (3, false, true),
+        (4, false, false),
+    ] {
         let relays = both.offers(&numbered(number));
-        assert_eq!(rt; (relays.has(0), relays.has(63)), (first, last), "at {number}");
+        assert_eq!(rt;
+            (relays.has(0), relays.has(63)),
+            (first, last),
+            "at {number}"
+        );
         assert!(rt; !relays.has(1) && !relays.has(64), "no other at {number}");
     }
     assert!(rt; both.reported().has(0) && both.reported().has(63) && !both.reported().has(1));

@@ -141,5 +141,4 @@ pub fn one_holder()
 /// was placed before.
 pub fn finished_once()
     ensures { (lanes : List ℕ) (fixed : Planned) (before after : History) (w i : ℕ) → legal_after lanes fixed [] (before ++ (RoundEvent.Finish w i, Answer.Finished) ∷ after) → (has_finished before i ≡ false) × IsTrue (is_placed before (slice_index_or fixed.gives i no_give).0) }
-{
-}
+{}

@@ -21,13 +21,13 @@ loop-id-preserved c =
     let start = c.into_iter-id-iterator.ensures.into_iter_gives in
     let found : option_copied c.get.result ≡ beside now k = c.get.ensures.value in
     let members : (r : ℕ) → is_among c.match-get.both r ≡ (is_among (relays_of now k) r || is_among w r) = λ r. elim c.match-get.branch [
-      in-Some-get s ↦ ap (λ b. is_among b r) s.both-is ∙ s.union-both.ensures.member r ∙ sym (ap (λ xs. is_among xs r || is_among w r) (relays_found now k s.in-Some-get.others.now (sym (ap option_copied s.in-Some-get.is) ∙ found)))
+      | in-Some-get s ↦ ap (λ b. is_among b r) s.both-is ∙ s.union-both.ensures.member r ∙ sym (ap (λ xs. is_among xs r || is_among w r) (relays_found now k s.in-Some-get.others.now (sym (ap option_copied s.in-Some-get.is) ∙ found)))
       | in-None-get s ↦ ap (λ b. is_among b r) s.both-is ∙ sym (ap (λ xs. is_among xs r || is_among w r) (relays_none now k (sym (ap option_copied s.in-None-get.is) ∙ found)))
     ] in
     let ordered : Ascend (map (λ p. p.0) (map deref_pair c.loop-id.yielded ++ (k, w) ∷ c.next.new.self)) = subst (λ es. Ascend (map (λ p. p.0) es)) (sym start.0 ∙ gone ∙ ap (λ us. map deref_pair c.loop-id.yielded ++ us) turn) start.5 in
     let len : length c.insert.new.self.entries ≡ length now + cond (is_some (beside now k)) 0 1 = c.in_ok-insert.ensures.len ∙ ap (λ o. length now + cond (is_some o) 0 1) c.in_ok-insert.ensures.old in
     let relays : AreRelays w → AreRelays c.match-get.both = elim c.match-get.branch [
-      in-Some-get s ↦ (λ h. subst AreRelays (sym s.both-is) s.union-both.ensures.relays)
+      | in-Some-get s ↦ (λ h. subst AreRelays (sym s.both-is) s.union-both.ensures.relays)
       | in-None-get s ↦ (λ h. subst AreRelays (sym s.both-is) h)
     ] in
     rw (map-append) (adding_step _ _ _ _ k w c.match-get.both c.next.new.self c.loop-id.invariant ordered members c.in_ok-insert.ensures.updates.0 len c.in_ok-insert.ensures.entries relays)

@@ -6,5 +6,5 @@ use Rattle.offer_table.proofs.table.count_new.Given as goal
 abbrev pub invariant-loop-id : goal.invariant-loop-id
 invariant-loop-id l = record {
   counted : l.count ≡ new_in l.mine.entries (map deref_pair l.yielded);
-  small : l.count ≤ length l.yielded
+  small : l.count ≤ length l.yielded;
 }

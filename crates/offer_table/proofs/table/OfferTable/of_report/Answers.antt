@@ -32,9 +32,9 @@ whole relays relay ids offers ordered one ascend few e =
       offers_ok = record {
         ascend = subst Ascend (sym (ids-each_with relays ids)) ascend;
         relays = All-each_with AreRelays relays ids ordered;
-        some = All-each_with (λ rs. 0 < length rs) relays ids (omega (arith, ap length one))
+        some = All-each_with (λ rs. 0 < length rs) relays ids (omega (arith, ap length one));
       };
-      few = omega (arith, length-each_with relays ids)
+      few = omega (arith, length-each_with relays ids);
     })
 
 only : (c : goal.In-None) → c.with-relays.result ≡ c.args.relay ∷ []
@@ -50,7 +50,7 @@ pub invariant_of-result : goal.invariant_of-result
 invariant_of-result c =
     let start = c.into_iter-id-iterator.ensures.into_iter_gives in
     whole c.with-relays.result c.args.relay c.args.need.now.keys c.loop-id.offers.entries c.with-relays.ensures.relays (only c)
-      start.4 (omega (arith, c.if-len-gt-MOST_IDS.false, c.len.ensures.len)) (all c)
+    start.4 (omega (arith, c.if-len-gt-MOST_IDS.false, c.len.ensures.len)) (all c)
 
 pub returns-clause-reported : goal.returns-clause-reported
 returns-clause-reported c = only c

@@ -15,16 +15,16 @@ use Rattle.offer_table.proofs.table.OfferTable.strike.Goals as goal
 pub returns-then-not-has-clause-offers : goal.returns-then-not-has-clause-offers
 returns-then-not-has-clause-offers c i r =
     strike_none c.args.self.now.offers c.args.id.now c.args.relay
-      (ap (λ rs. is_among rs c.args.relay) (sym c.offers-relays.ensures.value) ∙ sym c.has.ensures.value ∙ c.if-not-has.true) i r
+    (ap (λ rs. is_among rs c.args.relay) (sym c.offers-relays.ensures.value) ∙ sym c.has.ensures.value ∙ c.if-not-has.true) i r
 
 removed : (reported : List ℕ) (old new : List (Id × List ℕ)) (test : Id → Bool) → IsOffers old → length old ≤ MOST_IDS → new ≡ remove_entry test old → Ascend (map (λ p. p.0) new) → length new ≤ length old → IsTable (record { reported = reported; offers = new })
 removed reported old new test ok few e ascend shorter = record {
   offers_ok = record {
     ascend = ascend;
     relays = subst (All (λ p. AreRelays p.1)) (sym e) (All-removed AreRelays test old ok.relays);
-    some = subst (All (λ p. 0 < length p.1)) (sym e) (All-removed (λ rs. 0 < length rs) test old ok.some)
+    some = subst (All (λ p. 0 < length p.1)) (sym e) (All-removed (λ rs. 0 < length rs) test old ok.some);
   };
-  few = omega arith
+  few = omega arith;
 }
 
 put_back : (reported : List ℕ) (old new : List (Id × List ℕ)) (k : Id) (rest : List ℕ) → IsOffers old → length old ≤ MOST_IDS → new ≡ insert_entry id_cmp old k rest → Ascend (map (λ p. p.0) new) → length new ≡ length old → AreRelays rest → 0 < length rest → IsTable (record { reported = reported; offers = new })
@@ -32,9 +32,9 @@ put_back reported old new k rest ok few e ascend same relays some = record {
   offers_ok = record {
     ascend = ascend;
     relays = subst (All (λ p. AreRelays p.1)) (sym e) (All-inserted AreRelays old k rest ok.relays relays);
-    some = subst (All (λ p. 0 < length p.1)) (sym e) (All-inserted (λ rs. 0 < length rs) old k rest ok.some some)
+    some = subst (All (λ p. 0 < length p.1)) (sym e) (All-inserted (λ rs. 0 < length rs) old k rest ok.some some);
   };
-  few = omega arith
+  few = omega arith;
 }
 
 pub invariant_of-self : goal.invariant_of-self
@@ -57,8 +57,8 @@ invariant_of-self-in_ok-insert c =
     let is : is_some (beside old k) ≡ true = there c.args.self.now (record { reported = c.self.inside.reported; offers = old }) k c.args.relay c.has.result c.offers-relays.result c.self.view_is c.has.ensures.value c.offers-relays.ensures.value c.if-not-has.false in
     let some : c.without-rest.result ≡ [] → ⊥ = λ e. absurd (false≢true (sym c.if-is_empty.false ∙ c.is_empty.ensures.1 e)) in
     put_back c.self.inside.reported old c.insert.new.self.entries k c.without-rest.result c.self.invariant.offers_ok c.self.invariant.few n.entries n.ordered
-      (no_longer (length old) (length c.insert.new.self.entries) (is_some c.in_ok-insert.field-0) (ap is_some n.old ∙ is) n.len)
-      c.without-rest.ensures.relays (some_left c.without-rest.result some)
+    (no_longer (length old) (length c.insert.new.self.entries) (is_some c.in_ok-insert.field-0) (ap is_some n.old ∙ is) n.len)
+    c.without-rest.ensures.relays (some_left c.without-rest.result some)
 
 pub returns-then-is_empty-clause-table : goal.returns-then-is_empty-clause-table
 returns-then-is_empty-clause-table c = invariant_of-self c
@@ -69,7 +69,7 @@ returns-then-is_empty-clause-offers c i r =
     let was : c.offers-relays.result ≡ relays_of c.self.inside.offers.entries k = c.offers-relays.ensures.value ∙ ap (λ (t : Table). relays_of t.offers k) (sym c.self.view_is) in
     let gone : c.without-rest.result ≡ [] = c.is_empty.ensures.0 c.if-is_empty.true in
     strike_step c.self.inside.offers.entries c.remove.new.self.entries k c.args.relay None c.remove.ensures.updates.0
-      (λ q. ap (λ rs. is_among rs q) (sym gone) ∙ c.without-rest.ensures.member q ∙ ap (λ rs. is_among rs q && not (q == c.args.relay)) was) i r
+    (λ q. ap (λ rs. is_among rs q) (sym gone) ∙ c.without-rest.ensures.member q ∙ ap (λ rs. is_among rs q && not (q == c.args.relay)) was) i r
     ∙ ap (λ (t : Table). is_among (relays_of t.offers i) r && not (is_id k i && (r == c.args.relay))) c.self.view_is
 
 pub returns-in_ok-insert-clause-offers : goal.returns-in_ok-insert-clause-offers
@@ -77,7 +77,7 @@ returns-in_ok-insert-clause-offers c i r =
     let k : Id = c.args.id.now in
     let was : c.offers-relays.result ≡ relays_of c.self.inside.offers.entries k = c.offers-relays.ensures.value ∙ ap (λ (t : Table). relays_of t.offers k) (sym c.self.view_is) in
     strike_step c.self.inside.offers.entries c.insert.new.self.entries k c.args.relay (Some c.without-rest.result) c.in_ok-insert.ensures.updates.0
-      (λ q. c.without-rest.ensures.member q ∙ ap (λ rs. is_among rs q && not (q == c.args.relay)) was) i r
+    (λ q. c.without-rest.ensures.member q ∙ ap (λ rs. is_among rs q && not (q == c.args.relay)) was) i r
     ∙ ap (λ (t : Table). is_among (relays_of t.offers i) r && not (is_id k i && (r == c.args.relay))) c.self.view_is
 
 pub returns-in_ok-insert-clause-table : goal.returns-in_ok-insert-clause-table
