@@ -31,16 +31,17 @@ fn parse_time(text: &[u8]) -> Option<u64>
     Some(value)
 }
 
-/// The value of a lower-case hex digit.
+/// The value of a lower-case hex digit. There is one branch, for what is no digit.
 fn hex_digit(byte: u8) -> Option<u8>
     ensures found { IfSome result (λ d. (d < 16) × (byte ≡ slice_index lower_digits d)) }
     ensures none { IfNone result ((d : ℕ) → d < 16 → byte ≢ slice_index lower_digits d) }
 {
-    match byte {
-        b'0'..=b'9' => Some(byte - b'0'),
-        b'a'..=b'f' => Some(byte - b'a' + 10),
-        _ => None,
+    let number = byte.wrapping_sub(b'0');
+    let letter = byte.wrapping_sub(b'a');
+    if !(number < 10 || letter < 6) {
+        return None;
     }
+    Some(if number < 10 { number } else { letter + 10 })
 }
 
 /// The id of a text of 64 lower-case hex digits.
