@@ -19,25 +19,7 @@ import sys
 import tempfile
 import time
 
-
-class Refused(Exception):
-    """A program ended with another status than 0."""
-
-
-def ended(child, words, start):
-    """Wall time, processor time and peak memory in KiB of a program that is to end."""
-    _, status, usage = os.wait4(child.pid, 0)
-    wall = time.perf_counter() - start
-    child.returncode = os.waitstatus_to_exitcode(status)
-    if child.returncode != 0:
-        raise Refused("%s: status %d" % (os.path.basename(words[0]), child.returncode))
-    return wall, usage.ru_utime + usage.ru_stime, usage.ru_maxrss
-
-
-def once(words, source, target):
-    with open(source, "rb") as stdin, open(target, "wb") as stdout:
-        start = time.perf_counter()
-        return ended(subprocess.Popen(words, stdin=stdin, stdout=stdout), words, start)
+from measure import ended, numbers, once
 
 
 def served(baseline, folder, source, target):
@@ -60,10 +42,6 @@ def served(baseline, folder, source, target):
 def lines(path):
     with open(path, "rb") as text:
         return sorted(text)
-
-
-def numbers(text):
-    return [int(word) for word in text.split(",")]
 
 
 def main():
