@@ -21,3 +21,5 @@ pub use writing::write_plan;
 
 #[cfg(test)]
 mod tests;
+#[cfg(test)]
+mod text_tests;
