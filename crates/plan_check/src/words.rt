@@ -5,6 +5,7 @@ ghost use Rattle.hex.specs.Hex.{encode_lower};
 ghost use Rattle.neg_codec.specs.declared.Id.{Id as AnId};
 ghost use Rattle.neg_codec.specs.Keys.{IsId};
 ghost use Rattle.sharing.specs.declared.TheConstants.{RELAYS};
+ghost use Rattle.plan_check.specs.TextLines.{FirstIsNot};
 ghost use Rattle.plan_check.specs.PlanText.{relay_text, relays_text};
 ghost use Rattle.plan_check.specs.PlanParts.{IsNextWord, AreRelaysText};
 
@@ -77,13 +78,13 @@ fn parse_relay(word: &[u8]) -> Option<u16>
     Some(relay)
 }
 
-/// The text before the first space, and the text from there.
-fn cut_word(text: &[u8]) -> (&[u8], &[u8])
+/// The text before the first byte like this, and the text from there.
+pub(crate) fn cut_before(text: &[u8], end: u8) -> (&[u8], &[u8])
     ensures parts { text.now ≡ result.0.now ++ result.1.now }
-    ensures word { All (λ b. b ≢ 32) result.0.now }
-    ensures rest { IsNextWord result.1.now }
+    ensures before { All (λ b. b ≢ end) result.0.now }
+    ensures rest { FirstIsNot (λ b. b ≢ end) result.1.now }
 {
-    match text.iter().position(|byte| *byte == b' ') {
+    match text.iter().position(|byte| *byte == end) {
         Some(at) => text.split_at(at),
         None => text.split_at(text.len()),
     }
@@ -97,7 +98,7 @@ pub(crate) fn cut_relay(text: &[u8]) -> Option<(u16, &[u8])>
     ensures none { IfNone result ((r : ℕ) (rest : List ℕ) → r < RELAYS → IsNextWord rest → text.now ≢ relay_text r ++ rest) }
 {
     let behind = skip_word(text, b" ")?;
-    let (word, rest) = cut_word(behind);
+    let (word, rest) = cut_before(behind, b' ');
     let relay = parse_relay(word)?;
     Some((relay, rest))
 }
