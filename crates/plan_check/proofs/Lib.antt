@@ -6,3 +6,5 @@ pub mod Spans
 pub mod LineLemmas
 pub mod RelayLemmas
 pub mod IdLemmas
+pub mod KindLemmas
+pub mod FormLemmas

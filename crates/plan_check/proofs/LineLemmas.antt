@@ -1,5 +1,5 @@
 -- The first line of a text.
-use Rattle.std.proofs.Common.{◌≡◌, ◌≢◌, ℕ, ◌<◌, ◌+◌, ◌==◌, Bool, true, false, List, [], ◌∷◌, ◌++◌, length, refl, ap, sym, subst, arith, get_or, length-append, drop, inl, inr, ◌∙◌}
+use Rattle.std.proofs.Common.{◌≡◌, ◌≢◌, ℕ, ◌<◌, ◌+◌, ◌==◌, Bool, true, false, List, [], ◌∷◌, ◌++◌, length, refl, ap, sym, subst, arith, get_or, length-append, drop, inl, inr, ◌∙◌, if◌then◌else◌}
 use Rattle.std.proofs.Math.Seq.{get_or-append_seam}
 use Rattle.std.proofs.lemmas.List.{append-nil, append_cancel_right}
 use Rattle.std.specs.List.{All}
@@ -50,3 +50,20 @@ one_comes text line (x ∷ xs) after e some h feed d = elim (cases_eq x 10) [
 -- lines that are the same with their line feeds are the same
 pub same_words : (a b : List ℕ) → ended a ≡ ended b → a ≡ b
 same_words a b e = append_cancel_right a b (10 ∷ []) e
+
+onto_some : (b : ℕ) (lines : List (List ℕ)) → onto_line b lines ≡ [] → ⊥
+onto_some b [] e = cc
+onto_some b (l ∷ ls) e = cc
+
+first_some : (feed : Bool) (b : ℕ) (bs : List ℕ) → (if feed then (10 ∷ []) ∷ lines_of bs else onto_line b (lines_of bs)) ≡ [] → ⊥
+first_some true b bs e = cc
+first_some false b bs e = onto_some b (lines_of bs) e
+
+-- only the empty text has no line
+pub some_lines : (text : List ℕ) → 0 < length text → lines_of text ≡ [] → ⊥
+some_lines [] some e = absurd (omega arith)
+some_lines (b ∷ bs) some e = first_some (b == 10) b bs e
+
+pub no_lines : (text : List ℕ) → length text ≡ 0 → lines_of text ≡ []
+no_lines [] none = refl
+no_lines (b ∷ bs) none = absurd (omega arith)
