@@ -44,11 +44,11 @@ gives_kind : (gs : List (Id × ℕ)) → All IsGive gs → All IsGiveLine (map g
 gives_kind gs h = All-map IsGiveLine given gs (All-weaker IsGive (λ g. IsGiveLine (given g)) (λ g is. (g, is, refl)) gs h)
 
 -- after the offers comes no offer
-behind_offers : (gs : List (Id × ℕ)) (group : List ℕ) (after : List (List ℕ)) → All IsGive gs → All (λ r. r < RELAYS) group → FirstIsNot IsOfferLine (map given gs ++ grouped group ∷ after)
+pub behind_offers : (gs : List (Id × ℕ)) (group : List ℕ) (after : List (List ℕ)) → All IsGive gs → All (λ r. r < RELAYS) group → FirstIsNot IsOfferLine (map given gs ++ grouped group ∷ after)
 behind_offers [] group after gives small = λ o. offer_not_group (grouped group) o (group, small, refl)
 behind_offers (g ∷ gs) group after gives small = λ o. offer_not_give (given g) o (g, All-head IsGive g gs gives, refl)
 
-behind_gives : (group : List ℕ) → All (λ r. r < RELAYS) group → ¬ IsGiveLine (grouped group)
+pub behind_gives : (group : List ℕ) → All (λ r. r < RELAYS) group → ¬ IsGiveLine (grouped group)
 behind_gives group small = λ g. give_not_group (grouped group) g (group, small, refl)
 
 -- ---- the parts of the lines of a plan text

@@ -8,3 +8,7 @@ pub mod RelayLemmas
 pub mod IdLemmas
 pub mod KindLemmas
 pub mod FormLemmas
+pub mod InOrder
+pub mod TextLemmas
+pub mod OneText
+pub mod ReadLemmas

@@ -16,7 +16,7 @@ use Rattle.plan_check.proofs.Spans.{peel}
 abbrev pub NoSpace : ℕ → Type 0
 NoSpace b = b ≢ 32
 
-own : IsNumeralModel (AllDigits 10) (digits_value 10)
+pub own : IsNumeralModel (AllDigits 10) (digits_value 10)
 own = numerals_by_value _ tells_digits
 
 pub relay_small : (n : ℕ) → n < RELAYS → n < 2 ^ 64
