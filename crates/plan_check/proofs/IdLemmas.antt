@@ -1,5 +1,5 @@
 -- The digits of an id.
-use Rattle.std.proofs.Common.{◌≡◌, ℕ, ◌+◌, ◌≤◌, ◌<◌, List, ◌++◌, length, take, drop, Ok, refl, ap, sym, ◌∙◌, arith, length-append, take_at, inl, inr}
+use Rattle.std.proofs.Common.{◌≡◌, ℕ, ◌≤◌, List, ◌++◌, length, take, drop, Ok, refl, ap, sym, ◌∙◌, arith, length-append, take_at, inl, inr}
 use Rattle.std.proofs.lemmas.Bool.{cases_lt}
 use Rattle.std.proofs.lemmas.List.{get_or_past, drop_at}
 use Rattle.hex.specs.Hex.{encode_lower, lower_digits, IsBytes, decode_of}

@@ -1,20 +1,19 @@
 -- A plan file has no fault.
-use Rattle.std.proofs.Common.{◌≡◌, ℕ, ◌+◌, ◌<◌, ◌&&◌, ◌||◌, not, Bool, true, false, cond, List, [], ◌∷◌, length, map, get_or, Option, Some, None, refl, sym, ap, ◌∙◌, arith}
+use Rattle.std.proofs.Common.{◌≡◌, ℕ, ◌+◌, ◌<◌, ◌&&◌, ◌||◌, not, Bool, true, false, cond, List, [], ◌∷◌, length, map, get_or, Option, Some, None, refl, ap, ◌∙◌, arith}
 use Rattle.std.specs.Prelude.{nat_lt}
 use Rattle.std.specs.declared.cmp.Ordering.{Ordering}
 use Rattle.std.specs.declared.cmp.Ordering.TheVariants.{Less}
 use Rattle.std.specs.Ordering.{nat_cmp, is_lt}
 use Rattle.std.specs.List.{All}
-use Rattle.std.specs.List.Sorted.{IsStrictlySortedBy}
 use Rattle.std.proofs.lemmas.Bool.{lt-ltb}
-use Rattle.std.proofs.lemmas.List.Elements.{All-head, All-tail, All-nil, All-cons}
+use Rattle.std.proofs.lemmas.List.Elements.{All-head, All-tail}
 use Rattle.neg_codec.specs.declared.Id.{Id}
 use Rattle.sharing.specs.declared.TheConstants.{RELAYS}
 use Rattle.sharing.specs.Offers.{id_cmp}
 use Rattle.sharing.proofs.Orders.{head_sorted, tail_sorted}
 use Rattle.plan_check.specs.File.{File, IsFile}
 use Rattle.plan_check.specs.Lines.{first_at, first_out, is_behind, rises_from, rises, or_else, are_relays, is_empty, malformed_at, misplaced_at}
-use Rattle.plan_check.specs.PlanText.{IsOffer, IsGive, IsOfForm}
+use Rattle.plan_check.specs.PlanText.{IsOffer, IsOfForm}
 use Rattle.plan_check.proofs.Files.{Behind}
 
 both_true : (a b : Bool) → a ≡ true → b ≡ true → (a && b) ≡ true

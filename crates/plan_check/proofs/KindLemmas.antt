@@ -1,10 +1,10 @@
 -- Which lines a text goes on with.
-use Rattle.std.proofs.Common.{◌≡◌, ◌≢◌, ℕ, ◌<◌, List, [], ◌∷◌, ◌++◌, map, refl, ap, sym, ◌∙◌, subst, append_assoc}
+use Rattle.std.proofs.Common.{◌≡◌, ◌≢◌, ℕ, ◌<◌, List, [], ◌∷◌, ◌++◌, map, ap, sym, ◌∙◌, subst, append_assoc}
 use Rattle.std.specs.List.{All}
 use Rattle.std.proofs.lemmas.List.{map-append}
 use Rattle.neg_codec.specs.declared.Id.{Id}
 use Rattle.sharing.specs.declared.TheConstants.{RELAYS}
-use Rattle.plan_check.specs.TextLines.{lines_of, ended, IsEnded, FirstIsNot}
+use Rattle.plan_check.specs.TextLines.{ended, IsEnded, FirstIsNot}
 use Rattle.plan_check.specs.PlanText.{offer_line, give_line, group_line, IsOffer, IsGive}
 use Rattle.plan_check.specs.PlanParts.{IsOfferLine, IsGiveLine, IsGroupLine}
 use Rattle.plan_check.proofs.LineLemmas.{same_words}

@@ -12,3 +12,4 @@ pub mod InOrder
 pub mod TextLemmas
 pub mod OneText
 pub mod ReadLemmas
+pub mod WriteLemmas

@@ -1,5 +1,5 @@
 -- A text is that of one file.
-use Rattle.std.proofs.Common.{◌≡◌, ◌≢◌, ℕ, ◌+◌, ◌<◌, List, [], ◌∷◌, ◌++◌, length, map, refl, ap, sym, ◌∙◌, decimal}
+use Rattle.std.proofs.Common.{◌≡◌, ℕ, ◌<◌, List, [], ◌∷◌, ◌++◌, map, refl, ap, sym, ◌∙◌, decimal}
 use Rattle.std.specs.List.{All}
 use Rattle.std.proofs.lemmas.List.Elements.{All-head, All-tail}
 use Rattle.std.proofs.lemmas.Fmt.{decimal_injective}
@@ -7,7 +7,6 @@ use Rattle.hex.specs.Hex.{encode_lower}
 use Rattle.neg_codec.specs.declared.Id.{Id}
 use Rattle.sharing.specs.declared.TheConstants.{RELAYS}
 use Rattle.plan_check.specs.File.{File}
-use Rattle.plan_check.specs.TextLines.{lines_of, ended}
 use Rattle.plan_check.specs.PlanText.{relay_text, relays_text, offer_line, give_line, group_line, plan_lines, plan_text, IsOffer, IsGive, IsOfForm}
 use Rattle.plan_check.specs.PlanReading.{OneFile}
 use Rattle.plan_check.proofs.IdLemmas.{same_id, after_id}

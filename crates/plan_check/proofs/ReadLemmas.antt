@@ -1,14 +1,14 @@
 -- What a text is read as.
-use Rattle.std.proofs.Common.{◌≡◌, ◌≢◌, ℕ, ◌+◌, ◌<◌, ◌≤◌, ◌⊎◌, inl, inr, List, [], ◌∷◌, ◌++◌, length, take, drop, Option, Some, None, Result, Ok, Err, refl, ap, sym, ◌∙◌, subst, arith, take-append-drop}
+use Rattle.std.proofs.Common.{◌≡◌, ℕ, inl, inr, List, length, drop, Option, Some, None, Result, Ok, Err, refl, ap, sym, ◌∙◌, subst, arith, take-append-drop}
 use Rattle.std.specs.Prelude.{MatchOption, IsOk, IsErr, IfOk, IfErr}
 use Rattle.std.proofs.lemmas.Bool.{cases_lt, false≢true}
 use Rattle.plan_check.specs.declared.faults.PlanFault.{PlanFault}
 use Rattle.plan_check.specs.declared.faults.PlanFault.TheVariants.{Line, Order, NotOffered, Missing, Stranger, GroupTooSmall, Memory}
 use Rattle.plan_check.specs.File.{File, IsFile}
-use Rattle.plan_check.specs.Lines.{malformed_at, misplaced_at, misplaced_fault, file_fault, number_of}
+use Rattle.plan_check.specs.Lines.{malformed_at, misplaced_at, misplaced_fault, file_fault}
 use Rattle.plan_check.specs.TextLines.{lines_of}
 use Rattle.plan_check.specs.PlanText.{plan_lines, plan_text, IsOfForm, IsTextOf}
-use Rattle.plan_check.specs.PlanReading.{Begins, IsFirstWrong, IsOutOfOrder, IsReadFault, Reads, RoundTrip}
+use Rattle.plan_check.specs.PlanReading.{IsFirstWrong, IsOutOfOrder, IsReadFault, Reads, RoundTrip}
 use Rattle.plan_check.proofs.InOrder.{form_ok, in_order}
 use Rattle.plan_check.proofs.TextLemmas.{lines_of-plan}
 use Rattle.plan_check.proofs.OneText.{one_file_each}

@@ -1,8 +1,8 @@
 -- A text and its lines.
-use Rattle.std.proofs.Common.{◌≡◌, ◌≢◌, ℕ, ◌+◌, ◌/◌, ◌%◌, ◌<◌, ◌==◌, Bool, true, false, not, List, [], ◌∷◌, ◌++◌, length, map, flat_map, refl, ap, sym, ◌∙◌, subst, arith, append_assoc, inl, inr, get_or, slice_index, decimal, codes}
+use Rattle.std.proofs.Common.{◌≡◌, ℕ, ◌/◌, ◌%◌, ◌<◌, ◌==◌, true, false, not, List, [], ◌∷◌, ◌++◌, map, flat_map, refl, ap, sym, ◌∙◌, subst, arith, append_assoc, inl, inr, slice_index, decimal, codes}
 use Rattle.std.specs.List.{All, list_all}
 use Rattle.std.proofs.lemmas.Bool.{cases_eq, cases_lt, ne_eqb, and_parts, false≢true}
-use Rattle.std.proofs.lemmas.List.{append-nil, get_or_past, get_or_default}
+use Rattle.std.proofs.lemmas.List.{get_or_past, get_or_default}
 use Rattle.std.proofs.lemmas.List.Elements.{All-nil, All-cons, All-head, All-tail, All-append, All-map}
 use Rattle.std.proofs.lemmas.Str.Parse.{digit_at}
 use Rattle.std.proofs.lemmas.Fmt.{digits_decimal}
@@ -90,7 +90,7 @@ lines_whole file form =
     (All-append IsWhole (map given file.gives) (grouped file.group ∷ []) (All-map IsWhole given file.gives (λ k d lt. give_whole _ (form.gives k d lt)))
     (All-cons IsWhole (grouped file.group) [] (group_whole file.group form.group) (All-nil IsWhole)))))
 
-plan_text-is : (file : File) → plan_text file ≡ joined (plan_lines file)
+pub plan_text-is : (file : File) → plan_text file ≡ joined (plan_lines file)
 unfolding plan_text
 plan_text-is file = refl
 

@@ -1,5 +1,5 @@
 -- Parts of a plan text, and lines by what they tell.
-use Rattle.std.specs.Prelude.{◌≡◌, ◌≢◌, ℕ, ◌<◌, ◌⊎◌, List, [], ◌∷◌, All}
+use Rattle.std.specs.Prelude.{◌≡◌, ◌≢◌, ℕ, ◌<◌, List, All}
 use Rattle.neg_codec.specs.declared.Id.{Id}
 use Rattle.sharing.specs.declared.TheConstants.{RELAYS}
 use Rattle.plan_check.specs.declared.faults.PlanFault.{PlanFault}

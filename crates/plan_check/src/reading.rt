@@ -29,7 +29,11 @@ fn skip_header(text: &[u8]) -> Option<&[u8]>
     ensures none { IfNone result (FirstIsNot (λ line. line ≡ ended header_line) (lines_of text.now)) }
 {
     let (line, rest) = cut_line(text)?;
-    if line == b"nostr-plan 1".as_slice() { Some(rest) } else { None }
+    if line == b"nostr-plan 1".as_slice() {
+        Some(rest)
+    } else {
+        None
+    }
 }
 
 /// The offers at the front, and the text after these.

@@ -10,10 +10,7 @@ use neg_codec::Id;
 use std::alloc::{AllocError, Global};
 
 /// The offer of a line without its line feed.
-pub(crate) fn parse_offer(
-    alloc: Global,
-    line: &[u8],
-) -> Result<Option<(Id, Vec<u16>)>, AllocError>
+pub(crate) fn parse_offer(alloc: Global, line: &[u8]) -> Result<Option<(Id, Vec<u16>)>, AllocError>
     ensures found { IfOk result (λ r. IfSome r (λ o. line.now ≡ offer_line (o.0, o.1.items))) }
     ensures offer { IfOk result (λ r. IfSome r (λ o. IsOffer (o.0, o.1.items))) }
     ensures none { IfOk result (λ r. IfNone r ((o : AnId × List ℕ) → IsOffer o → line.now ≢ offer_line o)) }

@@ -60,10 +60,7 @@ fn least_plans_are_read_and_pass(rt: HostRuntime) -> Result<(), Fail> {
 #[test]
 fn a_chain_of_three_from_its_text(rt: HostRuntime) -> Result<(), Fail> {
     let rows = [
-        (
-            "give A 0\ngive B 0\ngive C 2\n",
-            PlanFault::GroupTooSmall,
-        ),
+        ("give A 0\ngive B 0\ngive C 2\n", PlanFault::GroupTooSmall),
         ("give A 0\ngive C 2\n", PlanFault::Missing),
         ("give A 0\ngive B 1\ngive C 0\n", PlanFault::NotOffered),
         (
@@ -74,8 +71,7 @@ fn a_chain_of_three_from_its_text(rt: HostRuntime) -> Result<(), Fail> {
     ];
     let alloc = rt.alloc();
     for (gives, fault) in rows {
-        let pattern = format!(
-            in alloc;
+        let pattern = format!(in alloc;
             "nostr-plan 1\noffer A 0\noffer B 0 1\noffer C 1 2\n{gives}group 0 1 2\n"
         )?;
         assert_eq!(rt; verdict(alloc, pattern.as_str())?, Err(fault), "{gives}");
@@ -147,7 +143,10 @@ fn texts_out_of_order_are_refused(rt: HostRuntime) -> Result<(), Fail> {
         ("nostr-plan 1\noffer A 0\noffer A 0\ngroup\n", 3),
         ("nostr-plan 1\noffer A 0\ngive B 0\ngive B 0\ngroup\n", 4),
         ("nostr-plan 1\noffer A 0\ngroup 2 1\n", 3),
-        ("nostr-plan 1\noffer A 0\ngive B 0\ngive A 0\ngroup 2 1\n", 4),
+        (
+            "nostr-plan 1\noffer A 0\ngive B 0\ngive A 0\ngroup 2 1\n",
+            4,
+        ),
     ];
     for (pattern, line) in rows {
         assert_eq!(rt;
@@ -208,6 +207,9 @@ fn a_made_file_is_written(rt: HostRuntime) -> Result<(), Fail> {
         return Err("no file")?;
     };
     let text = write_plan(alloc, &file)?;
-    assert!(rt; text.as_str() == "nostr-plan 1\noffer abababababababababababababababababababababababababababababababab 3 40\ngroup\n");
+    assert!(rt;
+        text.as_str()
+            == "nostr-plan 1\noffer abababababababababababababababababababababababababababababababab 3 40\ngroup\n"
+    );
     Ok(())
 }

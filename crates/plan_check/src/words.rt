@@ -35,7 +35,11 @@ fn parse_id(text: &[u8]) -> Option<Id>
     let id = Id(<[u8; 32] as FromHex>::from_hex(text).ok()?);
     let mut again = [0; 64];
     hex::encode_to_slice(*id.as_bytes(), &mut again).ok()?;
-    if text == again.as_slice() { Some(id) } else { None }
+    if text == again.as_slice() {
+        Some(id)
+    } else {
+        None
+    }
 }
 
 /// The id at the front, and the text after it.

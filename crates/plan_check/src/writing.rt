@@ -31,22 +31,36 @@ fn put_relays(text: &mut String, relays: &[u16]) -> Result<(), AllocError>
     Ok(())
 }
 
+/// Appends the line of an offer.
+fn put_offer(alloc: Global, text: &mut String, id: &Id, relays: &[u16]) -> Result<(), AllocError>
+    ensures written { OnOk result (string_bytes text.new ≡ string_bytes text.old ++ ended (offer_line (id.now, relays.now))) }
+    ensures id { OnOk result (IsId id.now) }
+{
+    text.push_str("offer ")?;
+    put_id(alloc, text, id)?;
+    put_relays(text, relays)?;
+    text.push('\n')
+}
+
 /// Appends the lines of offers.
-fn put_offers(
-    alloc: Global,
-    text: &mut String,
-    offers: &[(Id, Vec<u16>)],
-) -> Result<(), AllocError>
+fn put_offers(alloc: Global, text: &mut String, offers: &[(Id, Vec<u16>)]) -> Result<(), AllocError>
     ensures written { OnOk result (string_bytes text.new ≡ string_bytes text.old ++ flat_map (λ o. ended (offer_line o)) (pairs_of offers.now)) }
     ensures ids { OnOk result (All (λ o. IsId o.0) offers.now) }
 {
     for offer in offers {
-        text.push_str("offer ")?;
-        put_id(alloc, text, &offer.0)?;
-        put_relays(text, &offer.1)?;
-        text.push('\n')?;
+        put_offer(alloc, text, &offer.0, &offer.1)?;
     }
     Ok(())
+}
+
+/// Appends the line of a give.
+fn put_give(alloc: Global, text: &mut String, id: &Id, relay: u16) -> Result<(), AllocError>
+    ensures written { OnOk result (string_bytes text.new ≡ string_bytes text.old ++ ended (give_line (id.now, relay))) }
+    ensures id { OnOk result (IsId id.now) }
+{
+    text.push_str("give ")?;
+    put_id(alloc, text, id)?;
+    writeln!(text, " {relay}")
 }
 
 /// Appends the lines of gives.
@@ -55,10 +69,7 @@ fn put_gives(alloc: Global, text: &mut String, gives: &[(Id, u16)]) -> Result<()
     ensures ids { OnOk result (All (λ g. IsId g.0) gives.now) }
 {
     for give in gives {
-        text.push_str("give ")?;
-        put_id(alloc, text, &give.0)?;
-        let relay = give.1;
-        writeln!(text, " {relay}")?;
+        put_give(alloc, text, &give.0, give.1)?;
     }
     Ok(())
 }

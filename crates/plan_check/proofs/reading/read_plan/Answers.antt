@@ -1,4 +1,4 @@
-use Rattle.std.proofs.Common.{◌≡◌, IfErr, ap, sym, ◌∙◌, rules}
+use Rattle.std.proofs.Common.{IfErr, ap, sym, ◌∙◌, rules}
 use Rattle.plan_check.specs.TextLines.{lines_of}
 use Rattle.plan_check.specs.PlanReading.{IsReadFault, Reads}
 use Rattle.plan_check.proofs.ReadLemmas.{read_back, made_reads, fault_reads, reads_ok, reads_err}

@@ -1,4 +1,4 @@
-use Rattle.std.proofs.Common.{◌≡◌, true, sym, ap, ◌∙◌, take, length, arith, take_at, refl}
+use Rattle.std.proofs.Common.{◌≡◌, true, sym, ap, ◌∙◌, take, length, take_at, refl}
 use Rattle.std.proofs.lemmas.Slice.Eq.{bytes_eq-Decides}
 use Rattle.plan_check.proofs.words.skip_word.Goals as goal
 
