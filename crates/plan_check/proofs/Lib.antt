@@ -2,3 +2,14 @@ pub mod Firsts
 pub mod Files
 pub mod Given
 pub mod Judged
+pub mod Spans
+pub mod LineLemmas
+pub mod RelayLemmas
+pub mod IdLemmas
+pub mod KindLemmas
+pub mod FormLemmas
+pub mod InOrder
+pub mod TextLemmas
+pub mod OneText
+pub mod ReadLemmas
+pub mod WriteLemmas
