@@ -163,6 +163,10 @@ all_told P rs ends h =
     append_nil_stretches [] = refl
     append_nil_stretches (x ∷ xs) = ap (λ (t : List Stretch). x ∷ t) (append_nil_stretches xs)
 
+pub told_limit : (a : List Item) (e : Written) (upper : Item) (d : Written) → Told a e upper d → d.limit ≡ e.limit
+told_limit a e upper d (inl w) = ap (λ (x : Written). x.limit) w.now
+told_limit a e upper d (inr c) = ap (λ (x : Written). x.limit) c.now
+
 pub record Begun (a : List Item) (asked : List Span) : Type 0 where
   pub truth : All (IsTrueOf a) (stretches asked)
   pub skips_nothing : All (λ s. IsSkip s → ⊥) (stretches asked)
