@@ -34,7 +34,7 @@ explained : (mine theirs : List Item) (limits : SessionLimits) (old new : Local)
 explained mine theirs limits old new r law fresh keeps ran =
     let P : List Item → Type 0 = λ b. Explains b new.log in
     let kept : All (AnswersBy old.roll) new.log = let h = keeps.answers fresh.answers in rw keeps.roll at h in
-    subst P fresh.roll (law mine old.roll [] new.log fresh.sorted kept ran.appended ran.chained)
+    subst P fresh.roll (law limits.limit mine old.roll [] new.log fresh.sorted kept ran.appended ran.chained)
 
 pub reconciled : (limit : ℕ) (mine theirs : List Item) (limits : SessionLimits) (old new : Local) (o : Outcome) → RollExplains → AreLimits limit limits → IsFresh theirs old
     → Keeps old new → Ran mine limits old.log new.log old.faults new.faults (Ok o) → Reconciles limit mine theirs new.log o

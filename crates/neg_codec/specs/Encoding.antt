@@ -1,5 +1,5 @@
 -- The one text that is written for a message: of the spellings of each bound, the shortest.
-use Rattle.std.specs.Prelude.{ℕ, ◌+◌, ◌-◌, ◌==◌, List, [], ◌∷◌, ◌++◌, length, take, nat_lt, if◌then◌else◌}
+use Rattle.std.specs.Prelude.{ℕ, ◌+◌, ◌-◌, ◌^◌, ◌<◌, ◌==◌, List, [], ◌∷◌, ◌++◌, length, take, nat_lt, if◌then◌else◌}
 use Rattle.std.specs.List.{flat_map}
 use Rattle.neg_varint.specs.Spelling.{spelling}
 use Rattle.neg_codec.specs.declared.Item.{Item}
@@ -36,3 +36,8 @@ ranges_text before (r ∷ rs) = range_text before r ++ ranges_text r.upper.time 
 
 unfoldable pub text_of : List Span → List ℕ
 text_of rs = 0x61 ∷ ranges_text 0 rs
+
+-- three bytes are enough for the count of the ids
+abbrev pub IsShort : Claim → Type 0
+IsShort (ids list) = length list < 2 ^ 21
+IsShort _ = Unit {0}

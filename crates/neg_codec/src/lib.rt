@@ -87,6 +87,7 @@ mod fields;
 mod items;
 mod laws;
 mod message;
+mod sizes;
 mod writing;
 
 pub use laws::{one_message, one_place, one_stretch, order_of_keys, round_trip};

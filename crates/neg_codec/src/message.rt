@@ -33,14 +33,14 @@ impl Model for Message {
 }
 
 /// That a print has its length, of bytes.
-fn is_print(bytes: &[u8; 16])
+pub(crate) fn is_print(bytes: &[u8; 16])
     ensures { IsClaim (print bytes.now) }
 {
     let _ = bytes.as_slice();
 }
 
 /// That ids have their lengths, of bytes.
-fn are_ids(list: &[Id])
+pub(crate) fn are_ids(list: &[Id])
     ensures { All IsId list.now }
 {
     for id in list {
@@ -49,7 +49,7 @@ fn are_ids(list: &[Id])
 }
 
 /// That a range has what its parts have by their types.
-fn is_span(range: &Range)
+pub(crate) fn is_span(range: &Range)
     ensures { IsSpan (span_of range.now) }
 {
     let _ = range.upper.edge();

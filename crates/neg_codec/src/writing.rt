@@ -11,7 +11,7 @@ use neg_varint::put;
 use std::alloc::{AllocError, Global};
 
 /// How many bytes of an id are left without the zeros at its end.
-fn len_kept(id: &[u8; 32]) -> usize
+pub(crate) fn len_kept(id: &[u8; 32]) -> usize
     ensures value { result ≡ length_kept id.now }
     ensures within { result ≤ length id.now }
 {

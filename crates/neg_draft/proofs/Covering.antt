@@ -1,5 +1,5 @@
 -- How a draft grows, and what the message says that is written of it.
-use Rattle.std.proofs.Common.{◌≡◌, ◌<◌, ◌≤◌, ◌⊎◌, inl, inr, Bool, true, false, cond, ltb, List, [], ◌∷◌, ◌++◌, refl, sym, ap, subst, ◌∙◌, arith}
+use Rattle.std.proofs.Common.{◌≡◌, ℕ, ◌+◌, ◌<◌, ◌≤◌, ◌⊎◌, length, append_assoc, inl, inr, Bool, true, false, cond, ltb, List, [], ◌∷◌, ◌++◌, refl, sym, ap, subst, ◌∙◌, arith}
 use Rattle.std.specs.Prelude.{Contains, All}
 use Rattle.std.proofs.lemmas.Bool.{ltb-true, ltb-false, lt-ltb, cases_lt}
 use Rattle.std.proofs.lemmas.List.Elements.{All-contains, All-head, All-weaker, All-contains_itself, Contains-append_left, Contains-append_right, Contains-append_cases}
@@ -7,8 +7,11 @@ use Rattle.neg_codec.proofs.Stretches.{contains_head, contains_tail, contains_ca
 use Rattle.neg_codec.specs.declared.Item.{Item}
 use Rattle.neg_codec.specs.Keys.{place, least, endless, infinity, IsKey}
 use Rattle.neg_codec.specs.Ranges.{skip, Span, Stretch, stretches, stretches_from, Lies, IsSkip, Ascends, IsEdge}
+use Rattle.neg_codec.specs.Encoding.{text_of}
+use Rattle.neg_codec.proofs.Lengths.{text_none}
+use Rattle.item_roll.specs.Truth.{IsTrueOf}
 use Rattle.item_roll.specs.Closed.{closed_from}
-use Rattle.neg_draft.specs.Coverage.{Written, end_of, gap, passed, told_more, IsDraft, IsLeftOut, Covers, Tells}
+use Rattle.neg_draft.specs.Coverage.{Written, end_of, gap, passed, told_more, all_left, IsDraft, IsLeftOut, IsCutAt, Covers, Tells, Whole, Cut}
 
 abbrev stretch_at : Item → Span → Stretch
 stretch_at lower r = record { lower = lower; upper = r.upper; claim = r.claim }
@@ -71,11 +74,18 @@ all_from H xs f = All-weaker (Contains xs) H f xs (All-contains_itself xs)
 
 -- ---- a draft that says nothing yet
 
-pub draft_none : IsDraft (record { spans = []; end = least })
-draft_none = record { ascends = tt; within = inl refl; low = omega (arith, least_below infinity); open_unless_blank = inl refl }
+pub draft_none : (limit : ℕ) → 4096 ≤ limit → IsDraft (record { limit = limit; spans = []; end = least })
+draft_none limit enough = record {
+  ascends = tt;
+  within = inl refl;
+  low = omega (arith, least_below infinity);
+  open_unless_blank = inl refl;
+  fits = omega (arith, text_none, enough);
+  room = λ less. omega (arith, text_none, enough);
+}
 
-pub covers_none : (H : Stretch → Type 0) (P Q : Item → Type 0) → Covers H P Q (record { spans = []; end = least })
-covers_none H P Q = record {
+pub covers_none : (H : Stretch → Type 0) (P Q : Item → Type 0) (limit : ℕ) → Covers H P Q (record { limit = limit; spans = []; end = least })
+covers_none H P Q limit = record {
   told = λ k d lt. absurd (omega arith);
   may = λ k key lt out. absurd (omega (arith, least_below k, lt));
   must = λ k key lt q. absurd (omega (arith, least_below k, lt));
@@ -93,16 +103,16 @@ passed_place d upper le = go (ltb (place d.end) (place upper)) refl
 pub draft_passes : (d : Written) (upper : Item) → IsDraft d → place upper ≤ place infinity → IsDraft (passed d upper)
 draft_passes d upper h low = go (ltb (place d.end) (place upper)) refl
   where
-    go : (b : Bool) → ltb (place d.end) (place upper) ≡ b → IsDraft (record { spans = d.spans; end = cond b upper d.end })
-    go true e = record { ascends = h.ascends; within = inr (omega (arith, meets_le _ _ h.within, ltb-true _ _ e)); low = low; open_unless_blank = h.open_unless_blank }
-    go false e = record { ascends = h.ascends; within = h.within; low = h.low; open_unless_blank = h.open_unless_blank }
+    go : (b : Bool) → ltb (place d.end) (place upper) ≡ b → IsDraft (record { limit = d.limit; spans = d.spans; end = cond b upper d.end })
+    go true e = record { ascends = h.ascends; within = inr (omega (arith, meets_le _ _ h.within, ltb-true _ _ e)); low = low; open_unless_blank = h.open_unless_blank; fits = h.fits; room = λ less. h.room (omega (arith, ltb-true _ _ e, less)) }
+    go false e = record { ascends = h.ascends; within = h.within; low = h.low; open_unless_blank = h.open_unless_blank; fits = h.fits; room = h.room }
 
 pub covers_passes : (H : Stretch → Type 0) (P Q : Item → Type 0) (d : Written) (upper : Item) → IsDraft d → place d.end ≤ place upper → Covers H P Q d
     → ((k : Item) → IsKey k → place d.end ≤ place k → place k < place upper → P k) → Covers H P Q (passed d upper)
 covers_passes H P Q d upper draft up c new = record {
   told = c.told;
   may = λ k key lt out. elim (cases_lt (place k) (place d.end)) [ inl before ↦ c.may k key before out | inr after ↦ new k key after (omega (arith, lt, passed_place d upper up)) ];
-  must = λ k key lt q. elim (cases_lt (place k) (place d.end)) [ inl before ↦ c.must k key before q | inr after ↦ inr (omega (arith, meets_le _ _ draft.within, after)) ];
+  must = λ k key lt q. elim (cases_lt (place k) (place d.end)) [ inl before ↦ c.must k key before q | inr after ↦ inl (inr (omega (arith, meets_le _ _ draft.within, after))) ];
 }
 
 -- ---- a draft that says something of the next keys
@@ -148,6 +158,10 @@ more-ends d upper rs draft t =
     end-append least d.spans (gap (end_of least d.spans) d.end ++ rs) ∙ end-append (end_of least d.spans) (gap (end_of least d.spans) d.end) rs
     ∙ ap (λ (x : Item). end_of x rs) (gap-end (end_of least d.spans) d.end draft.within) ∙ t.ends
 
+-- where the ranges end once the Skip that is due stands behind them
+pub filled_end : (d : Written) → IsDraft d → end_of least (d.spans ++ gap (end_of least d.spans) d.end) ≡ d.end
+filled_end d draft = end-append least d.spans (gap (end_of least d.spans) d.end) ∙ gap-end (end_of least d.spans) d.end draft.within
+
 finite_below : (a b : Item) → place a < place b → place b ≤ place infinity → a.time < endless
 finite_below a b lt le = elim (cases_lt a.time endless) [
   | inl fin ↦ fin
@@ -165,8 +179,11 @@ first_open : (lower : Item) (rs : List Span) → ((rs ≡ []) → ⊥) → All (
 first_open lower [] some none = absurd (some refl)
 first_open lower (r ∷ rs) some none = (stretch_at lower r, contains_head (stretch_at lower r) (closed_from r.upper rs), All-head (λ s. IsSkip s → ⊥) (stretch_at lower r) (closed_from r.upper rs) none)
 
-pub draft_tells : (d : Written) (upper : Item) (rs : List Span) → IsDraft d → place upper ≤ place infinity → Tells d.end upper rs → IsDraft (told_more d upper rs)
-draft_tells d upper rs draft low t = record {
+pub draft_tells : (d : Written) (upper : Item) (rs : List Span) → IsDraft d → place upper ≤ place infinity → Tells d.end upper rs → length (text_of (told_more d upper rs).spans) ≤ d.limit
+    → (place upper < place infinity → length (text_of (told_more d upper rs).spans) + 64 ≤ d.limit) → IsDraft (told_more d upper rs)
+draft_tells d upper rs draft low t fits room = record {
+  fits = fits;
+  room = room;
   ascends = ascends-append least d.spans (gap (end_of least d.spans) d.end ++ rs) draft.ascends
       (ascends-append (end_of least d.spans) (gap (end_of least d.spans) d.end) rs (gap-ascends (end_of least d.spans) d.end draft.within draft.low)
       (subst (λ (x : Item). Ascends x rs) (sym (gap-end (end_of least d.spans) d.end draft.within)) t.ascends));
@@ -202,10 +219,14 @@ out_before d upper rs k draft up t lt (inl s) =
       | inr new ↦ absurd (All-contains (λ x. IsSkip x → ⊥) (closed_from d.end rs) s.0 t.none_skipped new s.2)
     ]
 
-pub covers_tells : (H : Stretch → Type 0) (P Q : Item → Type 0) (d : Written) (upper : Item) (rs : List Span) → IsDraft d → place d.end ≤ place upper → Tells d.end upper rs → Covers H P Q d
+-- a message that was cut has no key left
+cut_ends : (limit size : ℕ) (spans : List Span) (k : Item) → IsCutAt limit size spans k → end_of least spans ≡ infinity
+cut_ends limit size spans k c = ap (end_of least) c.ends ∙ end-append least c.front (all_left c.left)
+
+pub covers_tells : (H : Stretch → Type 0) (P Q : Item → Type 0) (d : Written) (upper : Item) (rs : List Span) → IsDraft d → place d.end < place infinity → place d.end ≤ place upper → Tells d.end upper rs → Covers H P Q d
     → ((s : Stretch) → IsSkip s → H s) → All H (closed_from d.end rs)
-    → ((k : Item) → IsKey k → place d.end ≤ place k → place k < place upper → Q k → ⊥) → Covers H P Q (told_more d upper rs)
-covers_tells H P Q d upper rs draft up t c skips now new = record {
+    → ((k : Item) → IsKey k → place d.end ≤ place k → place k < place upper → Q k → IsCutAt d.limit (length (text_of (told_more d upper rs).spans)) (told_more d upper rs).spans k) → Covers H P Q (told_more d upper rs)
+covers_tells H P Q d upper rs draft fin up t c skips now new = record {
   told = subst (λ (z : List Stretch). All H z) (sym (all-closed d rs draft))
       (all_append H (closed_from least d.spans) (closed_from (end_of least d.spans) (gap (end_of least d.spans) d.end) ++ closed_from d.end rs) c.told
       (all_append H (closed_from (end_of least d.spans) (gap (end_of least d.spans) d.end)) (closed_from d.end rs)
@@ -215,12 +236,46 @@ covers_tells H P Q d upper rs draft up t c skips now new = record {
   may = λ k key lt out. let o = out_before d upper rs k draft up t lt out in c.may k key o.0 o.1;
   must = λ k key lt q. elim (cases_lt (place k) (place d.end)) [
     | inl before ↦ elim (c.must k key before q) [
-      | inl s ↦ inl (s.0, in_old d rs s.0 draft s.1, s.2, s.3)
-      | inr above ↦ let s = gap-covers (end_of least d.spans) d.end k above before in inl (s.0, in_gap d rs s.0 draft s.1, s.2, s.3)
+      | inl out ↦ inl (elim out [
+        | inl s ↦ inl (s.0, in_old d rs s.0 draft s.1, s.2, s.3)
+        | inr above ↦ let s = gap-covers (end_of least d.spans) d.end k above before in inl (s.0, in_gap d rs s.0 draft s.1, s.2, s.3)
+      ])
+      | inr cut ↦ absurd (omega (arith, ap place (cut_ends d.limit (length (text_of d.spans)) d.spans k cut), meets_le _ _ draft.within, fin))
     ]
-    | inr after ↦ absurd (new k key after lt q)
+    | inr after ↦ inr (new k key after lt q)
   ];
 }
+
+-- what a draft says that told all of a stretch
+pub covers_whole : (P Q : Item → Type 0) (roll : List Item) (d new : Written) (upper : Item) → IsDraft d → place d.end ≤ place upper → Whole roll d upper new → Covers (IsTrueOf roll) P Q d
+    → ((s : Stretch) → IsSkip s → IsTrueOf roll s) → ((k : Item) → IsKey k → place d.end ≤ place k → place k < place upper → Q k → ⊥) → Covers (IsTrueOf roll) P Q new
+covers_whole P Q roll d new upper draft up w c skips none =
+    subst (Covers (IsTrueOf roll) P Q) (sym w.now)
+    (covers_tells (IsTrueOf roll) P Q d upper w.spans draft w.finite up w.tells c skips w.holds (λ k key ge lt q. absurd (none k key ge lt q)))
+
+-- and one that was cut
+pub covers_cut : (P Q : Item → Type 0) (roll : List Item) (d new : Written) (upper : Item) → IsDraft d → Cut roll d upper new → Covers (IsTrueOf roll) P Q d
+    → ((s : Stretch) → IsSkip s → IsTrueOf roll s) → ((k : Item) → IsKey k → place d.end ≤ place k → place k < place upper → Q k → ⊥) → Covers (IsTrueOf roll) P Q new
+covers_cut P Q roll d new upper draft c was skips none =
+    let joined : d.spans ++ (gap (end_of least d.spans) d.end ++ (c.front ++ all_left c.left)) ≡ (d.spans ++ (gap (end_of least d.spans) d.end ++ c.front)) ++ all_left c.left =
+    ap (λ (z : List Span). d.spans ++ z) (sym (append_assoc (gap (end_of least d.spans) d.end) c.front (all_left c.left)))
+    ∙ sym (append_assoc d.spans (gap (end_of least d.spans) d.end ++ c.front) (all_left c.left)) in
+    let ends : end_of least (d.spans ++ (gap (end_of least d.spans) d.end ++ c.front)) ≡ end_of d.end c.front =
+    end-append least d.spans (gap (end_of least d.spans) d.end ++ c.front) ∙ end-append (end_of least d.spans) (gap (end_of least d.spans) d.end) c.front
+    ∙ ap (λ (x : Item). end_of x c.front) (gap-end (end_of least d.spans) d.end draft.within) in
+    let full : d.limit ≤ length (text_of (told_more d infinity (c.front ++ all_left c.left)).spans) + 256 = subst (λ (w : Written). d.limit ≤ length (text_of w.spans) + 256) c.now c.full in
+    subst (Covers (IsTrueOf roll) P Q) (sym c.now)
+    (covers_tells (IsTrueOf roll) P Q d infinity (c.front ++ all_left c.left) draft c.finite (omega (arith, c.finite)) c.tells was skips c.holds
+    (λ k key ge lt q. elim (cases_lt (place k) (place upper)) [
+      | inl before ↦ absurd (none k key ge before q)
+      | inr after ↦ record {
+        front = d.spans ++ (gap (end_of least d.spans) d.end ++ c.front);
+        left = c.left;
+        ends = joined;
+        has = omega (arith, ap place ends, c.less, after);
+        full = full;
+      }
+    ]))
 
 -- ---- the message that is written of a draft that has come to infinity
 

@@ -1,3 +1,4 @@
 pub mod Covering
+pub mod Telling
 pub mod Owning
 pub mod Walking

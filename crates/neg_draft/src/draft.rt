@@ -1,47 +1,56 @@
 //! A message that is being written.
 
-ghost use Rattle.std.specs.Prelude.{◌≡◌, ◌<◌, ◌≤◌, ◌↔◌, [], ◌++◌, IfOk, IsTrue, map};
+ghost use Rattle.std.specs.Prelude.{◌≡◌, ◌+◌, ◌<◌, ◌≤◌, ◌↔◌, [], ◌∷◌, IfOk, IfSome, IfNone, IsTrue, length};
 ghost use Rattle.neg_codec.specs.Keys.{place, least, infinity};
-ghost use Rattle.neg_codec.specs.Ranges.{Span, edge_of, span_of};
-ghost use Rattle.neg_draft.specs.Coverage.{Written, Tells, passed, told_more, end_of, gap, IsDraft};
+ghost use Rattle.neg_codec.specs.Ranges.{edge_of, claim_of, span_of};
+ghost use Rattle.neg_codec.specs.Encoding.{text_of, IsShort};
+ghost use Rattle.neg_draft.specs.Coverage.{Written, Tells, passed, told_more, before_payload, IsDraft};
 
-use neg_codec::{Bound, Message, Payload, Range};
+use crate::ranges::Ranges;
+use neg_codec::{Bound, Message, Range};
 use std::alloc::{AllocError, Global};
 use std::marker::Model;
 
-/// Ranges that are written from front to back (Negentropy protocol V1, "Message"). Nothing is said of what
-/// lies between two of them, and behind the last: neighbouring Skips are one range, and a Skip at the end
-/// isn't written.
+/// The bound, the mode and the count of a range take no more bytes.
+const MOST_HEAD: usize = 48;
+
+/// So many bytes are kept free for the last two ranges.
+const SPARE: usize = 64;
+
+/// Ranges that are written from front to back (Negentropy protocol V1, "Message"), up to a number of
+/// bytes. Nothing is said of what lies between two of them, and behind the last: neighbouring Skips are
+/// one range, and a Skip at the end isn't written.
 #[derive(Debug, Drop)]
 pub struct Draft {
-    ranges: Vec<Range>,
-    /// Where the ranges end.
-    written: Bound,
-    /// Up to where the draft has come: from `written` to here all is skipped.
+    /// How many bytes the message may have.
+    limit: usize,
+    ranges: Ranges,
+    /// Up to where the draft has come: from where the ranges end to here all is skipped.
     end: Bound,
 }
 
 impl Model for Draft {
-    ghost use Rattle.std.specs.Prelude.{◌≡◌, map};
-    ghost use Rattle.neg_codec.specs.Keys.{least};
-    ghost use Rattle.neg_codec.specs.Ranges.{Span, edge_of, span_of};
-    ghost use Rattle.neg_draft.specs.Coverage.{Written, end_of, IsDraft};
+    ghost use Rattle.std.specs.Prelude.{◌<◌, ◌^◌};
+    ghost use Rattle.neg_codec.specs.Ranges.{edge_of};
+    ghost use Rattle.neg_draft.specs.Coverage.{Written, IsDraft};
 
     ghost Value = { Written };
 
-    ghost view = { λ d. record { spans = map span_of d.ranges.items; end = edge_of d.end } };
+    ghost view = { λ d. record { limit = d.limit; spans = d.ranges; end = edge_of d.end } };
 
-    ghost invariant = { λ d. IsDraft (record { spans = map span_of d.ranges.items; end = edge_of d.end }) × (edge_of d.written ≡ end_of least (map span_of d.ranges.items)) };
+    ghost invariant = { λ d. IsDraft (record { limit = d.limit; spans = d.ranges; end = edge_of d.end }) × (d.limit < 2 ^ 64) };
 }
 
 impl Draft {
-    /// A draft that says nothing and has come no further than the least key. It takes no memory.
-    pub fn new(alloc: Global) -> Draft
-        ensures { result ≡ record { spans = []; end = least } }
+    /// A draft that says nothing and has come no further than the least key. Its message will have no
+    /// more bytes than the limit. It takes no memory.
+    pub fn new(alloc: Global, limit: usize) -> Draft
+        requires { 4096 ≤ limit }
+        ensures { result ≡ record { limit = limit; spans = []; end = least } }
     {
         Draft {
-            ranges: Vec::new(alloc),
-            written: Bound::lowest(),
+            limit,
+            ranges: Ranges::none(alloc),
             end: Bound::lowest(),
         }
     }
@@ -54,6 +63,14 @@ impl Draft {
         self.end
     }
 
+    /// Whether the draft has come to infinity, so that no key is left.
+    pub fn is_over(&self) -> bool
+        ensures over { IsTrue result ↔ place infinity ≤ place self.now.end }
+        ensures draft { IsDraft self.now }
+    {
+        !self.end.is_below(&Bound::Infinite)
+    }
+
     /// Whether nothing was told yet.
     pub fn is_blank(&self) -> bool
         ensures blank { IsTrue result ↔ (self.now.spans ≡ []) }
@@ -62,45 +79,47 @@ impl Draft {
         self.ranges.is_empty()
     }
 
-    /// Goes up to a bound, and says nothing of the keys below it. It takes no memory.
+    /// Goes up to a bound, unless it has come further, and says nothing of the keys below it. It takes no
+    /// memory.
     pub fn skip(self, upper: Bound) -> Draft
-        requires { place self.end ≤ place (edge_of upper) }
         ensures now { result ≡ passed self (edge_of upper) }
         ensures draft { IsDraft self }
     {
         let _ = upper.edge();
-        let Draft {
-            ranges,
-            written,
-            end,
-        } = self;
+        let Draft { limit, ranges, end } = self;
         let end = if end.is_below(&upper) { upper } else { end };
-        Draft {
-            ranges,
-            written,
-            end,
-        }
+        Draft { limit, ranges, end }
     }
 
-    /// Tells ranges, each more than a Skip, from where the draft has come to up to a bound. Where memory is
-    /// refused, the draft is gone.
-    pub fn tell(self, ranges: Vec<Range>, upper: Bound) -> Result<Draft, AllocError>
-        requires { Tells self.end (edge_of upper) (map span_of ranges.items) }
-        ensures { IfOk result (λ d. d ≡ told_more self (edge_of upper) (map span_of ranges.items)) }
+    /// How many bytes of payload the next range may have, if any range fits.
+    pub(crate) fn room(&self) -> Option<usize>
+        requires { place self.now.end < place infinity }
+        ensures some { IfSome result (λ n. before_payload self.now + n + 64 ≡ self.now.limit) }
+        ensures none { IfNone result (self.now.limit < before_payload self.now + 64) }
     {
+        let waits = self.ranges.end().is_below(&self.end);
+        let head = if waits { 2 * MOST_HEAD } else { MOST_HEAD };
+        (self.limit - SPARE - self.ranges.spent()).checked_sub(head)
+    }
+
+    /// Tells a range, more than a Skip, from where the draft has come to. Where memory is refused, the
+    /// draft is gone.
+    pub(crate) fn tell(self, range: Range) -> Result<Draft, AllocError>
+        requires tells { Tells self.end (edge_of range.upper) (span_of range ∷ []) }
+        requires short { IsShort (claim_of range.payload) }
+        requires fits { length (text_of (told_more self (edge_of range.upper) (span_of range ∷ [])).spans) ≤ self.limit }
+        requires room { place (edge_of range.upper) < place infinity → length (text_of (told_more self (edge_of range.upper) (span_of range ∷ [])).spans) + 64 ≤ self.limit }
+        ensures { IfOk result (λ d. d ≡ told_more self (edge_of range.upper) (span_of range ∷ [])) }
+    {
+        let upper = range.upper;
         let _ = upper.edge();
-        let Draft {
-            ranges: before,
-            written,
-            end,
-        } = self;
-        let mut all = skipped_to(before, &written, end)?;
-        let mut more = ranges;
-        all.append(&mut more)?;
-        let written = upper;
+        let Draft { limit, ranges, end } = self;
+        let mut ranges = ranges;
+        ranges.fill(end)?;
+        ranges.push(range)?;
         Ok(Draft {
-            ranges: all,
-            written,
+            limit,
+            ranges,
             end: upper,
         })
     }
@@ -112,23 +131,9 @@ impl Draft {
         ensures draft { IsDraft self }
     {
         let Draft { ranges, .. } = self;
-        match Message::of(ranges) {
+        match Message::of(ranges.into_list()) {
             Ok(message) => message,
             Err(_) => unreachable!(),
         }
     }
-}
-
-/// The ranges with the Skip that is due between their end and a bound.
-fn skipped_to(ranges: Vec<Range>, written: &Bound, end: Bound) -> Result<Vec<Range>, AllocError>
-    ensures { IfOk result (λ v. map span_of v.items ≡ map span_of ranges.items ++ gap (edge_of written.now) (edge_of end)) }
-{
-    let mut all = ranges;
-    if written.is_below(&end) {
-        all.push(Range {
-            upper: end,
-            payload: Payload::Skip,
-        })?;
-    }
-    Ok(all)
 }

@@ -3,6 +3,7 @@
 
 mod draft;
 mod own;
+mod ranges;
 
 pub use draft::Draft;
 pub use own::is_own_print;

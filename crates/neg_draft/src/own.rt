@@ -1,17 +1,30 @@
 //! What a roll has between two bounds.
 
-ghost use Rattle.std.specs.Prelude.{◌≡◌, ◌<◌, ◌≤◌, ◌↔◌, [], ◌∷◌, IfOk, IsTrue};
-ghost use Rattle.neg_codec.specs.Keys.{place};
-ghost use Rattle.neg_codec.specs.Ranges.{ids, edge_of};
+ghost use Rattle.std.specs.Prelude.{◌≡◌, ◌+◌, ◌-◌, ◌*◌, ◌<◌, ◌≤◌, ◌↔◌, ◌⊎◌, [], ◌∷◌, All, IfOk, IsTrue, map};
+ghost use Rattle.neg_codec.specs.Keys.{place, infinity};
+ghost use Rattle.neg_codec.specs.Ranges.{ids, edge_of, span_of};
+ghost use Rattle.neg_codec.specs.Ranges as told;
+ghost use Rattle.neg_codec.specs.Encoding.{text_of};
 ghost use Rattle.neg_print.specs.Print.{print_of};
 ghost use Rattle.item_roll.specs.Parts.{part, ids_of, count_below};
 ghost use Rattle.item_roll.specs.Splits.{split_of};
-ghost use Rattle.neg_draft.specs.Coverage.{told_more, Told};
+ghost use Rattle.item_roll.specs.Truth.{IsTrueOf};
+ghost use Rattle.item_roll.specs.Closed.{closed_from};
+ghost use Rattle.neg_draft.specs.Coverage.{told_more, before_payload, all_left, Tells, IsPrint, Cut, Told};
 
 use crate::Draft;
-use item_roll::Roll;
+use item_roll::{Roll, minimal_bound};
 use neg_codec::{Bound, Payload, Range};
 use std::alloc::{AllocError, Global};
+
+/// A piece of fewer items is listed.
+const LISTED_BELOW: usize = 32;
+
+/// How many bytes an id has.
+const ID_BYTES: usize = 32;
+
+/// How many bytes a fingerprint has.
+const PRINT_BYTES: usize = 16;
 
 /// Whether a fingerprint is the roll's own between two bounds, the lower inclusive (Negentropy protocol
 /// V1, "Fingerprint"). It adds up the ids of the items there.
@@ -24,32 +37,147 @@ pub fn is_own_print(roll: &Roll, lower: &Bound, upper: &Bound, print: &[u8; 16])
 }
 
 impl Draft {
-    /// Tells what the roll has from where the draft has come to up to a bound: the ids where it has fewer
-    /// than 32 items there, else 16 fingerprints. It costs a pass over those items.
-    pub fn tell_split(self, alloc: Global, roll: &Roll, upper: Bound) -> Result<Draft, AllocError>
-        requires { place self.end < place (edge_of upper) }
-        ensures told { IfOk result (Told roll.now self (edge_of upper)) }
-        ensures exact { IfOk result (λ d. d ≡ told_more self (edge_of upper) (split_of roll.now (count_below roll.now self.end) (count_below roll.now (edge_of upper)) (edge_of upper))) }
+    /// Tells all that the roll has left by one fingerprint up to infinity.
+    fn close(self, roll: &Roll) -> Result<Draft, AllocError>
+        requires { place self.end < place infinity }
+        ensures { IfOk result (λ d. d ≡ told_more self infinity (all_left (print_of (ids_of (part roll.now self.end infinity))))) }
     {
-        let lower = self.end();
-        let _ = lower.edge();
-        let _ = upper.edge();
-        let split = roll.split(alloc, roll.find(&lower), roll.find(&upper), &upper)?;
-        self.tell(split, upper)
+        let end = self.end();
+        let _ = end.edge();
+        let print = roll.print(roll.find(&end), roll.find(&Bound::Infinite));
+        self.tell(Range {
+            upper: Bound::Infinite,
+            payload: Payload::Print(print),
+        })
     }
 
-    /// Lists the roll's ids from where the draft has come to up to a bound, however many there are.
+    /// Lists the roll's ids from where the draft has come to up to a bound.
+    fn list_ids(self, alloc: Global, roll: &Roll, upper: Bound) -> Result<Draft, AllocError>
+        requires ahead { place self.end < place (edge_of upper) }
+        requires fits { before_payload self + 32 * (count_below roll.now (edge_of upper) - count_below roll.now self.end) + 64 ≤ self.limit }
+        ensures { IfOk result (λ d. d ≡ told_more self (edge_of upper) (record { upper = edge_of upper; claim = ids (ids_of (part roll.now self.end (edge_of upper))) } ∷ [])) }
+    {
+        let lower = self.end();
+        let _ = (lower.edge(), upper.edge(), roll.len());
+        let ids = roll.ids(alloc, roll.find(&lower), roll.find(&upper))?;
+        let payload = Payload::Ids(ids);
+        self.tell(Range { upper, payload })
+    }
+
+    /// Lists so many of the roll's ids, fewer than there are up to a bound, and closes.
+    fn cut_ids(
+        self,
+        alloc: Global,
+        roll: &Roll,
+        upper: &Bound,
+        count: usize,
+    ) -> Result<Draft, AllocError>
+        requires ahead { place self.end < place (edge_of upper.now) }
+        requires fewer { count_below roll.now self.end + count < count_below roll.now (edge_of upper.now) }
+        requires fits { before_payload self + 32 * count + 64 ≤ self.limit }
+        requires full { self.limit < before_payload self + 32 * count + 96 }
+        ensures { IfOk result (Cut roll.now self (edge_of upper.now)) }
+    {
+        let end = self.end();
+        let _ = (end.edge(), upper.edge(), roll.find(upper));
+        if count == 0 {
+            return self.close(roll);
+        }
+        let next = roll.find(&end) + count;
+        let bound = minimal_bound(&roll.get(next - 1), &roll.get(next));
+        let draft = self.list_ids(alloc, roll, bound)?;
+        draft.close(roll)
+    }
+
+    /// Lists the roll's ids from where the draft has come to up to a bound, however many there are. Where
+    /// that doesn't fit, as many ids as fit are listed, and one fingerprint of all that is left ends the
+    /// message.
     pub fn tell_ids(self, alloc: Global, roll: &Roll, upper: Bound) -> Result<Draft, AllocError>
         requires { place self.end < place (edge_of upper) }
         ensures told { IfOk result (Told roll.now self (edge_of upper)) }
-        ensures exact { IfOk result (λ d. d ≡ told_more self (edge_of upper) (record { upper = edge_of upper; claim = ids (ids_of (part roll.now self.end (edge_of upper))) } ∷ [])) }
+        ensures exact { IfOk result (λ d. (d ≡ told_more self (edge_of upper) (record { upper = edge_of upper; claim = ids (ids_of (part roll.now self.end (edge_of upper))) } ∷ [])) ⊎ Cut roll.now self (edge_of upper) d) }
+    {
+        let lower = self.end();
+        let _ = (lower.edge(), upper.edge());
+        let lo = roll.find(&lower);
+        let hi = roll.find(&upper);
+        let Some(room) = self.room() else {
+            return self.close(roll);
+        };
+        let most = room / ID_BYTES;
+        if most < hi - lo {
+            return self.cut_ids(alloc, roll, &upper, most);
+        }
+        self.list_ids(alloc, roll, upper)
+    }
+
+    /// Tells a fingerprint of the roll's items from where the draft has come to up to a bound. Where it
+    /// doesn't fit, one of all that is left ends the message.
+    fn tell_print(self, roll: &Roll, upper: Bound, print: [u8; 16]) -> Result<Draft, AllocError>
+        requires finite { place self.end < place infinity }
+        requires ahead { place self.end ≤ place (edge_of upper) }
+        requires own { print ≡ print_of (ids_of (part roll.now self.end (edge_of upper))) }
+        ensures { IfOk result (λ d. (d ≡ told_more self (edge_of upper) (record { upper = edge_of upper; claim = told.print print } ∷ [])) ⊎ Cut roll.now self (edge_of upper) d) }
     {
         let lower = self.end();
         let _ = lower.edge();
         let _ = upper.edge();
-        let ids = roll.ids(alloc, roll.find(&lower), roll.find(&upper))?;
-        let payload = Payload::Ids(ids);
-        let ranges = vec![in alloc; Range { upper, payload }]?;
-        self.tell(ranges, upper)
+        let Some(room) = self.room() else {
+            return self.close(roll);
+        };
+        if room < PRINT_BYTES {
+            return self.close(roll);
+        }
+        let payload = Payload::Print(print);
+        self.tell(Range { upper, payload })
+    }
+
+    /// Tells fingerprints of the roll up to a bound. Where one doesn't fit, one of all that is left ends
+    /// the message.
+    fn tell_prints(
+        self,
+        roll: &Roll,
+        prints: &[Range],
+        upper: &Bound,
+    ) -> Result<Draft, AllocError>
+        requires finite { place self.end < place infinity }
+        requires tells { Tells self.end (edge_of upper.now) (map span_of prints.now) }
+        requires holds { All (IsTrueOf roll.now) (closed_from self.end (map span_of prints.now)) }
+        requires prints { All IsPrint (map span_of prints.now) }
+        ensures { IfOk result (λ d. (d ≡ told_more self (edge_of upper.now) (map span_of prints.now)) ⊎ Cut roll.now self (edge_of upper.now) d) }
+    {
+        let _ = self.end();
+        let mut draft = self;
+        for range in prints {
+            let _ = draft.end().edge();
+            if draft.is_over() {
+                return Ok(draft);
+            }
+            draft = match range.payload {
+                Payload::Print(print) => draft.tell_print(roll, range.upper, print)?,
+                _ => unreachable!(),
+            };
+        }
+        Ok(draft)
+    }
+
+    /// Tells what the roll has from where the draft has come to up to a bound: the ids where it has fewer
+    /// than 32 items there, else 16 fingerprints. It costs a pass over those items. What doesn't fit is
+    /// told by one fingerprint of all that is left, which ends the message.
+    pub fn tell_split(self, alloc: Global, roll: &Roll, upper: Bound) -> Result<Draft, AllocError>
+        requires { place self.end < place (edge_of upper) }
+        ensures told { IfOk result (Told roll.now self (edge_of upper)) }
+        ensures exact { IfOk result (λ d. (d ≡ told_more self (edge_of upper) (split_of roll.now (count_below roll.now self.end) (count_below roll.now (edge_of upper)) (edge_of upper))) ⊎ Cut roll.now self (edge_of upper) d) }
+    {
+        let lower = self.end();
+        let _ = lower.edge();
+        let _ = upper.edge();
+        let lo = roll.find(&lower);
+        let hi = roll.find(&upper);
+        if hi - lo < LISTED_BELOW {
+            return self.tell_ids(alloc, roll, upper);
+        }
+        let split = roll.split(alloc, lo, hi, &upper)?;
+        self.tell_prints(roll, &split, &upper)
     }
 }

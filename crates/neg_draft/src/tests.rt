@@ -1,11 +1,6 @@
-ghost use Rattle.std.specs.Prelude.{◌<◌};
-ghost use Rattle.neg_codec.specs.Keys.{place};
-ghost use Rattle.neg_codec.specs.Ranges.{edge_of};
-
 use super::*;
 use item_roll::Roll;
 use neg_codec::{Bound, Id, Item, Key, Payload, Range};
-use std::alloc::{AllocError, Global};
 use std::process::Abort;
 use std::test::*;
 
@@ -29,21 +24,6 @@ fn forty_items(rt: &impl AllocGlobal) -> Result<Roll, Fail> {
 fn skip_to(rt: &impl Abort, draft: Draft, upper: Bound) -> Draft {
     assert!(rt; draft.end().is_below(&upper));
     draft.skip(upper)
-}
-
-fn list_to(alloc: Global, draft: Draft, ids: Vec<Id>, upper: Bound) -> Result<Draft, AllocError>
-    requires { place draft.end < place (edge_of upper) }
-{
-    let lower = draft.end();
-    let _ = lower.edge();
-    let _ = upper.edge();
-    let ranges = vec![in alloc;
-        Range {
-            upper,
-            payload: Payload::Ids(ids)
-        },
-    ]?;
-    draft.tell(ranges, upper)
 }
 
 fn own_ids_to(
@@ -70,16 +50,13 @@ fn split_to(
 fn a_message_from_front_to_back(rt: HostRuntime) -> Result<(), Fail> {
     let alloc = rt.alloc();
     let roll = forty_items(&rt)?;
-    let draft = Draft::new(alloc);
+    let draft = Draft::new(alloc, 60_000);
     assert!(rt; draft.end() == Bound::lowest() && draft.is_blank());
     let draft = skip_to(&rt, draft, at(3));
     let draft = skip_to(&rt, draft, at(5));
     assert!(rt; draft.end() == at(5) && draft.is_blank());
     let draft = own_ids_to(&rt, draft, &roll, at(7))?;
     assert!(rt; draft.end() == at(7) && !draft.is_blank());
-    let eight = at(8);
-    assert!(rt; draft.end().is_below(&eight));
-    let draft = list_to(alloc, draft, vec![in alloc; Id([0x99; 32])]?, eight)?;
     let draft = skip_to(&rt, draft, at(10));
     let draft = split_to(&rt, draft, &roll, at(12))?;
     let draft = skip_to(&rt, draft, at(20));
@@ -94,10 +71,6 @@ fn a_message_from_front_to_back(rt: HostRuntime) -> Result<(), Fail> {
             payload: Payload::Ids(vec![in alloc; Id([5; 32]), Id([6; 32])]?),
         },
         Range {
-            upper: at(8),
-            payload: Payload::Ids(vec![in alloc; Id([0x99; 32])]?),
-        },
-        Range {
             upper: at(10),
             payload: Payload::Skip,
         },
@@ -110,9 +83,62 @@ fn a_message_from_front_to_back(rt: HostRuntime) -> Result<(), Fail> {
     Ok(())
 }
 
+/// 400 items at the times from 0 on, of distinct ids.
+fn many_items(rt: &impl AllocGlobal) -> Result<Roll, Fail> {
+    let mut items = Vec::new(rt.alloc());
+    for i in 0..400 {
+        let mut id = [7; 32];
+        id[0] = (i % 256) as u8;
+        id[1] = (i / 256) as u8;
+        items.push(Item {
+            time: i,
+            id: Id(id),
+        })?;
+    }
+    Ok(Roll::from_items(rt.alloc(), &items)?)
+}
+
+#[test]
+fn a_message_that_is_cut(rt: HostRuntime) -> Result<(), Fail> {
+    let alloc = rt.alloc();
+    let roll = many_items(&rt)?;
+    // (what is skipped, up to where it is told, which ranges stand then, the ids of the first list)
+    let cases: [(u32, u32, &[(u32, u8)], usize); 5] = [
+        // 124 ids fit, and 122 behind a Skip
+        (0, 400, &[(124, 2), (u32::MAX, 1)], 124),
+        (124, 400, &[(124, 0), (246, 2), (u32::MAX, 1)], 122),
+        // just as many as fit
+        (0, 124, &[(124, 2)], 124),
+        (0, 125, &[(124, 2), (u32::MAX, 1)], 124),
+        (368, 400, &[(368, 0), (400, 2)], 32),
+    ];
+    for (from, to, expected, count) in cases {
+        let draft = Draft::new(alloc, 4096);
+        let draft = if from > 0 { skip_to(&rt, draft, at(from)) } else { draft };
+        let draft = own_ids_to(&rt, draft, &roll, at(to))?;
+        let message = draft.into_message();
+        assert!(rt; message.ranges().len() == expected.len(), "{from} {to}");
+        for (range, (time, mode)) in message.ranges().iter().zip(expected) {
+            let upper = if *time == u32::MAX { Bound::Infinite } else { at(*time) };
+            assert!(rt; range.upper == upper, "{from} {to}");
+            let told = match &range.payload {
+                Payload::Skip => 0,
+                Payload::Print(_) => 1,
+                Payload::Ids(list) => {
+                    assert!(rt; list.len() == count, "{from} {to}");
+                    2
+                }
+            };
+            assert!(rt; told == *mode, "{from} {to}");
+        }
+        assert!(rt; neg_codec::encode(alloc, &message)?.len() <= 4096);
+    }
+    Ok(())
+}
+
 #[test]
 fn nothing_told(rt: HostRuntime) {
-    let draft = skip_to(&rt, Draft::new(rt.alloc()), Bound::Infinite);
+    let draft = skip_to(&rt, Draft::new(rt.alloc(), 60_000), Bound::Infinite);
     assert!(rt; draft.end() == Bound::Infinite && draft.is_blank());
     assert!(rt; draft.into_message().ranges().is_empty());
 }
@@ -187,7 +213,7 @@ fn sixteen_fingerprints(rt: HostRuntime) -> Result<(), Fail> {
     ];
     let draft = split_to(
         &rt,
-        Draft::new(rt.alloc()),
+        Draft::new(rt.alloc(), 60_000),
         &forty_items(&rt)?,
         Bound::Infinite,
     )?;

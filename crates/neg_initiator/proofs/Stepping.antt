@@ -1,76 +1,52 @@
 -- A reply, range by range: what was found, and what the next ask leaves out.
-use Rattle.std.proofs.Common.{◌≡◌, ℕ, ◌≤◌, ◌⊎◌, ◌++◌, inl, inr, List, [], ◌∷◌, refl, sym, ap, subst, ◌∙◌, arith}
+use Rattle.std.proofs.Common.{◌≡◌, ℕ, ◌<◌, ◌≤◌, ◌⊎◌, ◌++◌, inl, inr, Bool, cond, List, [], ◌∷◌, length, refl, sym, ap, subst, ◌∙◌, arith}
 use Rattle.std.specs.Prelude.{Contains, All}
+use Rattle.std.proofs.lemmas.Bool.{le-ltb}
 use Rattle.neg_codec.proofs.Stretches.{one_stretch, some_stretch, key_below}
 use Rattle.neg_codec.specs.declared.Id.{Id}
 use Rattle.neg_codec.specs.declared.Item.{Item}
-use Rattle.neg_codec.specs.Keys.{place, least, infinity}
+use Rattle.neg_codec.specs.Keys.{place, least, infinity, IsKey}
 use Rattle.neg_codec.specs.Ranges.{Claim, skip, print, ids, Span, Stretch, stretches, Lies, IsSkip, Ascends}
+use Rattle.neg_codec.specs.Encoding.{text_of}
 use Rattle.item_roll.specs.Truth.{IsTrueOf, Meet}
-use Rattle.neg_draft.specs.Coverage.{Written, end_of, IsDraft, Covers}
-use Rattle.neg_draft.proofs.Covering.{covers_none, covers_passes, covers_tells, end-append, stretch_of, beyond, told_whole, skipped_left_out, left_out_skipped, passed_place}
+use Rattle.neg_draft.specs.Coverage.{Written, end_of, passed, IsDraft, Covers, Whole, Cut, Told}
+use Rattle.neg_draft.proofs.Covering.{covers_none, covers_passes, covers_whole, covers_cut, end-append, stretch_of, beyond, told_whole, skipped_left_out, left_out_skipped, passed_place}
 use Rattle.neg_draft.proofs.Walking.{ascends_after}
-use Rattle.neg_initiator.specs.Listed.{IsListed, IsUnlisted}
 use Rattle.neg_initiator.specs.Session.{IsAnswered, NotAskedAgain}
 use Rattle.neg_initiator.specs.Settling.{Findings, AccountsFor, Finds, Settles}
-use Rattle.neg_initiator.specs.Trusting.{begun_at, between, bounds_of, TrustsSkipped, IsOwnPrint}
-use Rattle.neg_initiator.proofs.Meeting.{meet_bounds}
+use Rattle.neg_initiator.specs.Trusting.{begun_at, bounds_of, below, TrustsSkipped}
+use Rattle.neg_initiator.specs.Walked.{IsBelow, MayDrop, MustDrop, Found, IsRead}
+use Rattle.neg_initiator.proofs.Trusts.{earlier_above}
 use Rattle.neg_initiator.proofs.Step.{Accounts, Accounted}
 
--- a key that the next ask may leave out: its stretch of the reply is accounted for
-abbrev pub MayDrop : List Item → List Span → List Span → Findings → Item → Type 0
-MayDrop a asked answered f k = (s : Stretch) × Contains (stretches answered) s × Lies k s × Accounts a asked f.trusted f.need f.have s.lower s.upper s.claim
-
--- and one that it must: its stretch was answered
-abbrev pub MustDrop : List Item → List Span → Item → Type 0
-MustDrop a answered k = (s : Stretch) × Contains (stretches answered) s × Lies k s × IsAnswered a s
-
--- what was found by the ranges before a place
-pub record Found (a : List Item) (answered : List Span) (old new : Findings) : Type 0 where
-  pub need_kept : (i : Id) → Contains old.need i → Contains new.need i
-  pub have_kept : (i : Id) → Contains old.have i → Contains new.have i
-  pub trusted_kept : (x : Item × Item) → Contains old.trusted x → Contains new.trusted x
-  pub need_new : (i : Id) → Contains new.need i → Contains old.need i ⊎ IsListed a answered i
-  pub have_new : (i : Id) → Contains new.have i → Contains old.have i ⊎ IsUnlisted a answered i
-  pub trusted_new : (x : Item × Item) → Contains new.trusted x → Contains old.trusted x ⊎ ((s : Stretch) × (bounds_of s ≡ x) × IsOwnPrint a answered s)
-
 -- The next ask after the ranges of the reply before a place.
-pub record Progress (a : List Item) (asked answered front : List Span) (old f : Findings) (d : Written) : Type 0 where
+pub record Progress (limit : ℕ) (a : List Item) (answered front : List Span) (old f : Findings) (d : Written) : Type 0 where
+  pub bytes : d.limit ≡ limit
   pub found : Found a answered old f
-  pub covers : Covers (IsTrueOf a) (MayDrop a asked answered f) (MustDrop a answered) d
+  pub covers : Covers (IsTrueOf a) (MayDrop a answered (end_of least front) f) (MustDrop a answered) d
   pub reached : place d.end ≡ place (end_of least front)
 
-pub progress_none : (a : List Item) (asked answered : List Span) (f : Findings) → Progress a asked answered [] f f (record { spans = []; end = least })
-progress_none a asked answered f = record {
+-- and once one more was read, with which it may have come to its end
+pub record Stepped (limit : ℕ) (a : List Item) (answered : List Span) (until : Item) (old f : Findings) (d : Written) : Type 0 where
+  pub bytes : d.limit ≡ limit
+  pub found : Found a answered old f
+  pub covers : Covers (IsTrueOf a) (MayDrop a answered until f) (MustDrop a answered) d
+  pub reached : (place d.end ≡ place until) ⊎ (place infinity ≤ place d.end)
+
+pub progress_none : (limit : ℕ) (a : List Item) (answered : List Span) (f : Findings) → Progress limit a answered [] f f (record { limit = limit; spans = []; end = least })
+progress_none limit a answered f = record {
+  bytes = refl;
   found = record { need_kept = λ i h. h; have_kept = λ i h. h; trusted_kept = λ x h. h; need_new = λ i h. inl h; have_new = λ i h. inl h; trusted_new = λ x h. inl h };
-  covers = covers_none (IsTrueOf a) (MayDrop a asked answered f) (MustDrop a answered);
+  covers = covers_none (IsTrueOf a) (MayDrop a answered least f) (MustDrop a answered) limit;
   reached = refl;
 }
 
 -- what accounts for a stretch still does when more is found
-accounts_grow : (a : List Item) (asked : List Span) (f g : Findings) (l u : Item) (c : Claim) → ((i : Id) → Contains f.need i → Contains g.need i) → ((i : Id) → Contains f.have i → Contains g.have i)
-    → ((x : Item × Item) → Contains f.trusted x → Contains g.trusted x) → Accounts a asked f.trusted f.need f.have l u c → Accounts a asked g.trusted g.need g.have l u c
-accounts_grow a asked f g l u skip n h t acc = λ s p hs m e. t (s.lower, s.upper) (acc s p hs m e)
-accounts_grow a asked f g l u (print p) n h t acc = (acc.0, t (l, u) acc.1)
-accounts_grow a asked f g l u (ids is) n h t acc = (λ i hi lacks. n i (acc.0 i hi lacks), λ i hi lacks. h i (acc.1 i hi lacks))
-
--- the prints asked that a Skip of the reply meets were trusted before
-accounts_skip : (a : List Item) (asked answered : List Span) (f : Findings) (before : List (Item × Item)) (s : Stretch) → TrustsSkipped asked answered (stretches asked) before f.trusted
-    → Contains (stretches answered) s → IsSkip s → Accounts a asked f.trusted f.need f.have s.lower s.upper skip
-accounts_skip a asked answered f before s t h is_skip = λ u p hu m e.
-    t.whole u p hu e (s, h, is_skip, meet_bounds (between s.lower s.upper) s u u refl refl refl refl m)
-
-skips_trusted : (asked answered : List Span) (before now more : List (Item × Item)) → TrustsSkipped asked answered (stretches asked) before now → ((x : Item × Item) → Contains now x → Contains more x)
-    → (u : Stretch) (p : List ℕ) → Contains (stretches asked) u → u.claim ≡ print p → (s : Stretch) → Contains (stretches answered) s → IsSkip s → Meet s u → Contains more (bounds_of u)
-skips_trusted asked answered before now more t k u p hu e s h is_skip m = k (bounds_of u) (t.whole u p hu e (s, h, is_skip, m))
-
--- what is owed to the stretch of a range, with what the Skips owe to the last ask
-accounts_at : (a : List Item) (asked answered : List Span) (before : List (Item × Item)) (old f : Findings) (s : Stretch) (c : Claim) → s.claim ≡ c → TrustsSkipped asked answered (stretches asked) before old.trusted
-    → ((x : Item × Item) → Contains old.trusted x → Contains f.trusted x) → Contains (stretches answered) s → AccountsFor a f s.lower s.upper c → Accounts a asked f.trusted f.need f.have s.lower s.upper c
-accounts_at a asked answered before old f s skip e t k h acc = λ u p hu m is.
-    skips_trusted asked answered before old.trusted f.trusted t k u p hu is s h e (meet_bounds (between s.lower s.upper) s u u refl refl refl refl m)
-accounts_at a asked answered before old f s (print p) e t k h acc = acc
-accounts_at a asked answered before old f s (ids is) e t k h acc = acc
+accounts_grow : (a : List Item) (f g : Findings) (l u : Item) (c : Claim) → ((i : Id) → Contains f.need i → Contains g.need i) → ((i : Id) → Contains f.have i → Contains g.have i)
+    → ((x : Item × Item) → Contains f.trusted x → Contains g.trusted x) → AccountsFor a f l u c → AccountsFor a g l u c
+accounts_grow a f g l u skip n h t acc = tt
+accounts_grow a f g l u (print p) n h t acc = (acc.0, t (l, u) acc.1)
+accounts_grow a f g l u (ids is) n h t acc = (λ i hi lacks. n i (acc.0 i hi lacks), λ i hi lacks. h i (acc.1 i hi lacks))
 
 true_skip : (a : List Item) (s : Stretch) → IsSkip s → IsTrueOf a s
 true_skip a s h = subst (λ (c : Claim). IsTrueOf a (record { lower = s.lower; upper = s.upper; claim = c })) (sym h) tt
@@ -88,74 +64,140 @@ found_more a answered lower r old now new h was one = record {
   ];
 }
 
-grown : (a : List Item) (asked answered : List Span) (f g : Findings) (lower : Item) (r : Span) (d : Written) → Finds a lower r f g
-    → Covers (IsTrueOf a) (MayDrop a asked answered f) (MustDrop a answered) d → Covers (IsTrueOf a) (MayDrop a asked answered g) (MustDrop a answered) d
-grown a asked answered f g lower r d one c = record {
+-- what may be dropped may be once more was read
+further : (a : List Item) (answered : List Span) (l u : Item) (f : Findings) (k : Item) → place l ≤ place u → MayDrop a answered l f k → MayDrop a answered u f k
+further a answered l u f k le m = (m.0, m.1, m.2, (λ j key lies. omega (arith, m.3 j key lies, le)), m.4)
+
+-- and once more was found
+grown : (a : List Item) (answered : List Span) (l u : Item) (f g : Findings) (lower : Item) (r : Span) (d : Written) → place l ≤ place u → Finds a lower r f g
+    → Covers (IsTrueOf a) (MayDrop a answered l f) (MustDrop a answered) d → Covers (IsTrueOf a) (MayDrop a answered u g) (MustDrop a answered) d
+grown a answered l u f g lower r d le one c = record {
   told = c.told;
-  may = λ k key lt out. let m = c.may k key lt out in (m.0, m.1, m.2, accounts_grow a asked f g m.0.lower m.0.upper m.0.claim one.need_kept one.have_kept one.trusted_kept m.3);
+  may = λ k key lt out.
+      let m = further a answered l u f k le (c.may k key lt out) in (m.0, m.1, m.2, m.3, accounts_grow a f g m.0.lower m.0.upper m.0.claim one.need_kept one.have_kept one.trusted_kept m.4);
   must = c.must;
 }
 
 -- one range of the reply more
-pub progress_more : (a : List Item) (asked front : List Span) (r : Span) (back : List Span) (before : List (Item × Item)) (old f g : Findings) (d new : Written)
-    → Ascends least (front ++ (r ∷ back)) → IsDraft d → TrustsSkipped asked (front ++ (r ∷ back)) (stretches asked) before old.trusted
-    → Progress a asked (front ++ (r ∷ back)) front old f d → Finds a (end_of least front) r f g → Settles a (end_of least front) r g d new
-    → Progress a asked (front ++ (r ∷ back)) (front ++ (r ∷ [])) old g new
-progress_more a asked front r back before old f g d new up draft trusts was one (inl p) =
-    let le : place d.end ≤ place r.upper = omega (arith, was.reached, ascends_after least front r back up) in
+pub progress_more : (limit : ℕ) (a : List Item) (front : List Span) (r : Span) (back : List Span) (old f g : Findings) (d new : Written)
+    → Ascends least (front ++ (r ∷ back)) → IsDraft d
+    → Progress limit a (front ++ (r ∷ back)) front old f d → Finds a (end_of least front) r f g → Settles a (end_of least front) r g d new
+    → Stepped limit a (front ++ (r ∷ back)) r.upper old g new
+progress_more limit a front r back old f g d new up draft was one (inl p) =
+    let ahead : place (end_of least front) ≤ place r.upper = ascends_after least front r back up in
+    let le : place d.end ≤ place r.upper = omega (arith, was.reached, ahead) in
     let here = stretch_of least front r back in
-    let kept : (x : Item × Item) → Contains old.trusted x → Contains g.trusted x = λ x h. one.trusted_kept x (was.found.trusted_kept x h) in
-    let covers = covers_passes (IsTrueOf a) (MayDrop a asked (front ++ (r ∷ back)) g) (MustDrop a (front ++ (r ∷ back))) d r.upper draft le
-    (grown a asked (front ++ (r ∷ back)) f g (end_of least front) r d one was.covers)
+    let covers = covers_passes (IsTrueOf a) (MayDrop a (front ++ (r ∷ back)) r.upper g) (MustDrop a (front ++ (r ∷ back))) d r.upper draft le
+    (grown a (front ++ (r ∷ back)) (end_of least front) r.upper f g (end_of least front) r d ahead one was.covers)
     (λ k key ge lt.
     let lies : Lies k (begun_at (end_of least front) r) = (omega (arith, was.reached, ge), lt) in
-    (begun_at (end_of least front) r, here, lies, accounts_at a asked (front ++ (r ∷ back)) before old g (begun_at (end_of least front) r) r.claim refl trusts kept here (p.accounts k lies))) in
-    subst (λ (n : Written). Progress a asked (front ++ (r ∷ back)) (front ++ (r ∷ [])) old g n) (sym p.now)
-    (record {
+    (begun_at (end_of least front) r, here, lies, (λ j jkey jlies. jlies.1), p.accounts k lies)) in
+    record {
+      bytes = ap (λ (w : Written). w.limit) p.now ∙ was.bytes;
       found = found_more a (front ++ (r ∷ back)) (end_of least front) r old f g here was.found one;
-      covers = covers;
-      reached = passed_place d r.upper le ∙ ap place (sym (end-append least front (r ∷ [])));
-    })
-progress_more a asked front r back before old f g d new up draft trusts was one (inr t) =
-    let le : place d.end ≤ place r.upper = omega (arith, was.reached, ascends_after least front r back up) in
+      covers = subst (λ (n : Written). Covers (IsTrueOf a) (MayDrop a (front ++ (r ∷ back)) r.upper g) (MustDrop a (front ++ (r ∷ back))) n) (sym p.now) covers;
+      reached = inl (ap (λ (w : Written). place w.end) p.now ∙ passed_place d r.upper le);
+    }
+progress_more limit a front r back old f g d new up draft was one (inr t) =
+    let ahead : place (end_of least front) ≤ place r.upper = ascends_after least front r back up in
+    let le : place d.end ≤ place r.upper = omega (arith, was.reached, ahead) in
     let here = stretch_of least front r back in
-    let covers = covers_tells (IsTrueOf a) (MayDrop a asked (front ++ (r ∷ back)) g) (MustDrop a (front ++ (r ∷ back))) d r.upper t.0.spans draft le t.0.tells
-    (grown a asked (front ++ (r ∷ back)) f g (end_of least front) r d one was.covers) (true_skip a) t.0.holds
-    (λ k key ge lt q. t.1 (subst (IsAnswered a) (one_stretch (front ++ (r ∷ back)) up k q.0 (begun_at (end_of least front) r) q.1 here q.2 (omega (arith, was.reached, ge), lt)) q.3)) in
-    subst (λ (n : Written). Progress a asked (front ++ (r ∷ back)) (front ++ (r ∷ [])) old g n) (sym t.0.now)
-    (record {
-      found = found_more a (front ++ (r ∷ back)) (end_of least front) r old f g here was.found one;
-      covers = covers;
-      reached = ap place (sym (end-append least front (r ∷ [])));
-    })
+    let now = grown a (front ++ (r ∷ back)) (end_of least front) r.upper f g (end_of least front) r d ahead one was.covers in
+    let found = found_more a (front ++ (r ∷ back)) (end_of least front) r old f g here was.found one in
+    told t.0 le found now
+    (λ k key ge lt q. t.1 (subst (IsAnswered a) (one_stretch (front ++ (r ∷ back)) up k q.0 (begun_at (end_of least front) r) q.1 here q.2 (omega (arith, was.reached, ge), lt)) q.3))
+  where
+    told : Told a d r.upper new → place d.end ≤ place r.upper → Found a (front ++ (r ∷ back)) old g → Covers (IsTrueOf a) (MayDrop a (front ++ (r ∷ back)) r.upper g) (MustDrop a (front ++ (r ∷ back))) d
+        → ((k : Item) → IsKey k → place d.end ≤ place k → place k < place r.upper → MustDrop a (front ++ (r ∷ back)) k → ⊥) → Stepped limit a (front ++ (r ∷ back)) r.upper old g new
+    told (inl w) le found now none = record {
+      bytes = ap (λ (x : Written). x.limit) w.now ∙ was.bytes;
+      found = found;
+      covers = covers_whole (MayDrop a (front ++ (r ∷ back)) r.upper g) (MustDrop a (front ++ (r ∷ back))) a d new r.upper draft le w now (true_skip a) none;
+      reached = inl (ap (λ (x : Written). place x.end) w.now);
+    }
+    told (inr c) le found now none = record {
+      bytes = ap (λ (x : Written). x.limit) c.now ∙ was.bytes;
+      found = found;
+      covers = covers_cut (MayDrop a (front ++ (r ∷ back)) r.upper g) (MustDrop a (front ++ (r ∷ back))) a d new r.upper draft c now (true_skip a) none;
+      reached = inr (omega (arith, ap (λ (x : Written). place x.end) c.now));
+    }
 
--- What the next ask is, once the whole reply was walked.
-pub record Walked (a : List Item) (asked answered next : List Span) (old f : Findings) : Type 0 where
-  pub found : Found a answered old f
+-- where keys are left, the next range follows
+pub step_on : (limit : ℕ) (a : List Item) (answered front : List Span) (r : Span) (old f : Findings) (d : Written) → Stepped limit a answered r.upper old f d → (place infinity ≤ place d.end → ⊥) → Progress limit a answered (front ++ (r ∷ [])) old f d
+step_on limit a answered front r old f d s fin =
+    let e : end_of least (front ++ (r ∷ [])) ≡ r.upper = end-append least front (r ∷ []) in
+    record {
+      bytes = s.bytes;
+      found = s.found;
+      covers = subst (λ (x : Item). Covers (IsTrueOf a) (MayDrop a answered x f) (MustDrop a answered) d) (sym e) s.covers;
+      reached = elim s.reached [ inl here ↦ here ∙ ap place (sym e) | inr over ↦ absurd (fin over) ];
+    }
+
+-- a draft that has come to infinity goes no further
+stays : (d : Written) → place infinity ≤ place d.end → d ≡ passed d infinity
+stays d le = ap (λ (b : Bool). record { limit = d.limit; spans = d.spans; end = cond b infinity d.end }) (sym (le-ltb (place d.end) (place infinity) le))
+
+-- the reply was read up to where the next ask came to its end
+pub read_until : (limit : ℕ) (a : List Item) (answered : List Span) (until : Item) (old f : Findings) (d : Written) → Stepped limit a answered until old f d → place infinity ≤ place d.end → IsRead limit a answered old f until d
+read_until limit a answered until old f d s over = record {
+  bytes = s.bytes;
+  found = s.found;
+  covers = subst (λ (w : Written). Covers (IsTrueOf a) (MayDrop a answered until f) (MustDrop a answered) w) (stays d over) s.covers;
+}
+
+-- or to its end
+pub read_whole : (limit : ℕ) (a : List Item) (answered : List Span) (old f : Findings) (d : Written) → IsDraft d → Progress limit a answered answered old f d → IsRead limit a answered old f infinity d
+read_whole limit a answered old f d draft was =
+    let now : Covers (IsTrueOf a) (MayDrop a answered infinity f) (MustDrop a answered) d = record {
+      told = was.covers.told;
+      may = λ k key lt out. further a answered (end_of least answered) infinity f k (omega (arith, was.reached, draft.low)) (was.covers.may k key lt out);
+      must = was.covers.must;
+    } in
+    record {
+      bytes = was.bytes;
+      found = was.found;
+      covers = covers_passes (IsTrueOf a) (MayDrop a answered infinity f) (MustDrop a answered) d infinity draft draft.low now
+          (λ k key ge lt.
+          let s = beyond least answered k key (omega (arith, was.reached, ge)) in (
+            s.0,
+            s.1,
+            s.3,
+            (λ j jkey jlies. key_below j jkey),
+            subst (λ (c : Claim). AccountsFor a f s.0.lower s.0.upper c) (sym s.2) tt,
+          ));
+    }
+
+-- what is owed to a stretch that was read, with what the Skips owe to the last ask
+accounts_at : (a : List Item) (asked answered : List Span) (until : Item) (mid new : Findings) (s : Stretch) (c : Claim) → s.claim ≡ c → TrustsSkipped asked answered until (stretches asked) mid.trusted new.trusted
+    → new.need ≡ mid.need → new.have ≡ mid.have → Contains (stretches answered) s → IsBelow until s → AccountsFor a mid s.lower s.upper c → Accounts a asked new.trusted new.need new.have s.lower s.upper c
+accounts_at a asked answered until mid new s skip e t n h has low acc = λ u p hu m is.
+    t.whole u p hu is (s, has, e, (m.0, m.1, m.2, (m.3.0, earlier_above until u.upper m.0 (low m.0 m.1 m.2) m.3.1)))
+accounts_at a asked answered until mid new s (print p) e t n h has low acc = (acc.0, t.kept (s.lower, s.upper) acc.1)
+accounts_at a asked answered until mid new s (ids is) e t n h has low acc = (
+  λ i hi lacks. subst (λ (xs : List Id). Contains xs i) (sym n) (acc.0 i hi lacks),
+  λ i hi lacks. subst (λ (xs : List Id). Contains xs i) (sym h) (acc.1 i hi lacks),
+)
+
+-- What the next ask is, once the reply was read.
+pub record Walked (limit : ℕ) (a : List Item) (asked answered next : List Span) (f : Findings) : Type 0 where
   pub truth : All (IsTrueOf a) (stretches next)
   pub accounted : Accounted a asked answered next f.trusted f.need f.have
-  pub not_again : NotAskedAgain a answered next
+  pub not_again : NotAskedAgain limit (length (text_of next)) a answered next
 
-pub walked : (a : List Item) (asked answered : List Span) (before : List (Item × Item)) (old f : Findings) (d : Written) → IsDraft d → TrustsSkipped asked answered (stretches asked) before old.trusted
-    → Progress a asked answered answered old f d → Walked a asked answered d.spans old f
-walked a asked answered before old f d draft trusts was =
-    let c = covers_passes (IsTrueOf a) (MayDrop a asked answered f) (MustDrop a answered) d infinity draft draft.low was.covers
-    (λ k key ge lt.
-    let s = beyond least answered k key (omega (arith, was.reached, ge)) in (
-      s.0,
-      s.1,
-      s.3,
-      subst (λ (c : Claim). Accounts a asked f.trusted f.need f.have s.0.lower s.0.upper c) (sym s.2)
-          (accounts_at a asked answered before old f s.0 skip s.2 trusts was.found.trusted_kept s.1 tt),
-    )) in
+pub walked : (limit : ℕ) (a : List Item) (asked answered : List Span) (until : Item) (old mid new : Findings) (d : Written) → IsDraft d → IsRead limit a answered old mid until d
+    → TrustsSkipped asked answered until (stretches asked) mid.trusted new.trusted → new.need ≡ mid.need → new.have ≡ mid.have → Walked limit a asked answered d.spans new
+walked limit a asked answered until old mid new d draft was trusts n h =
     let end = passed_place d infinity draft.low in
     record {
-      found = was.found;
       truth = told_whole (IsTrueOf a) d.spans (true_skip a) was.covers.told;
       accounted = record {
         each = λ k key skipped.
             let s = some_stretch d.spans k key in
-            c.may k key (omega (arith, end, key_below k key)) (skipped_left_out d.spans k s.0 s.1 (skipped s.0 s.1 s.2) s.2);
+            let m = was.covers.may k key (omega (arith, end, key_below k key)) (skipped_left_out d.spans k s.0 s.1 (skipped s.0 s.1 s.2) s.2) in
+            (m.0, m.1, m.2, accounts_at a asked answered until mid new m.0 m.0.claim refl trusts n h m.1 m.3 m.4);
       };
-      not_again = λ s k h answers key lies. left_out_skipped d.spans k key (c.must k key (omega (arith, end, key_below k key)) (s, h, lies, answers));
+      not_again = λ s k has answers key lies. elim (was.covers.must k key (omega (arith, end, key_below k key)) (s, has, lies, answers)) [
+        | inl out ↦ inl (left_out_skipped d.spans k key out)
+        | inr cut ↦ inr (record { front = cut.front; left = cut.left; ends = cut.ends; has = cut.has; full = omega (arith, cut.full, was.bytes) })
+      ];
     }

@@ -1,5 +1,5 @@
 -- What a session is after a reply that was walked.
-use Rattle.std.proofs.Common.{◌≡◌, ℕ, suc, ◌+◌, ◌<◌, ◌⊎◌, ◌++◌, inl, inr, List, [], ◌∷◌, length, map, take, drop, get_or, refl, sym, ap, subst, ◌∙◌, arith}
+use Rattle.std.proofs.Common.{◌≡◌, ℕ, suc, ◌+◌, ◌<◌, ◌≤◌, ◌⊎◌, ◌++◌, inl, inr, List, [], ◌∷◌, length, map, take, drop, get_or, refl, sym, ap, subst, ◌∙◌, arith}
 use Rattle.std.specs.Prelude.{Contains, All}
 use Rattle.std.proofs.lemmas.List.Elements.{All-contains, All-weaker, All-contains_itself}
 use Rattle.neg_codec.proofs.Stretches.{contains_head, contains_tail, contains_cases, contains_none}
@@ -7,12 +7,12 @@ use Rattle.neg_codec.specs.declared.Id.{Id}
 use Rattle.neg_codec.specs.declared.Item.{Item}
 use Rattle.neg_codec.specs.declared.Range.{Range}
 use Rattle.neg_codec.specs.Keys.{place, least, infinity}
-use Rattle.neg_codec.specs.Ranges.{Claim, print, Span, Stretch, stretches, stretches_from, IsSkip, Ascends, span_of}
+use Rattle.neg_codec.specs.Ranges.{Claim, print, Span, Stretch, stretches, stretches_from, IsSkip, Ascends, edge_of, span_of}
 use Rattle.neg_print.specs.Print.{print_of}
 use Rattle.item_roll.specs.Closed.{closed_from}
 use Rattle.item_roll.specs.Parts.{IsRoll, part, ids_of}
 use Rattle.item_roll.specs.Truth.{Says, IsTrueOf, Follows}
-use Rattle.neg_draft.specs.Coverage.{Written, end_of, gap, IsDraft, Told}
+use Rattle.neg_draft.specs.Coverage.{Written, end_of, gap, all_left, IsDraft, Tells, Told}
 use Rattle.neg_draft.proofs.Covering.{stretch_of}
 use Rattle.neg_draft.proofs.Walking.{ranges_at, ranges_upto}
 use Rattle.neg_initiator.specs.Listed.{PassesMost}
@@ -25,7 +25,8 @@ use Rattle.neg_initiator.specs.Settling.{Findings, Finds, Settles, ListsTooMany}
 use Rattle.neg_initiator.specs.Trusting.{begun_at, bounds_of, TrustsSkipped, IsSkippedPrint, IsOwnPrint}
 use Rattle.neg_initiator.proofs.Meeting.{stretches-append}
 use Rattle.neg_initiator.proofs.Step.{settled_after}
-use Rattle.neg_initiator.proofs.Stepping.{Progress, Found, Walked, progress_more}
+use Rattle.neg_initiator.specs.Walked.{Found}
+use Rattle.neg_initiator.proofs.Stepping.{Progress, Stepped, Walked, progress_more, step_on}
 
 says_print : (items : List Item) (s : Stretch) (p : List ℕ) → s.claim ≡ print p → IsTrueOf items s → p ≡ print_of (ids_of (part items s.lower s.upper))
 says_print items s p e h = subst (λ (c : Claim). Says c (part items s.lower s.upper)) e h
@@ -44,31 +45,32 @@ own_one_print a b asked answered s follows h = one_print_at a b s h.print_of h.c
 from_each : {X : Type 0} (P : X → Type 0) (xs : List X) → ((x : X) → Contains xs x → P x) → All P xs
 from_each P xs h = All-weaker (Contains xs) P h xs (All-contains_itself xs)
 
-pub taken_from : (a : List Item) (asked answered next : List Span) (old mid new : Findings) (most : ℕ) → IsRoll a → Ascends least asked → All (IsTrueOf a) (stretches asked)
-    → TrustsSkipped asked answered (stretches asked) old.trusted mid.trusted → mid.need ≡ old.need → mid.have ≡ old.have → Ascends least next → Walked a asked answered next mid new
-    → Taken answered (asking a asked old most) (asking a next new most)
-taken_from a asked answered next old mid new most roll up truth trusts need have ascends w = record {
+pub taken_from : (limit : ℕ) (a : List Item) (asked answered next : List Span) (until : Item) (old mid new : Findings) (most : ℕ) → 4096 ≤ limit → IsRoll a → Ascends least asked → All (IsTrueOf a) (stretches asked)
+    → Found a answered old mid → TrustsSkipped asked answered until (stretches asked) mid.trusted new.trusted → new.need ≡ mid.need → new.have ≡ mid.have → Ascends least next → Walked limit a asked answered next new
+    → Taken answered (asking limit a asked old most) (asking limit a next new most)
+taken_from limit a asked answered next until old mid new most enough roll up truth found trusts need have ascends w = record {
   roll = refl;
+  limit_is = refl;
   most = refl;
-  sound = record { roll = roll; ascends = ascends; truth = w.truth };
+  sound = record { roll = roll; ascends = ascends; truth = w.truth; enough = enough };
   not_again = w.not_again;
-  need_from = λ i h. elim (w.found.need_new i h) [ inl o ↦ inl (subst (λ (xs : List Id). Contains xs i) need o) | inr l ↦ inr l ];
-  trusted_kept = λ x h. w.found.trusted_kept x (trusts.kept x h);
+  need_from = λ i h. found.need_new i (subst (λ (xs : List Id). Contains xs i) need h);
+  trusted_kept = λ x h. trusts.kept x (found.trusted_kept x h);
   advances = λ b rb follows. record {
-    one_print = from_each (λ t. Contains old.trusted t ⊎ HasOnePrint a b t) new.trusted (λ x h. elim (w.found.trusted_new x h) [
-      | inl m ↦ elim (trusts.right x m) [
+    one_print = from_each (λ t. Contains old.trusted t ⊎ HasOnePrint a b t) new.trusted (λ x h. elim (trusts.right x h) [
+      | inl m ↦ elim (found.trusted_new x m) [
         | inl o ↦ inl o
-        | inr s ↦ inr (subst (HasOnePrint a b) s.1 (skipped_one_print a b asked answered s.0 truth follows s.2))
+        | inr s ↦ inr (subst (HasOnePrint a b) s.1 (own_one_print a b asked answered s.0 follows s.2))
       ]
-      | inr s ↦ inr (subst (HasOnePrint a b) s.1 (own_one_print a b asked answered s.0 follows s.2))
+      | inr s ↦ inr (subst (HasOnePrint a b) s.1 (skipped_one_print a b asked answered s.0 truth follows s.2))
     ]);
     settled = λ told one was.
         settled_after a b asked answered next new.trusted old.need old.have new.need new.have roll.keys rb.keys one up truth follows told
         (record {
-          need_kept = λ i h. w.found.need_kept i (subst (λ (xs : List Id). Contains xs i) (sym need) h);
-          have_kept = λ i h. w.found.have_kept i (subst (λ (xs : List Id). Contains xs i) (sym have) h);
-          need_new = from_each _ new.need (λ i h. elim (w.found.need_new i h) [ inl o ↦ inl (subst (λ (xs : List Id). Contains xs i) need o) | inr l ↦ inr l ]);
-          have_new = from_each _ new.have (λ i h. elim (w.found.have_new i h) [ inl o ↦ inl (subst (λ (xs : List Id). Contains xs i) have o) | inr l ↦ inr l ]);
+          need_kept = λ i h. subst (λ (xs : List Id). Contains xs i) (sym need) (found.need_kept i h);
+          have_kept = λ i h. subst (λ (xs : List Id). Contains xs i) (sym have) (found.have_kept i h);
+          need_new = from_each _ new.need (λ i h. found.need_new i (subst (λ (xs : List Id). Contains xs i) need h));
+          have_new = from_each _ new.have (λ i h. found.have_new i (subst (λ (xs : List Id). Contains xs i) have h));
         }) w.accounted was;
   };
 }
@@ -89,17 +91,19 @@ too_many a front r back need old f most found e l = record {
 
 -- ---- the range at a place of the reply
 
-pub progress_at : (a : List Item) (asked : List Span) (ranges : List Range) (i : ℕ) (r : Range) (before : List (Item × Item)) (old f g : Findings) (d new : Written) → i < length ranges → r ≡ get_or ranges i r
-    → Ascends least (map span_of ranges) → IsDraft d → TrustsSkipped asked (map span_of ranges) (stretches asked) before old.trusted
-    → Progress a asked (map span_of ranges) (map span_of (take i ranges)) old f d → Finds a (end_of least (map span_of (take i ranges))) (span_of r) f g
-    → Settles a (end_of least (map span_of (take i ranges))) (span_of r) g d new → Progress a asked (map span_of ranges) (map span_of (take (i + 1) ranges)) old g new
-progress_at a asked ranges i r before old f g d new lt is up draft trusts was finds settles =
+pub stepped_at : (limit : ℕ) (a : List Item) (ranges : List Range) (i : ℕ) (r : Range) (old f g : Findings) (d new : Written) → i < length ranges → r ≡ get_or ranges i r → Ascends least (map span_of ranges) → IsDraft d
+    → Progress limit a (map span_of ranges) (map span_of (take i ranges)) old f d → Finds a (end_of least (map span_of (take i ranges))) (span_of r) f g
+    → Settles a (end_of least (map span_of (take i ranges))) (span_of r) g d new → Stepped limit a (map span_of ranges) (edge_of r.upper) old g new
+stepped_at limit a ranges i r old f g d new lt is up draft was finds settles =
     let e = ranges_at ranges i r lt is in
-    let more = progress_more a asked (map span_of (take i ranges)) (span_of r) (map span_of (drop (suc i) ranges)) before old f g d new
-    (subst (λ (x : List Span). Ascends least x) e up) draft (subst (λ (x : List Span). TrustsSkipped asked x (stretches asked) before old.trusted) e trusts)
-    (subst (λ (x : List Span). Progress a asked x (map span_of (take i ranges)) old f d) e was) finds settles in
-    subst (λ (x : List Span). Progress a asked x (map span_of (take (i + 1) ranges)) old g new) (sym e)
-    (subst (λ (x : List Span). Progress a asked (map span_of (take i ranges) ++ (span_of r ∷ map span_of (drop (suc i) ranges))) x old g new) (sym (ranges_upto ranges i r lt is)) more)
+    subst (λ (x : List Span). Stepped limit a x (edge_of r.upper) old g new) (sym e)
+    (progress_more limit a (map span_of (take i ranges)) (span_of r) (map span_of (drop (suc i) ranges)) old f g d new (subst (λ (x : List Span). Ascends least x) e up) draft
+    (subst (λ (x : List Span). Progress limit a x (map span_of (take i ranges)) old f d) e was) finds settles)
+
+pub progress_at : (limit : ℕ) (a : List Item) (ranges : List Range) (i : ℕ) (r : Range) (old f : Findings) (d : Written) → i < length ranges → r ≡ get_or ranges i r
+    → Stepped limit a (map span_of ranges) (edge_of r.upper) old f d → (place infinity ≤ place d.end → ⊥) → Progress limit a (map span_of ranges) (map span_of (take (i + 1) ranges)) old f d
+progress_at limit a ranges i r old f d lt is s fin =
+    subst (λ (x : List Span). Progress limit a (map span_of ranges) x old f d) (sym (ranges_upto ranges i r lt is)) (step_on limit a (map span_of ranges) (map span_of (take i ranges)) (span_of r) old f d s fin)
 
 pub too_many_at : (a : List Item) (ranges : List Range) (i : ℕ) (r : Range) (need : List Id) (old f : Findings) (most : ℕ) → i < length ranges → r ≡ get_or ranges i r → Found a (map span_of ranges) old f → old.need ≡ need
     → ListsTooMany a (end_of least (map span_of (take i ranges))) (span_of r) f.need most → PassesMost a (map span_of ranges) need most
@@ -127,8 +131,9 @@ open_of d draft = elim draft.open_unless_blank [ inl e ↦ inl e | inr o ↦ inr
 pub taken_any : (answered : List Span) (o n : Session) (p q : Phase) → Taken answered o n → Taken answered (record o { phase = p }) (record n { phase = q })
 taken_any answered o n p q t = record {
   roll = t.roll;
+  limit_is = t.limit_is;
   most = t.most;
-  sound = record { roll = t.sound.roll; ascends = t.sound.ascends; truth = t.sound.truth };
+  sound = record { roll = t.sound.roll; ascends = t.sound.ascends; truth = t.sound.truth; enough = t.sound.enough };
   not_again = t.not_again;
   need_from = t.need_from;
   trusted_kept = t.trusted_kept;
@@ -158,15 +163,23 @@ all_told P rs ends h =
     append_nil_stretches [] = refl
     append_nil_stretches (x ∷ xs) = ap (λ (t : List Stretch). x ∷ t) (append_nil_stretches xs)
 
+pub told_limit : (a : List Item) (e : Written) (upper : Item) (d : Written) → Told a e upper d → d.limit ≡ e.limit
+told_limit a e upper d (inl w) = ap (λ (x : Written). x.limit) w.now
+told_limit a e upper d (inr c) = ap (λ (x : Written). x.limit) c.now
+
 pub record Begun (a : List Item) (asked : List Span) : Type 0 where
   pub truth : All (IsTrueOf a) (stretches asked)
   pub skips_nothing : All (λ s. IsSkip s → ⊥) (stretches asked)
 
-pub begun : (a : List Item) (d e : Written) → e ≡ record { spans = []; end = least } → Told a e infinity d → Begun a d.spans
-begun a d e is told =
-    let t = subst (λ (w : Written). Told a w infinity d) is told in
-    let spans : d.spans ≡ t.spans = ap (λ (w : Written). w.spans) t.now ∙ ap (λ (g : List Span). g ++ t.spans) (gap_same least) in
-    subst (Begun a) (sym spans) (record {
-      truth = all_told (IsTrueOf a) t.spans t.tells.ends t.holds;
-      skips_nothing = all_told (λ s. IsSkip s → ⊥) t.spans t.tells.ends t.tells.none_skipped;
+pub begun : (a : List Item) (limit : ℕ) (d e : Written) → e ≡ record { limit = limit; spans = []; end = least } → Told a e infinity d → Begun a d.spans
+begun a limit d e is told =
+    elim (subst (λ (w : Written). Told a w infinity d) is told) [
+      | inl w ↦ begun_by w.spans w.tells w.holds (ap (λ (x : Written). x.spans) w.now ∙ ap (λ (g : List Span). g ++ w.spans) (gap_same least))
+      | inr c ↦ begun_by (c.front ++ all_left c.left) c.tells c.holds (ap (λ (x : Written). x.spans) c.now ∙ ap (λ (g : List Span). g ++ (c.front ++ all_left c.left)) (gap_same least))
+    ]
+  where
+    begun_by : (rs : List Span) → Tells least infinity rs → All (IsTrueOf a) (closed_from least rs) → d.spans ≡ rs → Begun a d.spans
+    begun_by rs tells holds spans = subst (Begun a) (sym spans) (record {
+      truth = all_told (IsTrueOf a) rs tells.ends holds;
+      skips_nothing = all_told (λ s. IsSkip s → ⊥) rs tells.ends tells.none_skipped;
     })

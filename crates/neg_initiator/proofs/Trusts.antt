@@ -1,6 +1,7 @@
 -- What is trusted, range by range of the last ask.
 use Rattle.std.proofs.Common.{suc, length, map, take, drop, get_or, ◌≡◌, ℕ, ◌<◌, ◌≤◌, IsTrue, inl, inr, Bool, true, false, cond, ltb, List, [], ◌∷◌, ◌++◌, append_assoc, refl, sym, ap, subst, ◌∙◌, arith}
 use Rattle.std.specs.Prelude.{Contains}
+use Rattle.std.proofs.lemmas.Bool.{ltb-true, ltb-false}
 use Rattle.std.proofs.lemmas.List.Elements.{Contains-append_cases}
 use Rattle.neg_codec.proofs.Stretches.{contains_cases, contains_none}
 use Rattle.neg_codec.specs.declared.Item.{Item}
@@ -11,7 +12,7 @@ use Rattle.neg_codec.specs.declared.Range.{Range}
 use Rattle.neg_draft.specs.Coverage.{end_of}
 use Rattle.neg_draft.proofs.Walking.{ranges_at}
 use Rattle.neg_draft.proofs.Covering.{closed-append, end-append, stretch_of}
-use Rattle.neg_initiator.specs.Trusting.{begun_at, between, bounds_of, IsSkippedIn, TrustsOne, TrustsSkipped}
+use Rattle.neg_initiator.specs.Trusting.{begun_at, between, below, earlier, bounds_of, IsSkippedIn, TrustsOne, TrustsSkipped}
 use Rattle.neg_initiator.proofs.Meeting.{meet_bounds, skipped-append, stretches-append, none_before}
 use Rattle.neg_initiator.proofs.Passing.{Iff}
 
@@ -58,20 +59,48 @@ at_more answered front back rest from lower last upper a e begins le = record {
   behind = le;
 }
 
+pub earlier_below : (a b : Item) → place (earlier a b) ≤ place b
+earlier_below a b = go (ltb (place a) (place b)) refl
+  where
+    go : (t : Bool) → ltb (place a) (place b) ≡ t → place (cond t a b) ≤ place b
+    go true e = omega (arith, ltb-true _ _ e)
+    go false e = omega arith
+
+pub earlier_first : (a b : Item) → place (earlier a b) ≤ place a
+earlier_first a b = go (ltb (place a) (place b)) refl
+  where
+    go : (t : Bool) → ltb (place a) (place b) ≡ t → place (cond t a b) ≤ place a
+    go true e = omega arith
+    go false e = omega (arith, ltb-false _ _ e)
+
+pub earlier_above : (a b k : Item) → place k < place a → place k < place b → place k < place (earlier a b)
+earlier_above a b k la lb = go (ltb (place a) (place b))
+  where
+    go : (t : Bool) → place k < place (cond t a b)
+    go true = la
+    go false = lb
+
+pub earlier_least : (a b k : Item) → place k ≤ place a → place k ≤ place b → place k ≤ place (earlier a b)
+earlier_least a b k la lb = go (ltb (place a) (place b))
+  where
+    go : (t : Bool) → place k ≤ place (cond t a b)
+    go true = la
+    go false = lb
+
 -- one range of the last ask more
-pub trusts_more : (front : List Span) (r : Span) (back : List Span) (answered : List Span) (old now new : List (Item × Item)) (met : Bool)
-    → TrustsSkipped (front ++ (r ∷ back)) answered (closed_from least front) old now
-    → Iff (IsTrue met) (IsSkippedIn (stretches answered) (between (end_of least front) r.upper))
+pub trusts_more : (front : List Span) (r : Span) (back : List Span) (answered : List Span) (until upper : Item) (old now new : List (Item × Item)) (met : Bool) → upper ≡ earlier until r.upper
+    → TrustsSkipped (front ++ (r ∷ back)) answered until (closed_from least front) old now
+    → Iff (IsTrue met) (IsSkippedIn (stretches answered) (between (end_of least front) upper))
     → TrustsOne met (end_of least front) r now new
-    → TrustsSkipped (front ++ (r ∷ back)) answered (closed_from least (front ++ (r ∷ []))) old new
-trusts_more front r back answered old now new met was h one = record {
+    → TrustsSkipped (front ++ (r ∷ back)) answered until (closed_from least (front ++ (r ∷ []))) old new
+trusts_more front r back answered until upper old now new met cut was h one = record {
   kept = λ x k. one.kept x (was.kept x k);
   whole = λ t p looked is skipped.
       elim (Contains-append_cases (closed_from least front) (begun_at (end_of least front) r ∷ []) t (subst (λ (ss : List Stretch). Contains ss t) (closed-append least front (r ∷ [])) looked)) [
         | inl before ↦ one.kept (bounds_of t) (was.whole t p before is skipped)
         | inr here ↦ elim (contains_cases (begun_at (end_of least front) r) [] t here) [
           | inl e ↦
-              let found = h.1 (skipped.0, skipped.1, skipped.2, meet_bounds skipped.0 skipped.0 t (between (end_of least front) r.upper) refl refl (ap (λ (x : Stretch). place x.lower) (sym e)) (ap (λ (x : Stretch). place x.upper) (sym e)) skipped.3) in
+              let found = h.1 (skipped.0, skipped.1, skipped.2, meet_bounds skipped.0 skipped.0 (below until t) (between (end_of least front) upper) refl refl (ap (λ (x : Stretch). place x.lower) (sym e)) (ap (λ (x : Stretch). place (earlier until x.upper)) (sym e) ∙ ap place (sym cut)) skipped.3) in
               subst (λ (b : Item × Item). Contains new b) (ap bounds_of e) (one.whole found p (ap (λ (x : Stretch). x.claim) e ∙ is))
           | inr n ↦ absurd (contains_none t n)
         ]
@@ -90,14 +119,14 @@ trusts_more front r back answered old now new met was h one = record {
             by = s.0;
             answers = s.1;
             skips = s.2;
-            meets = meet_bounds s.0 s.0 (between (end_of least front) r.upper) (begun_at (end_of least front) r) refl refl refl refl s.3;
+            meets = (s.3.0, s.3.1, s.3.2, (s.3.3.0, omega (arith, s.3.3.1, ap place cut, earlier_below until r.upper)));
           },
         )
   ];
 }
 
-pub trusts_none : (asked answered : List Span) (old : List (Item × Item)) → TrustsSkipped asked answered [] old old
-trusts_none asked answered old = record { kept = λ x k. k; whole = λ t p looked is skipped. absurd (contains_none t looked); right = λ x k. inl k }
+pub trusts_none : (asked answered : List Span) (until : Item) (old : List (Item × Item)) → TrustsSkipped asked answered until [] old old
+trusts_none asked answered until old = record { kept = λ x k. k; whole = λ t p looked is skipped. absurd (contains_none t looked); right = λ x k. inl k }
 
 in_implied : (lower : Item) (b : Bool) (t : Stretch) → Contains (cond b (between lower infinity ∷ []) []) t → IsSkip t
 in_implied lower true t h = elim (contains_cases (between lower infinity) [] t h) [ inl e ↦ ap (λ (x : Stretch). x.claim) (sym e) | inr n ↦ absurd (contains_none t n) ]
@@ -107,8 +136,8 @@ no_print : (c : Claim) (p : List ℕ) → c ≡ skip → c ≡ print p → ⊥
 no_print c p a b = cc
 
 -- the Skip that the last ask implies is no fingerprint
-pub trusts_all : (asked answered : List Span) (old new : List (Item × Item)) → TrustsSkipped asked answered (closed_from least asked) old new → TrustsSkipped asked answered (stretches asked) old new
-trusts_all asked answered old new was = record {
+pub trusts_all : (asked answered : List Span) (until : Item) (old new : List (Item × Item)) → TrustsSkipped asked answered until (closed_from least asked) old new → TrustsSkipped asked answered until (stretches asked) old new
+trusts_all asked answered until old new was = record {
   kept = was.kept;
   whole = λ t p looked is skipped.
       elim (Contains-append_cases (closed_from least asked) (stretches_from (end_of least asked) []) t

@@ -7,5 +7,5 @@ use Rattle.neg_initiator.specs.Settling.{Findings}
 use Rattle.neg_initiator.specs.declared.phase.Phase.TheVariants.{Asking}
 
 -- one that asks
-abbrev pub asking : List Item → List Span → Findings → ℕ → Session
-asking roll asked f most = record { roll = roll; asked = asked; need = f.need; have = f.have; trusted = f.trusted; most = most; phase = Asking }
+abbrev pub asking : ℕ → List Item → List Span → Findings → ℕ → Session
+asking limit roll asked f most = record { roll = roll; asked = asked; need = f.need; have = f.have; trusted = f.trusted; limit = limit; most = most; phase = Asking }

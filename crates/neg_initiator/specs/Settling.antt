@@ -40,7 +40,7 @@ pub record Accounts (a : List Item) (lower : Item) (r : Span) (f : Findings) (ol
   pub accounts : (k : Item) → Lies k (begun_at lower r) → AccountsFor a f lower r.upper r.claim
   pub now : new ≡ passed old r.upper
 
--- or the own part is told, where the reply didn't answer
+-- or the own part is told, as far as it fits, where the reply didn't answer
 abbrev pub Settles : List Item → Item → Span → Findings → Written → Written → Type 0
 Settles a lower r f old new = Accounts a lower r f old new ⊎ (Told a old r.upper new × (IsAnswered a (begun_at lower r) → ⊥))
 

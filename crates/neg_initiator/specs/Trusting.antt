@@ -1,6 +1,7 @@
 -- Which stretches of the last ask are trusted for what a reply skips.
-use Rattle.std.specs.Prelude.{◌≡◌, ◌⊎◌, ℕ, Bool, IsTrue, List, Contains}
+use Rattle.std.specs.Prelude.{◌≡◌, ◌⊎◌, ℕ, Bool, IsTrue, List, Contains, nat_lt, if◌then◌else◌}
 use Rattle.neg_codec.specs.declared.Item.{Item}
+use Rattle.neg_codec.specs.Keys.{place}
 use Rattle.neg_codec.specs.Ranges.{print, skip, Span, Stretch, stretches, IsSkip}
 use Rattle.item_roll.specs.Truth.{IsTrueOf, Meet}
 
@@ -32,6 +33,14 @@ IsTrustedBy roll asked answered x = (s : Stretch) × (bounds_of s ≡ x) × (IsS
 abbrev pub between : Item → Item → Stretch
 between lower upper = record { lower = lower; upper = upper; claim = skip }
 
+-- the earlier of two bounds
+abbrev pub earlier : Item → Item → Item
+earlier a b = if nat_lt (place a) (place b) then a else b
+
+-- what of a stretch lies below a bound
+abbrev pub below : Item → Stretch → Stretch
+below until t = between t.lower (earlier until t.upper)
+
 -- the stretch of a range that begins at a bound
 abbrev pub begun_at : Item → Span → Stretch
 begun_at lower r = record { lower = lower; upper = r.upper; claim = r.claim }
@@ -40,10 +49,10 @@ begun_at lower r = record { lower = lower; upper = r.upper; claim = r.claim }
 abbrev pub IsSkippedIn : List Stretch → Stretch → Type 0
 IsSkippedIn ss t = (s : Stretch) × Contains ss s × IsSkip s × Meet s t
 
--- the bounds that are trusted once the reply was looked at for these stretches of the last ask
-pub record TrustsSkipped (asked answered : List Span) (looked : List Stretch) (old new : List (Item × Item)) : Type 0 where
+-- the bounds that are trusted once the reply was looked at, up to a bound, for these stretches of the last ask
+pub record TrustsSkipped (asked answered : List Span) (until : Item) (looked : List Stretch) (old new : List (Item × Item)) : Type 0 where
   pub kept : (x : Item × Item) → Contains old x → Contains new x
-  pub whole : (t : Stretch) (p : List ℕ) → Contains looked t → t.claim ≡ print p → IsSkippedIn (stretches answered) t → Contains new (bounds_of t)
+  pub whole : (t : Stretch) (p : List ℕ) → Contains looked t → t.claim ≡ print p → IsSkippedIn (stretches answered) (below until t) → Contains new (bounds_of t)
   pub right : (x : Item × Item) → Contains new x → Contains old x ⊎ ((t : Stretch) × (bounds_of t ≡ x) × IsSkippedPrint asked answered t)
 
 -- what one range of the last ask, begun at a bound, adds where it was met

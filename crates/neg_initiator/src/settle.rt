@@ -3,6 +3,7 @@
 ghost use Rattle.std.specs.Prelude.{◌≡◌, ◌<◌, ◌≤◌, ◌⊎◌, [], length, IfOk, IfErr, OnOk, Err};
 ghost use Rattle.neg_codec.specs.Keys.{place};
 ghost use Rattle.neg_codec.specs.Ranges.{ids, edge_of, span_of};
+ghost use Rattle.neg_codec.specs.Encoding.{text_of};
 ghost use Rattle.item_roll.specs.Parts.{part, ids_of};
 ghost use Rattle.neg_draft.specs.Coverage.{IsDraft};
 ghost use Rattle.neg_initiator.specs.Notes.{Passes};
@@ -11,6 +12,7 @@ ghost use Rattle.neg_initiator.specs.Made.{asking};
 ghost use Rattle.neg_initiator.specs.Session.{IsSound, Taken, HasOpen};
 ghost use Rattle.neg_initiator.specs.Settling.{AccountsFor, Finds, Settles, ListsTooMany};
 ghost use Rattle.neg_initiator.specs.Findings.{findings_of};
+ghost use Rattle.neg_initiator.specs.Walked.{IsRead};
 
 use crate::InitFault;
 use crate::found::{Found, compare};
@@ -86,31 +88,62 @@ pub fn settle_range(
     }
 }
 
-/// The next ask, after a reply to the last one: what the reply leaves open. Ask and reply are walked
-/// once, each list of ids is put in order, and each fingerprint costs a pass over the items it tells of.
-pub fn settle(
+/// The draft of the next ask after a reply, and up to where the reply was read: what lies behind the place
+/// where the draft was cut is passed over.
+fn walk(
     alloc: Global,
     roll: &Roll,
-    asked: &Message,
+    limit: usize,
     answered: &Message,
     found: &mut Found,
-) -> Result<Message, InitFault>
-    requires { IsSound (asking roll.now asked.now (findings_of found.old) found.old.most) }
-    ensures taken { IfOk result (λ next. Taken answered.now (asking roll.now asked.now (findings_of found.old) found.old.most) (asking roll.now next (findings_of found.new) found.new.most)) }
-    ensures leaves_open { IfOk result (λ next. (next ≡ []) ⊎ HasOpen next) }
+) -> Result<(Draft, Bound), InitFault>
+    requires { 4096 ≤ limit }
+    ensures read { IfOk result (λ x. IsRead limit roll.now answered.now (findings_of found.old) (findings_of found.new) (edge_of x.1) x.0) }
+    ensures draft { IfOk result (λ x. IsDraft x.0) }
+    ensures most { found.new.most ≡ found.old.most }
     ensures within { OnOk result (length found.old.need.keys ≤ found.old.most → length found.new.need.keys ≤ found.new.most) }
     ensures full { result ≡ Err InitFault.NeedFull → PassesMost roll.now answered.now found.old.need.keys found.old.most }
     ensures fault { IfErr result (λ e. (e ≡ InitFault.NeedFull) ⊎ (e ≡ InitFault.Memory)) }
 {
-    trust_skipped(asked, answered, &mut found.trusted)?;
-    let mut draft = Draft::new(alloc);
+    let mut draft = Draft::new(alloc, limit);
     let mut lower = Bound::lowest();
     for range in answered.ranges() {
         draft = match settle_range(alloc, roll, found, draft, &lower, range) {
             Ok(next) => next,
             Err(fault) => return Err(fault),
         };
+        if draft.is_over() {
+            return Ok((draft, range.upper));
+        }
         lower = range.upper;
     }
+    let _ = draft.end();
+    Ok((draft, Bound::Infinite))
+}
+
+/// The next ask, of no more bytes than the limit, after a reply to the last one: what the reply leaves
+/// open. Ask and reply are walked once, each list of ids is put in order, and each fingerprint costs a
+/// pass over the items it tells of.
+pub fn settle(
+    alloc: Global,
+    roll: &Roll,
+    limit: usize,
+    asked: &Message,
+    answered: &Message,
+    found: &mut Found,
+) -> Result<Message, InitFault>
+    requires { IsSound (asking limit roll.now asked.now (findings_of found.old) found.old.most) }
+    ensures taken { IfOk result (λ next. Taken answered.now (asking limit roll.now asked.now (findings_of found.old) found.old.most) (asking limit roll.now next (findings_of found.new) found.new.most)) }
+    ensures short { IfOk result (λ next. length (text_of next) ≤ limit) }
+    ensures leaves_open { IfOk result (λ next. (next ≡ []) ⊎ HasOpen next) }
+    ensures within { OnOk result (length found.old.need.keys ≤ found.old.most → length found.new.need.keys ≤ found.new.most) }
+    ensures full { result ≡ Err InitFault.NeedFull → PassesMost roll.now answered.now found.old.need.keys found.old.most }
+    ensures fault { IfErr result (λ e. (e ≡ InitFault.NeedFull) ⊎ (e ≡ InitFault.Memory)) }
+{
+    let (draft, until) = match walk(alloc, roll, limit, answered, found) {
+        Ok(read) => read,
+        Err(fault) => return Err(fault),
+    };
+    trust_skipped(asked, answered, &until, &mut found.trusted)?;
     Ok(draft.into_message())
 }

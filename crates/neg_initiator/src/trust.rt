@@ -7,7 +7,7 @@ ghost use Rattle.neg_codec.specs.Ranges.{Ascends, stretches, stretches_from, edg
 ghost use Rattle.item_roll.specs.Truth.{Meet};
 ghost use Rattle.neg_draft.specs.Coverage.{end_of};
 ghost use Rattle.neg_initiator.specs.Pairs.{pair_of};
-ghost use Rattle.neg_initiator.specs.Trusting.{begun_at, between, IsSkippedIn, TrustsOne, TrustsSkipped};
+ghost use Rattle.neg_initiator.specs.Trusting.{begun_at, between, earlier, IsSkippedIn, TrustsOne, TrustsSkipped};
 
 use neg_codec::{Bound, Key, Message, Payload, Range};
 use std::alloc::AllocError;
@@ -112,20 +112,29 @@ fn trust_one(
     }
 }
 
-/// Adds each fingerprint of the last ask that has a key in common with a Skip of the reply. Both are
-/// walked once.
+/// The earlier of two bounds.
+fn earlier_of(a: &Bound, b: &Bound) -> Bound
+    ensures { edge_of result ≡ earlier (edge_of a.now) (edge_of b.now) }
+{
+    if a.is_below(b) { *a } else { *b }
+}
+
+/// Adds each fingerprint of the last ask that has a key in common with a Skip of the reply below a bound.
+/// Both are walked once.
 pub fn trust_skipped(
     asked: &Message,
     answered: &Message,
+    until: &Bound,
     trusted: &mut Vec<(Key, Bound)>,
 ) -> Result<(), AllocError>
-    ensures { OnOk result (TrustsSkipped asked.now answered.now (stretches asked.now) (map pair_of trusted.old.items) (map pair_of trusted.new.items)) }
+    ensures { OnOk result (TrustsSkipped asked.now answered.now (edge_of until.now) (stretches asked.now) (map pair_of trusted.old.items) (map pair_of trusted.new.items)) }
 {
     let mut rest = answered.ranges();
     let mut from = Bound::lowest();
     let mut lower = Bound::lowest();
     for range in asked.ranges() {
-        let passed = pass(rest, from, &lower, &range.upper);
+        let upper = earlier_of(until, &range.upper);
+        let passed = pass(rest, from, &lower, &upper);
         trust_one(trusted, passed.met, lower, range)?;
         let (_, behind) = rest.split_at(passed.count);
         rest = behind;

@@ -1,17 +1,20 @@
 -- A reply, range by range of the question.
-use Rattle.std.proofs.Common.{◌≡◌, ℕ, zero, suc, ◌+◌, map, get_or, ◌<◌, ◌≤◌, inl, inr, ltb, leb, ◌&&◌, List, [], ◌∷◌, ◌++◌, length, take, drop, refl, sym, ap, subst, ◌∙◌, arith}
-use Rattle.std.specs.Prelude.{Contains, filter}
+use Rattle.std.proofs.Common.{◌≡◌, ℕ, zero, suc, ◌+◌, map, get_or, ◌<◌, ◌≤◌, ◌⊎◌, inl, inr, Bool, cond, ltb, leb, ◌&&◌, List, [], ◌∷◌, ◌++◌, length, take, drop, refl, sym, ap, subst, ◌∙◌, arith}
+use Rattle.std.specs.Prelude.{Contains, All, filter}
+use Rattle.std.proofs.lemmas.Bool.{le-ltb}
 use Rattle.std.proofs.lemmas.List.{take_all, take_more, map-append}
 use Rattle.neg_codec.specs.declared.Range.{Range}
 use Rattle.neg_codec.proofs.Stretches.{one_stretch, key_below}
 use Rattle.neg_codec.specs.declared.Item.{Item}
-use Rattle.neg_codec.specs.Keys.{place, least, infinity}
-use Rattle.neg_codec.specs.Ranges.{Claim, Span, Stretch, stretches, Lies, IsSkip, Ascends, span_of}
+use Rattle.neg_codec.specs.Keys.{place, least, infinity, IsKey}
+use Rattle.neg_codec.specs.Ranges.{Claim, Span, Stretch, stretches, Lies, IsSkip, Ascends, IsSpan, edge_of, span_of}
+use Rattle.neg_codec.specs.Encoding.{text_of}
+use Rattle.neg_codec.proofs.Placing.{span_at}
 use Rattle.item_roll.specs.Truth.{Says, IsTrueOf, Follows}
 use Rattle.item_roll.specs.Parts.{part}
 use Rattle.item_roll.proofs.Follow.{follows_from}
-use Rattle.neg_draft.specs.Coverage.{Written, end_of, passed, IsDraft, Covers}
-use Rattle.neg_draft.proofs.Covering.{covers_none, covers_passes, covers_tells, end-append, stretch_of, beyond, told_whole, skipped_left_out, left_out_skipped, passed_place}
+use Rattle.neg_draft.specs.Coverage.{Written, end_of, passed, IsDraft, Covers, Whole, Cut, Told}
+use Rattle.neg_draft.proofs.Covering.{covers_none, covers_passes, covers_whole, covers_cut, edge_low, end-append, stretch_of, beyond, told_whole, skipped_left_out, left_out_skipped, passed_place}
 use Rattle.neg_draft.proofs.Walking.{ranges_at, ranges_upto, ascends_after}
 use Rattle.neg_responder.specs.Reply.{IsSame, SkipsSame, begun_at, Responds}
 
@@ -24,12 +27,13 @@ abbrev pub MustSkip : List Item → List Span → Item → Type 0
 MustSkip roll asked k = (t : Stretch) × Contains (stretches asked) t × Lies k t × IsSame roll t
 
 -- The reply to the ranges before a place of the question.
-pub record Replied (roll : List Item) (asked front : List Span) (d : Written) : Type 0 where
+pub record Replied (limit : ℕ) (roll : List Item) (asked front : List Span) (d : Written) : Type 0 where
+  pub bytes : d.limit ≡ limit
   pub covers : Covers (IsTrueOf roll) (MaySkip roll asked) (MustSkip roll asked) d
-  pub reached : place d.end ≡ place (end_of least front)
+  pub reached : (place d.end ≡ place (end_of least front)) ⊎ (place infinity ≤ place d.end)
 
-pub replied_none : (roll : List Item) (asked : List Span) → Replied roll asked [] (record { spans = []; end = least })
-replied_none roll asked = record { covers = covers_none (IsTrueOf roll) (MaySkip roll asked) (MustSkip roll asked); reached = refl }
+pub replied_none : (limit : ℕ) (roll : List Item) (asked : List Span) → Replied limit roll asked [] (record { limit = limit; spans = []; end = least })
+replied_none limit roll asked = record { bytes = refl; covers = covers_none (IsTrueOf roll) (MaySkip roll asked) (MustSkip roll asked) limit; reached = inl refl }
 
 skip_holds : (roll : List Item) (s : Stretch) → IsSkip s → IsTrueOf roll s
 skip_holds roll s h = subst (λ (c : Claim). IsTrueOf roll (record { lower = s.lower; upper = s.upper; claim = c })) (sym h) tt
@@ -46,69 +50,96 @@ is_same_lower : (roll : List Item) (l m : Item) (r : Span) → place l ≡ place
 is_same_lower roll l m r e (inl h) = inl h
 is_same_lower roll l m r e (inr h) = inr (h.0, h.1, same_lower roll l m r e h.2)
 
+-- a draft that has come to infinity goes no further
+stays : (d : Written) (upper : Item) → place upper ≤ place d.end → d ≡ passed d upper
+stays d upper le = ap (λ (b : Bool). record { limit = d.limit; spans = d.spans; end = cond b upper d.end }) (sym (le-ltb (place d.end) (place upper) le))
+
 -- one range more
-pub replied_more : (roll : List Item) (front : List Span) (r : Span) (back : List Span) (d new : Written) → Ascends least (front ++ (r ∷ back)) → IsDraft d
-    → Replied roll (front ++ (r ∷ back)) front d → Responds roll d r new → Replied roll (front ++ (r ∷ back)) (front ++ (r ∷ [])) new
-replied_more roll front r back d new up draft was (inl p) =
-    let asked = front ++ (r ∷ back) in
-    let le : place d.end ≤ place r.upper = omega (arith, was.reached, ascends_after least front r back up) in
-    let covers = covers_passes (IsTrueOf roll) (MaySkip roll (front ++ (r ∷ back))) (MustSkip roll (front ++ (r ∷ back))) d r.upper draft le was.covers
-    (λ k key ge lt. (
-      begun_at (end_of least front) r,
-      stretch_of least front r back,
-      (omega (arith, was.reached, ge), lt),
-      same_lower roll d.end (end_of least front) r was.reached (p.holds k (ge, lt)),
-    )) in
-    subst (λ (n : Written). Replied roll (front ++ (r ∷ back)) (front ++ (r ∷ [])) n) (sym p.now)
-    (record { covers = covers; reached = passed_place d r.upper le ∙ ap place (sym (end-append least front (r ∷ []))) })
-replied_more roll front r back d new up draft was (inr t) =
-    let le : place d.end ≤ place r.upper = omega (arith, was.reached, ascends_after least front r back up) in
-    let covers = covers_tells (IsTrueOf roll) (MaySkip roll (front ++ (r ∷ back))) (MustSkip roll (front ++ (r ∷ back))) d r.upper t.0.spans draft le t.0.tells was.covers (skip_holds roll) t.0.holds
-    (λ k key ge lt q. t.1 (is_same_lower roll (end_of least front) d.end r (sym was.reached)
-    (subst (IsSame roll) (one_stretch (front ++ (r ∷ back)) up k q.0 (begun_at (end_of least front) r) q.1 (stretch_of least front r back) q.2 (omega (arith, was.reached, ge), lt)) q.3))) in
-    subst (λ (n : Written). Replied roll (front ++ (r ∷ back)) (front ++ (r ∷ [])) n) (sym t.0.now)
-    (record { covers = covers; reached = ap place (sym (end-append least front (r ∷ []))) })
+pub replied_more : (limit : ℕ) (roll : List Item) (front : List Span) (r : Span) (back : List Span) (d new : Written) → Ascends least (front ++ (r ∷ back)) → place r.upper ≤ place infinity → IsDraft d
+    → Replied limit roll (front ++ (r ∷ back)) front d → Responds roll d r new → Replied limit roll (front ++ (r ∷ back)) (front ++ (r ∷ [])) new
+replied_more limit roll front r back d new up low draft was (inl p) = elim was.reached [
+  | inl here ↦
+      let le : place d.end ≤ place r.upper = omega (arith, here, ascends_after least front r back up) in
+      let covers = covers_passes (IsTrueOf roll) (MaySkip roll (front ++ (r ∷ back))) (MustSkip roll (front ++ (r ∷ back))) d r.upper draft le was.covers
+      (λ k key ge lt. (
+        begun_at (end_of least front) r,
+        stretch_of least front r back,
+        (omega (arith, here, ge), lt),
+        same_lower roll d.end (end_of least front) r here (p.holds k (ge, lt)),
+      )) in
+      subst (λ (n : Written). Replied limit roll (front ++ (r ∷ back)) (front ++ (r ∷ [])) n) (sym p.now)
+      (record { bytes = was.bytes; covers = covers; reached = inl (passed_place d r.upper le ∙ ap place (sym (end-append least front (r ∷ [])))) })
+  | inr over ↦
+      subst (λ (n : Written). Replied limit roll (front ++ (r ∷ back)) (front ++ (r ∷ [])) n) (stays d r.upper (omega (arith, low, over)) ∙ sym p.now)
+      (record { bytes = was.bytes; covers = was.covers; reached = inr over })
+]
+replied_more limit roll front r back d new up low draft was (inr t) =
+    let fin = finite t.0 in
+    let here : place d.end ≡ place (end_of least front) = elim was.reached [ inl e ↦ e | inr over ↦ absurd (omega (arith, over, fin)) ] in
+    let le : place d.end ≤ place r.upper = omega (arith, here, ascends_after least front r back up) in
+    let none = λ (k : Item) (key : IsKey k) (ge : place d.end ≤ place k) (lt : place k < place r.upper) (q : MustSkip roll (front ++ (r ∷ back)) k). t.1 (is_same_lower roll (end_of least front) d.end r (sym here)
+    (subst (IsSame roll) (one_stretch (front ++ (r ∷ back)) up k q.0 (begun_at (end_of least front) r) q.1 (stretch_of least front r back) q.2 (omega (arith, here, ge), lt)) q.3)) in
+    told t.0 here le none
+  where
+    finite : Told roll d r.upper new → place d.end < place infinity
+    finite (inl w) = w.finite
+    finite (inr c) = c.finite
+
+    told : Told roll d r.upper new → place d.end ≡ place (end_of least front) → place d.end ≤ place r.upper
+        → ((k : Item) → IsKey k → place d.end ≤ place k → place k < place r.upper → MustSkip roll (front ++ (r ∷ back)) k → ⊥) → Replied limit roll (front ++ (r ∷ back)) (front ++ (r ∷ [])) new
+    told (inl w) here le none = record {
+      bytes = ap (λ (x : Written). x.limit) w.now ∙ was.bytes;
+      covers = covers_whole (MaySkip roll (front ++ (r ∷ back))) (MustSkip roll (front ++ (r ∷ back))) roll d new r.upper draft le w was.covers (skip_holds roll) none;
+      reached = inl (ap (λ (x : Written). place x.end) w.now ∙ ap place (sym (end-append least front (r ∷ []))));
+    }
+    told (inr c) here le none = record {
+      bytes = ap (λ (x : Written). x.limit) c.now ∙ was.bytes;
+      covers = covers_cut (MaySkip roll (front ++ (r ∷ back))) (MustSkip roll (front ++ (r ∷ back))) roll d new r.upper draft c was.covers (skip_holds roll) none;
+      reached = inr (omega (arith, ap (λ (x : Written). place x.end) c.now));
+    }
 
 -- the Skip that a question implies behind its ranges
-pub replied_all : (roll : List Item) (asked : List Span) (d : Written) → IsDraft d → Replied roll asked asked d
+pub replied_all : (limit : ℕ) (roll : List Item) (asked : List Span) (d : Written) → IsDraft d → Replied limit roll asked asked d
     → Covers (IsTrueOf roll) (MaySkip roll asked) (MustSkip roll asked) (passed d infinity)
-replied_all roll asked d draft was =
+replied_all limit roll asked d draft was =
     covers_passes (IsTrueOf roll) (MaySkip roll asked) (MustSkip roll asked) d infinity draft draft.low was.covers
-    (λ k key ge lt. let s = beyond least asked k key (omega (arith, was.reached, ge)) in (s.0, s.1, s.3, skip_holds roll s.0 s.2))
+    (λ k key ge lt. elim was.reached [
+      | inl here ↦ let s = beyond least asked k key (omega (arith, here, ge)) in (s.0, s.1, s.3, skip_holds roll s.0 s.2)
+      | inr over ↦ absurd (omega (arith, over, ge, lt))
+    ])
 
 -- what the message says that is written of it
 pub replied_follows : (roll : List Item) (asked : List Span) (d : Written) → Ascends least asked → place d.end ≡ place infinity
-    → Covers (IsTrueOf roll) (MaySkip roll asked) (MustSkip roll asked) d → Follows roll asked d.spans × SkipsSame roll asked d.spans
+    → Covers (IsTrueOf roll) (MaySkip roll asked) (MustSkip roll asked) d → Follows roll asked d.spans × SkipsSame d.limit (length (text_of d.spans)) roll asked d.spans
 replied_follows roll asked d up end c = (
   follows_from roll asked d.spans up (record {
     told = told_whole (IsTrueOf roll) d.spans (skip_holds roll) c.told;
     skips = λ k s key h is_skip lies. c.may k key (omega (arith, end, key_below k key)) (skipped_left_out d.spans k s h is_skip lies);
   }),
-  λ t k h same key lies. left_out_skipped d.spans k key (c.must k key (omega (arith, end, key_below k key)) (t, h, lies, same)),
+  λ t k h same key lies. elim (c.must k key (omega (arith, end, key_below k key)) (t, h, lies, same)) [
+    | inl out ↦ inl (left_out_skipped d.spans k key out)
+    | inr cut ↦ inr cut
+  ],
 )
 
 -- ---- the range at a place of a list
 
-pub replied_at : (roll : List Item) (ranges : List Range) (i : ℕ) (r : Range) (d new : Written) → i < length ranges → r ≡ get_or ranges i r → Ascends least (map span_of ranges) → IsDraft d
-    → Replied roll (map span_of ranges) (map span_of (take i ranges)) d → Responds roll d (span_of r) new → Replied roll (map span_of ranges) (map span_of (take (i + 1) ranges)) new
-replied_at roll ranges i r d new lt is up draft was step =
+pub replied_at : (limit : ℕ) (roll : List Item) (ranges : List Range) (i : ℕ) (r : Range) (d new : Written) → i < length ranges → r ≡ get_or ranges i r → Ascends least (map span_of ranges) → All IsSpan (map span_of ranges) → IsDraft d
+    → Replied limit roll (map span_of ranges) (map span_of (take i ranges)) d → Responds roll d (span_of r) new → Replied limit roll (map span_of ranges) (map span_of (take (i + 1) ranges)) new
+replied_at limit roll ranges i r d new lt is up fits draft was step =
     let front = map span_of (take i ranges) in
     let back = map span_of (drop (suc i) ranges) in
     let e = ranges_at ranges i r lt is in
-    let more = replied_more roll (map span_of (take i ranges)) (span_of r) (map span_of (drop (suc i) ranges)) d new
-    (subst (λ (x : List Span). Ascends least x) e up) draft (subst (λ (x : List Span). Replied roll x (map span_of (take i ranges)) d) e was) step in
-    subst (λ (x : List Span). Replied roll x (map span_of (take (i + 1) ranges)) new) (sym e)
-    (subst (λ (x : List Span). Replied roll (map span_of (take i ranges) ++ (span_of r ∷ map span_of (drop (suc i) ranges))) x new) (sym (ranges_upto ranges i r lt is)) more)
-
-pub ahead_at : (roll : List Item) (ranges : List Range) (i : ℕ) (r : Range) (d : Written) → i < length ranges → r ≡ get_or ranges i r → Ascends least (map span_of ranges)
-    → Replied roll (map span_of ranges) (map span_of (take i ranges)) d → place d.end ≤ place (span_of r).upper
-ahead_at roll ranges i r d lt is up was =
-    omega (arith, was.reached, ascends_after least (map span_of (take i ranges)) (span_of r) (map span_of (drop (suc i) ranges)) (subst (λ (x : List Span). Ascends least x) (ranges_at ranges i r lt is) up))
+    let more = replied_more limit roll (map span_of (take i ranges)) (span_of r) (map span_of (drop (suc i) ranges)) d new
+    (subst (λ (x : List Span). Ascends least x) e up) (edge_low (edge_of r.upper) (span_at ranges i r lt is fits).upper) draft (subst (λ (x : List Span). Replied limit roll x (map span_of (take i ranges)) d) e was) step in
+    subst (λ (x : List Span). Replied limit roll x (map span_of (take (i + 1) ranges)) new) (sym e)
+    (subst (λ (x : List Span). Replied limit roll (map span_of (take i ranges) ++ (span_of r ∷ map span_of (drop (suc i) ranges))) x new) (sym (ranges_upto ranges i r lt is)) more)
 
 -- the whole reply
-pub replied_whole : (roll : List Item) (ranges : List Range) (n : ℕ) (d out : Written) → length ranges ≤ n → Ascends least (map span_of ranges) → IsDraft d
-    → Replied roll (map span_of ranges) (map span_of (take n ranges)) d → out ≡ passed d infinity → Follows roll (map span_of ranges) out.spans × SkipsSame roll (map span_of ranges) out.spans
-replied_whole roll ranges n d out le up draft was e =
-    let all = subst (λ (x : List Range). Replied roll (map span_of ranges) (map span_of x) d) (take_all n ranges le) was in
-    subst (λ (w : Written). Follows roll (map span_of ranges) w.spans × SkipsSame roll (map span_of ranges) w.spans) (sym e)
-    (replied_follows roll (map span_of ranges) (passed d infinity) up (passed_place d infinity draft.low) (replied_all roll (map span_of ranges) d draft all))
+pub replied_whole : (limit : ℕ) (roll : List Item) (ranges : List Range) (n : ℕ) (d out : Written) → length ranges ≤ n → Ascends least (map span_of ranges) → IsDraft d
+    → Replied limit roll (map span_of ranges) (map span_of (take n ranges)) d → out ≡ passed d infinity → Follows roll (map span_of ranges) out.spans × SkipsSame limit (length (text_of out.spans)) roll (map span_of ranges) out.spans
+replied_whole limit roll ranges n d out le up draft was e =
+    let all = subst (λ (x : List Range). Replied limit roll (map span_of ranges) (map span_of x) d) (take_all n ranges le) was in
+    subst (λ (w : Written). Follows roll (map span_of ranges) w.spans × SkipsSame limit (length (text_of w.spans)) roll (map span_of ranges) w.spans) (sym e)
+    (subst (λ (n : ℕ). Follows roll (map span_of ranges) d.spans × SkipsSame n (length (text_of d.spans)) roll (map span_of ranges) d.spans) was.bytes
+    (replied_follows roll (map span_of ranges) (passed d infinity) up (passed_place d infinity draft.low) (replied_all limit roll (map span_of ranges) d draft all)))

@@ -6,16 +6,20 @@ use Rattle.neg_codec.specs.Ranges.{print, Span, Stretch, stretches, Lies, IsSkip
 use Rattle.neg_codec.specs.declared.CodecFault.{CodecFault}
 use Rattle.neg_codec.specs.declared.CodecFault.TheVariants as codec
 use Rattle.item_roll.specs.Truth.{IsTrueOf}
-use Rattle.neg_draft.specs.Coverage.{Written, passed, Told}
+use Rattle.neg_draft.specs.Coverage.{Written, passed, Told, IsCutAt}
 
 -- the stretch is a Skip, or a fingerprint that is the roll's own
 abbrev pub IsSame : List Item → Stretch → Type 0
 IsSame roll t = IsSkip t ⊎ ((p : List ℕ) × (t.claim ≡ print p) × IsTrueOf roll t)
 
--- each key of such a stretch lies in a Skip of the reply
-abbrev pub SkipsSame : List Item → List Span → List Span → Type 0
-SkipsSame roll asked answered =
-    (t : Stretch) (k : Item) → Contains (stretches asked) t → IsSame roll t → IsKey k → Lies k t → (s : Stretch) × Contains (stretches answered) s × IsSkip s × Lies k s
+-- a Skip has the key
+abbrev pub IsSkippedAt : List Span → Item → Type 0
+IsSkippedAt answered k = (s : Stretch) × Contains (stretches answered) s × IsSkip s × Lies k s
+
+-- each key of such a stretch lies in a Skip of the reply, which has so many bytes, or where it was cut
+abbrev pub SkipsSame : ℕ → ℕ → List Item → List Span → List Span → Type 0
+SkipsSame limit size roll asked answered =
+    (t : Stretch) (k : Item) → Contains (stretches asked) t → IsSame roll t → IsKey k → Lies k t → IsSkippedAt answered k ⊎ IsCutAt limit size answered k
 
 -- the range, begun at a bound
 abbrev pub begun_at : Item → Span → Stretch
@@ -27,7 +31,7 @@ pub record Passes (roll : List Item) (old : Written) (r : Span) (new : Written) 
   pub now : new ≡ passed old r.upper
 
 -- The draft after a range of the question: it goes past what is true of the roll, or it tells what the
--- roll has there, unless that is a Skip or an own fingerprint.
+-- roll has there, as far as it fits, unless that is a Skip or an own fingerprint.
 abbrev pub Responds : List Item → Written → Span → Written → Type 0
 Responds roll old r new = Passes roll old r new ⊎ (Told roll old r.upper new × (IsSame roll (begun_at old.end r) → ⊥))
 

@@ -49,11 +49,18 @@ fn own_version(alloc: Global) -> Result<Vec<u8>, AnswerFault>
 }
 
 /// The answer to a message.
-fn answer_message(alloc: Global, roll: &Roll, asked: &Message) -> Result<Vec<u8>, AnswerFault>
-    ensures follows { IfOk result (λ v. (r : List Span) × Spells v.items r × Follows roll.now asked.now r × SkipsSame roll.now asked.now r) }
+fn answer_message(
+    alloc: Global,
+    roll: &Roll,
+    asked: &Message,
+    limit: usize,
+) -> Result<Vec<u8>, AnswerFault>
+    requires { 4096 ≤ limit }
+    ensures follows { IfOk result (λ v. (r : List Span) × Spells v.items r × Follows roll.now asked.now r × SkipsSame limit (length v.items) roll.now asked.now r) }
+    ensures short { IfOk result (λ v. length v.items ≤ limit) }
     ensures fault { IfErr result (λ e. e ≡ AnswerFault.Memory) }
 {
-    let message = reply(alloc, roll, asked)?;
+    let message = reply(alloc, roll, asked, limit)?;
     let bytes = encode(alloc, &message)?;
     Ok(bytes)
 }
@@ -64,6 +71,7 @@ fn answer_fault(alloc: Global, fault: CodecFault) -> Result<Vec<u8>, AnswerFault
     ensures refused { Refuses fault → result ≡ Err (AnswerFault.Bad fault) }
     ensures version { (b : ℕ) → fault ≡ codec.Version b → IfOk result (λ v. v.items ≡ 0x61 ∷ []) }
     ensures others { IfOk result (λ v. (b : ℕ) × (fault ≡ codec.Version b)) }
+    ensures own { IfOk result (λ v. v.items ≡ 0x61 ∷ []) }
 {
     match fault {
         CodecFault::Version(_) => own_version(alloc),
@@ -79,7 +87,8 @@ fn answer_fault(alloc: Global, fault: CodecFault) -> Result<Vec<u8>, AnswerFault
 /// roll's ids. Neighbouring Skips are one range, and a Skip at the end isn't written. A query of another
 /// version is answered by the one byte 61, the version that is spoken here.
 ///
-/// The limit counts the bytes of the answer and has no effect yet.
+/// The answer has no more bytes than the limit. A list that doesn't fit is cut, and what the roll has from
+/// there on is told by one fingerprint up to infinity, whatever the query says of it.
 ///
 /// The cost is a pass over the query and, for each fingerprint and list in it, a pass over the items that
 /// it tells of.
@@ -92,11 +101,13 @@ pub fn answer(
     alloc: Global,
     roll: &Roll,
     query: &[u8],
-    _limit: usize,
+    limit: usize,
 ) -> Result<Vec<u8>, AnswerFault>
-    requires { 4096 ≤ _limit }
-    // The answer follows the roll, and skips what is the same on both sides.
-    ensures follows { IfOk result (λ v. (q : List Span) → length query.now ≤ longest → Spells query.now q → (r : List Span) × Spells v.items r × Follows roll.now q r × SkipsSame roll.now q r) }
+    requires { 4096 ≤ limit }
+    // The answer follows the roll, and skips what is the same on both sides, as far as it wasn't cut.
+    ensures follows { IfOk result (λ v. (q : List Span) → length query.now ≤ longest → Spells query.now q → (r : List Span) × Spells v.items r × Follows roll.now q r × SkipsSame limit (length v.items) roll.now q r) }
+    // It is no longer than the limit.
+    ensures short { IfOk result (λ v. length v.items ≤ limit) }
     // A query is refused just where it is no message, and by that fault.
     ensures bad { (f : CodecFault) → result ≡ Err (AnswerFault.Bad f) → (message_at query.now ≡ Err f) × Refuses f }
     ensures refused { (f : CodecFault) → message_at query.now ≡ Err f → Refuses f → result ≡ Err (AnswerFault.Bad f) }
@@ -104,7 +115,7 @@ pub fn answer(
     ensures version { (b : ℕ) → message_at query.now ≡ Err (codec.Version b) → IfOk result (λ v. v.items ≡ 0x61 ∷ []) }
 {
     match decode(alloc, query) {
-        Ok(asked) => answer_message(alloc, roll, &asked),
+        Ok(asked) => answer_message(alloc, roll, &asked, limit),
         Err(fault) => answer_fault(alloc, fault),
     }
 }

@@ -1,8 +1,8 @@
 //! A reply, range by range of the question.
 
-ghost use Rattle.std.specs.Prelude.{◌≤◌, IfOk};
-ghost use Rattle.neg_codec.specs.Keys.{place};
-ghost use Rattle.neg_codec.specs.Ranges.{edge_of, span_of};
+ghost use Rattle.std.specs.Prelude.{◌≤◌, IfOk, length};
+ghost use Rattle.neg_codec.specs.Ranges.{span_of};
+ghost use Rattle.neg_codec.specs.Encoding.{text_of};
 ghost use Rattle.item_roll.specs.Truth.{Follows};
 ghost use Rattle.neg_draft.specs.Coverage.{IsDraft};
 ghost use Rattle.neg_responder.specs.Reply.{SkipsSame, Responds};
@@ -12,9 +12,9 @@ use neg_codec::{Message, Payload, Range};
 use neg_draft::{Draft, is_own_print};
 use std::alloc::{AllocError, Global};
 
-/// The draft after a range of the question, which begins where the draft has come to.
+/// The draft after a range of the question, which begins where the draft has come to, unless the draft
+/// was cut before.
 fn reply_range(alloc: Global, roll: &Roll, draft: Draft, range: &Range) -> Result<Draft, AllocError>
-    requires { place draft.end ≤ place (edge_of range.now.upper) }
     ensures responds { IfOk result (λ d. Responds roll.now draft (span_of range.now) d) }
     ensures draft { IsDraft draft }
 {
@@ -35,11 +35,18 @@ fn reply_range(alloc: Global, roll: &Roll, draft: Draft, range: &Range) -> Resul
     }
 }
 
-/// The reply to a question.
-pub fn reply(alloc: Global, roll: &Roll, asked: &Message) -> Result<Message, AllocError>
-    ensures { IfOk result (λ m. Follows roll.now asked.now m × SkipsSame roll.now asked.now m) }
+/// The reply to a question, of no more bytes than the limit.
+pub fn reply(
+    alloc: Global,
+    roll: &Roll,
+    asked: &Message,
+    limit: usize,
+) -> Result<Message, AllocError>
+    requires { 4096 ≤ limit }
+    ensures follows { IfOk result (λ m. Follows roll.now asked.now m × SkipsSame limit (length (text_of m)) roll.now asked.now m) }
+    ensures short { IfOk result (λ m. length (text_of m) ≤ limit) }
 {
-    let mut draft = Draft::new(alloc);
+    let mut draft = Draft::new(alloc, limit);
     for range in asked.ranges() {
         draft = reply_range(alloc, roll, draft, range)?;
     }

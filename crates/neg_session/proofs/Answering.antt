@@ -18,10 +18,10 @@ too_long : (query : List ℕ) → nat_lt longest (length query) ≡ true → mes
 unfolding message_at
 too_long query e = ap (λ t. if t then Err fault.TooLong else versioned_at query) e
 
-pub answered_by : (b : List Item) (query reply : List ℕ)
-    → ((q : List Span) → length query ≤ longest → Spells query q → (r : List Span) × Spells reply r × Follows b q r × SkipsSame b q r)
+pub answered_by : (limit : ℕ) (b : List Item) (query reply : List ℕ)
+    → ((q : List Span) → length query ≤ longest → Spells query q → (r : List Span) × Spells reply r × Follows b q r × SkipsSame limit (length reply) b q r)
     → (message_at query ≡ Err fault.TooLong → ⊥) → AnswersBy b (exchange query reply)
-answered_by b query reply follows short q spells = go (nat_lt longest (length query)) refl
+answered_by limit b query reply follows short q spells = go (nat_lt longest (length query)) refl
   where
     go : (t : Bool) → nat_lt longest (length query) ≡ t → IsExplained b (exchange query reply)
     go true e = absurd (short (too_long query e))
@@ -44,25 +44,25 @@ keeps_one p q e roll log new = record {
 IsAsked : Exchange → Type 0
 IsAsked e = (q : List Span) × Spells e.asked q
 
-linked_asked : (own : List Item) (e : Exchange) (es : List Exchange) → Linked own e es → All IsAsked es
+linked_asked : (limit : ℕ) (own : List Item) (e : Exchange) (es : List Exchange) → Linked limit own e es → All IsAsked es
 unfolding IsAsked
-linked_asked own e [] l = All-nil IsAsked
-linked_asked own e (f ∷ fs) l = All-cons IsAsked f fs (l.0.asked, l.0.spelled) (linked_asked own f fs l.1)
+linked_asked limit own e [] l = All-nil IsAsked
+linked_asked limit own e (f ∷ fs) l = All-cons IsAsked f fs (l.0.asked, l.0.spelled) (linked_asked limit own f fs l.1)
 
-chained_asked : (own : List Item) (es : List Exchange) → Chained own es → All IsAsked es
+chained_asked : (limit : ℕ) (own : List Item) (es : List Exchange) → Chained limit own es → All IsAsked es
 unfolding IsAsked
-chained_asked own [] l = All-nil IsAsked
-chained_asked own (e ∷ es) l = All-cons IsAsked e es (l.0.asked, l.0.spelled) (linked_asked own e es l.1)
+chained_asked limit own [] l = All-nil IsAsked
+chained_asked limit own (e ∷ es) l = All-cons IsAsked e es (l.0.asked, l.0.spelled) (linked_asked limit own e es l.1)
 
 all_back : {X : Type 0} (P : X → Type 0) → (xs ys : List X) → All P (xs ++ ys) → All P ys
 all_back P xs ys h = All-weaker (Contains ys) P (λ x m. All-contains P (xs ++ ys) x h (Contains-append_right xs ys x m)) ys (All-contains_itself ys)
 
 pub local_explains : RollExplains
 unfolding IsAsked
-local_explains own b old new roll answers appended chained = record {
+local_explains limit own b old new roll answers appended chained = record {
   roll = roll;
   each = All-weaker (Contains (gained old new)) (IsExplained b)
-      (λ e m. let q = All-contains IsAsked (gained old new) e (chained_asked own (gained old new) chained) m in all_answers e m q.0 q.1)
+      (λ e m. let q = All-contains IsAsked (gained old new) e (chained_asked limit own (gained old new) chained) m in all_answers e m q.0 q.1)
       (gained old new) (All-contains_itself (gained old new));
 }
   where

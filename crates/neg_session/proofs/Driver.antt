@@ -11,6 +11,7 @@ use Rattle.neg_codec.specs.Laws.{OneMessage}
 use Rattle.neg_codec.specs.Ranges.{Span, stretches}
 use Rattle.neg_codec.specs.Reading.{message_at}
 use Rattle.neg_codec.specs.Text.{Spells}
+use Rattle.neg_codec.specs.Encoding.{text_of}
 use Rattle.item_roll.specs.Parts.{IsRoll, part}
 use Rattle.item_roll.specs.Truth.{IsTrueOf, Follows}
 use Rattle.neg_initiator.specs.declared.initiator.Outcome.{Outcome}
@@ -42,21 +43,21 @@ gained_more old now new g p q =
 
 -- questions
 
-linked_more : (own : List Item) (e : Exchange) (es : List Exchange) (q r : List ℕ) → Linked own e es → MayResume own e es q → Linked own e (es ++ exchange q r ∷ [])
-linked_more own e [] q r l m = (m, tt)
-linked_more own e (f ∷ fs) q r l m = (l.0, linked_more own f fs q r l.1 m)
+linked_more : (limit : ℕ) (own : List Item) (e : Exchange) (es : List Exchange) (q r : List ℕ) → Linked limit own e es → MayResume limit own e es q → Linked limit own e (es ++ exchange q r ∷ [])
+linked_more limit own e [] q r l m = (m, tt)
+linked_more limit own e (f ∷ fs) q r l m = (l.0, linked_more limit own f fs q r l.1 m)
 
-chained_more : (own : List Item) (es : List Exchange) (q r : List ℕ) → Chained own es → MayAsk own es q → Chained own (es ++ exchange q r ∷ [])
-chained_more own [] q r l m = (m, tt)
-chained_more own (e ∷ es) q r l m = (l.0, linked_more own e es q r l.1 m)
+chained_more : (limit : ℕ) (own : List Item) (es : List Exchange) (q r : List ℕ) → Chained limit own es → MayAsk limit own es q → Chained limit own (es ++ exchange q r ∷ [])
+chained_more limit own [] q r l m = (m, tt)
+chained_more limit own (e ∷ es) q r l m = (l.0, linked_more limit own e es q r l.1 m)
 
-resumes_more : (own : List Item) (e : Exchange) (es : List Exchange) (f : Exchange) (q : List ℕ) → Resumes own f q → MayResume own e (es ++ f ∷ []) q
-resumes_more own e [] f q a = a
-resumes_more own e (x ∷ xs) f q a = resumes_more own x xs f q a
+resumes_more : (limit : ℕ) (own : List Item) (e : Exchange) (es : List Exchange) (f : Exchange) (q : List ℕ) → Resumes limit own f q → MayResume limit own e (es ++ f ∷ []) q
+resumes_more limit own e [] f q a = a
+resumes_more limit own e (x ∷ xs) f q a = resumes_more limit own x xs f q a
 
-may_more : (own : List Item) (es : List Exchange) (f : Exchange) (q : List ℕ) → Resumes own f q → MayAsk own (es ++ f ∷ []) q
-may_more own [] f q a = a
-may_more own (e ∷ es) f q a = resumes_more own e es f q a
+may_more : (limit : ℕ) (own : List Item) (es : List Exchange) (f : Exchange) (q : List ℕ) → Resumes limit own f q → MayAsk limit own (es ++ f ∷ []) q
+may_more limit own [] f q a = a
+may_more limit own (e ∷ es) f q a = resumes_more limit own e es f q a
 
 -- lists that explain
 
@@ -123,8 +124,8 @@ told_before own b ts us kept told =
     let P : Item × Item → Type 0 = λ t. HasOnePrint own b t → part own t.0 t.1 ≡ part b t.0 t.1 in
     All-weaker (Contains ts) P (λ t m. All-contains P us t told (kept t m)) ts (All-contains_itself ts)
 
-knows_first : (own b : List Item) (need : ℕ) (text : List ℕ) (s : Session) → Starts own need text s → IsRoll b → Knows own b s
-knows_first own b need text s h roll_b =
+knows_first : (own b : List Item) (limit need : ℕ) (text : List ℕ) (s : Session) → Starts own limit need text s → IsRoll b → Knows own b s
+knows_first own b limit need text s h roll_b =
     let roll_a : IsRoll own = subst IsRoll h.roll h.sound.roll in
     record {
       one_print = subst (λ ts. All (HasOnePrint own b) ts) (sym h.trusted) (All-nil (HasOnePrint own b));
@@ -154,23 +155,24 @@ right_of own b s o knows done is_need is_have is_trusted = record {
 -- a session begins
 
 pub going_first : (own : List Item) (limits : SessionLimits) (old : List Exchange) (before : ℕ) (text : List ℕ) (s : Session)
-    → Starts own limits.need text s → Going own limits 0 old old before before text limits.log s
+    → Starts own limits.limit limits.need text s → Going own limits 0 old old before before text limits.log s
 going_first own limits old before text s h = record {
   appended = rw gained_none (sym (append-nil old));
   chained = rw gained_none tt;
-  may = rw gained_none (record { asked = s.asked; spelled = h.spelled; truth = subst (λ (w : List Item). All (IsTrueOf w) (stretches s.asked)) h.roll h.sound.truth; skips_nothing = h.skips_nothing });
+  may = rw gained_none (record { asked = s.asked; spelled = h.spelled; short = h.short; truth = subst (λ (w : List Item). All (IsTrueOf w) (stretches s.asked)) h.roll h.sound.truth; skips_nothing = h.skips_nothing });
   count = rw gained_none refl;
   bytes = rw gained_none (omega arith);
   read = rw gained_none (All-nil IsRead);
   unfailed = refl;
   roll = h.roll;
+  limit_is = h.limit_is;
   most = h.most;
   phase = h.phase;
   sound = h.sound;
   spelled = h.spelled;
   few = rw h.need (omega arith);
   offered = λ i m. absurd (contains_none i (subst (λ (ns : List Id). Contains ns i) h.need m));
-  knows = λ b e. knows_first own b limits.need text s h e.roll;
+  knows = λ b e. knows_first own b limits.limit limits.need text s h e.roll;
 }
   where
     contains_none : (i : Id) → Contains [] i → ⊥
@@ -232,8 +234,8 @@ module _ (own : List Item) (limits : SessionLimits) (asked : ℕ) (old now new :
   next_appended : new ≡ old ++ gained old new
   next_appended = rw pairs (grew ∙ (ap (λ w. w ++ exchange question reply ∷ []) going.appended ∙ append_assoc old (gained old now) _))
 
-  next_chained : Chained own (gained old new)
-  next_chained = rw pairs (chained_more own (gained old now) question reply going.chained going.may)
+  next_chained : Chained limits.limit own (gained old new)
+  next_chained = rw pairs (chained_more limits.limit own (gained old now) question reply going.chained going.may)
 
   next_count : length (gained old new) ≡ asked + 1
   next_count = rw pairs (omega (arith, length-append (gained old now) (exchange question reply ∷ []), going.count))
@@ -253,20 +255,24 @@ module _ (own : List Item) (limits : SessionLimits) (asked : ℕ) (old now new :
   going_more one next answered text room spells read taken few goes = record {
     appended = next_appended;
     chained = next_chained;
-    may = rw pairs (may_more own (gained old now) (exchange question reply) text (record {
+    may = rw pairs (may_more limits.limit own (gained old now) (exchange question reply) text (record {
       answered = answered;
       asked = next.asked;
       answers = spells;
       spelled = goes.spelled;
       truth = subst (λ (w : List Item). All (IsTrueOf w) (stretches next.asked)) (taken.roll ∙ going.roll) taken.sound.truth;
       asks = goes.asks;
-      not_again = subst (λ (w : List Item). NotAskedAgain w answered next.asked) going.roll taken.not_again;
+      short = omega (arith, goes.short, taken.limit_is, going.limit_is);
+      not_again = subst (λ (n : ℕ). NotAskedAgain limits.limit n own answered next.asked) (ap length (sym goes.exact))
+          (subst (λ (n : ℕ). NotAskedAgain n (length (text_of next.asked)) own answered next.asked) going.limit_is
+          (subst (λ (w : List Item). NotAskedAgain s.limit (length (text_of next.asked)) w answered next.asked) going.roll taken.not_again));
     }));
     count = next_count;
     bytes = omega (arith, next_bytes, going.bytes);
     read = rw pairs (All-push IsRead (gained old now) (exchange question reply) going.read (answered, read));
     unfailed = same ∙ going.unfailed;
     roll = taken.roll ∙ going.roll;
+    limit_is = taken.limit_is ∙ going.limit_is;
     most = taken.most ∙ going.most;
     phase = goes.phase;
     sound = taken.sound;

@@ -27,13 +27,14 @@ IsRead e = (m : List Span) × (message_at e.answered ≡ Ok m)
 -- answers are left.
 pub record Going (own : List Item) (limits : SessionLimits) (asked : ℕ) (old now : List Exchange) (before after : ℕ) (question : List ℕ) (left : ℕ) (s : Session) : Type 0 where
   pub appended : now ≡ old ++ gained old now
-  pub chained : Chained own (gained old now)
-  pub may : MayAsk own (gained old now) question
+  pub chained : Chained limits.limit own (gained old now)
+  pub may : MayAsk limits.limit own (gained old now) question
   pub count : length (gained old now) ≡ asked
   pub bytes : left + answered_bytes (gained old now) ≡ limits.log
   pub read : All IsRead (gained old now)
   pub unfailed : after ≡ before
   pub roll : s.roll ≡ own
+  pub limit_is : s.limit ≡ limits.limit
   pub most : s.most ≡ limits.need
   pub few : length s.need ≤ limits.need
   pub phase : s.phase ≡ Asking

@@ -26,5 +26,5 @@ keeps_on p q r h k = record { roll = k.roll ∙ h.roll; answers = λ a. k.answer
 -- a list that explains each pair whose question is a message explains the pairs of a session
 abbrev pub RollExplains : Type 0
 RollExplains =
-    (own b : List Item) (old new : List Exchange) → IsRoll b → All (AnswersBy b) new
-    → new ≡ old ++ gained old new → Chained own (gained old new) → Explains b (gained old new)
+    (limit : ℕ) (own b : List Item) (old new : List Exchange) → IsRoll b → All (AnswersBy b) new
+    → new ≡ old ++ gained old new → Chained limit own (gained old new) → Explains b (gained old new)

@@ -59,7 +59,7 @@ pub record OffersMore (own : List Item) (log : List Exchange) (most : ℕ) : Typ
 pub record Ran (own : List Item) (limits : SessionLimits) (old new : List Exchange) (before after : ℕ) (result : Result Outcome SessionFault) : Type 0 where
   -- pairs were added, each question one that may follow the pair before it
   pub appended : new ≡ old ++ gained old new
-  pub chained : Chained own (gained old new)
+  pub chained : Chained limits.limit own (gained old new)
   pub within : length (gained old new) ≤ limits.rounds
   -- what was found is right for each list that explains the pairs
   pub exact : IfOk result (λ o. (b : List Item) → Explains b (gained old new) → IsRight own b o)

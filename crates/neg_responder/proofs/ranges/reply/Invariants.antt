@@ -4,4 +4,4 @@ use Rattle.neg_responder.proofs.Replying.{Replied}
 use Rattle.neg_responder.proofs.ranges.reply.Given as goal
 
 abbrev pub invariant-loop-range : goal.invariant-loop-range
-invariant-loop-range l = Replied l.roll (map span_of l.range-items) (map span_of (take l.range-index l.range-items)) l.draft
+invariant-loop-range l = Replied l.limit l.roll (map span_of l.range-items) (map span_of (take l.range-index l.range-items)) l.draft

@@ -12,4 +12,4 @@ returns c =
     let roll : IsRoll c.args.theirs = subst IsRoll c.new-peer.ensures.keeps c.new-peer.ensures.roll in
     let answers : All (AnswersBy c.args.theirs) c.reconcile_with.new.peer.log =
     subst (λ (b : List Item). All (AnswersBy b) c.reconcile_with.new.peer.log) (keeps.roll ∙ c.new-peer.ensures.keeps) (keeps.answers c.new-peer.ensures.answers) in
-    ran.exact c.args.theirs (c.roll_explains.ensures c.args.mine.now c.args.theirs c.new-peer.result.log c.reconcile_with.new.peer.log roll answers ran.appended ran.chained)
+    ran.exact c.args.theirs (c.roll_explains.ensures _ c.args.mine.now c.args.theirs c.new-peer.result.log c.reconcile_with.new.peer.log roll answers ran.appended ran.chained)

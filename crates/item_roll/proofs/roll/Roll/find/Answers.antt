@@ -18,6 +18,6 @@ returns-clause-within c = omega (arith, value c, count_most c.args.self.now (edg
 
 pub returns-clause-part : goal.returns-clause-part
 returns-clause-part c =
-    let up : Ascending c.args.self.now = subst (λ (xs : List Item). Ascending xs) c.self.view_is c.self.invariant.ascending in
+    let up : Ascending c.args.self.now = subst (λ (xs : List Item). Ascending xs) c.self.view_is c.self.invariant.0.ascending in
     λ lower le. part_is c.args.self.now lower (edge_of c.args.bound.now) up le
     ∙ ap (λ (n : ℕ). slice_range c.args.self.now (count_below c.args.self.now lower) n) (sym (value c))

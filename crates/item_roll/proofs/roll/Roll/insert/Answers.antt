@@ -1,6 +1,7 @@
 use Rattle.std.proofs.Common.{◌≡◌, ◌<◌, ◌++◌, ◌∷◌, List, ap, sym, subst, ◌∙◌, arith, rules}
 use Rattle.std.proofs.Common.{Result, Ok, Err}
 use Rattle.std.specs.Result.{OnOk}
+use Rattle.std.proofs.lemmas.List.Edits.{length-insert}
 use Rattle.neg_codec.specs.declared.Item.{Item}
 use Rattle.neg_codec.specs.Keys.{least, infinity, endless, IsKey}
 use Rattle.item_roll.specs.Parts.{IsRoll, part}
@@ -22,8 +23,9 @@ insert-requires c = omega (arith, c.in-Some.ensures.place.within, c.deref.ensure
 
 pub invariant_of-self : goal.invariant_of-self
 invariant_of-self c = elim c.match-insert.branch [
-  | in-Ok w ↦ subst IsRoll (sym w.in-Ok.ensures.items) (inserted_roll c.self.inside.items.items c.in-Some.at c.args.item c.self.invariant (key c) (gap c))
-  | in-Err w ↦ subst IsRoll (sym w.in-Err.ensures.items) c.self.invariant
+  | in-Ok w ↦ rw w.in-Ok.ensures.items (inserted_roll c.self.inside.items.items c.in-Some.at c.args.item c.self.invariant.0 (key c) (gap c),
+      omega (arith, length-insert c.self.inside.items.items c.in-Some.at c.args.item (gap c).within, c.len.ensures, c.if-len-ge-MOST_ITEMS.false))
+  | in-Err w ↦ rw w.in-Err.ensures.items c.self.invariant
 ]
 
 on_ok : (P : Type 0) (r : Result (Unit {0}) RollFault) → r ≡ Ok tt → P → OnOk r P
@@ -35,7 +37,7 @@ on_err P r fault e = subst (λ (x : Result (Unit {0}) RollFault). OnOk x P) (sym
 pub returns-clause-ok : goal.returns-clause-ok
 returns-clause-ok c = elim c.match-insert.branch [
   | in-Ok w ↦ on_ok _ c.match-insert.result w.result-is
-      (w.in-Ok.ensures.items ∙ inserted_is c.self.inside.items.items c.in-Some.at c.args.item c.self.invariant (key c) (gap c)
+      (w.in-Ok.ensures.items ∙ inserted_is c.self.inside.items.items c.in-Some.at c.args.item c.self.invariant.0 (key c) (gap c)
       ∙ ap (λ (xs : List Item). part xs least c.args.item ++ c.args.item ∷ part xs c.args.item infinity) c.self.view_is)
   | in-Err w ↦ on_err _ c.match-insert.result Memory w.result-is
 ]

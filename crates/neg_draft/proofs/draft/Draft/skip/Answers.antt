@@ -1,7 +1,7 @@
-use Rattle.std.proofs.Common.{◌≡◌, ℕ, ◌<◌, ◌≤◌, ◌↔◌, IsTrue, inl, inr, Bool, false, map}
+use Rattle.std.proofs.Common.{◌≡◌, ℕ, ◌<◌, ◌≤◌, ◌↔◌, IsTrue, inl, inr, Bool, false}
 use Rattle.std.proofs.lemmas.Bool.{lt-ltb, le-ltb, cases_lt}
 use Rattle.neg_codec.specs.Keys.{place}
-use Rattle.neg_codec.specs.Ranges.{edge_of, span_of}
+use Rattle.neg_codec.specs.Ranges.{edge_of}
 use Rattle.neg_draft.specs.Coverage.{Written, IsDraft, passed}
 use Rattle.neg_draft.proofs.Covering.{draft_passes, edge_low}
 use Rattle.neg_draft.proofs.draft.Draft.skip.Goals as goal
@@ -15,7 +15,7 @@ not_below a b t h e = elim (cases_lt a b) [
 
 pub invariant_of-result : goal.invariant_of-result
 invariant_of-result c =
-    let d : Written = record { spans = map span_of c.self.inside.ranges.items; end = edge_of c.self.inside.end } in
+    let d : Written = record { limit = c.self.inside.limit; spans = c.self.inside.ranges; end = edge_of c.self.inside.end } in
     let low = edge_low (edge_of c.args.upper) c.edge.ensures.edge in
     let h : IsDraft (passed d (edge_of c.args.upper)) = draft_passes d (edge_of c.args.upper) c.self.invariant.0 low in
     elim c.if-is_below.branch [

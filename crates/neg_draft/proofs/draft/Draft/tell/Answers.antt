@@ -1,30 +1,56 @@
-use Rattle.std.proofs.Common.{refl, ap, sym, subst, ◌∙◌, ◌≡◌, ◌++◌, map, List, append_assoc}
-use Rattle.std.proofs.lemmas.List.{map-append}
+use Rattle.std.proofs.Common.{◌≡◌, ℕ, ◌+◌, ◌<◌, ◌≤◌, ◌++◌, [], ◌∷◌, length, List, refl, sym, ap, subst, ◌∙◌, append_assoc, arith}
+use Rattle.neg_codec.specs.Keys.{place, least, infinity}
 use Rattle.neg_codec.specs.declared.Item.{Item}
-use Rattle.neg_codec.specs.Keys.{least}
 use Rattle.neg_codec.specs.Ranges.{Span, edge_of, span_of}
-use Rattle.neg_draft.specs.Coverage.{Written, Tells, end_of, gap}
-use Rattle.neg_draft.proofs.Covering.{draft_tells, more-ends, edge_low}
+use Rattle.neg_codec.specs.Encoding.{text_of}
+use Rattle.neg_draft.specs.Coverage.{Written, IsDraft, Tells, end_of, gap, told_more}
+use Rattle.neg_draft.proofs.Covering.{draft_tells, edge_low, filled_end}
+use Rattle.neg_draft.proofs.Telling.{fill_fits}
 use Rattle.neg_draft.proofs.draft.Draft.tell.Goals as goal
 
--- what the ranges say, once the Skip and the new ranges stand behind those before
-all_told : (before all new now : List Span) (written end : Item) → now ≡ all ++ new → all ≡ before ++ gap written end → written ≡ end_of least before
-    → now ≡ before ++ (gap (end_of least before) end ++ new)
-all_told before all new now written end joined skipped is =
-    joined ∙ ap (λ (t : List Span). t ++ new) skipped ∙ append_assoc before (gap written end) new ∙ ap (λ (x : Item). before ++ (gap x end ++ new)) is
+pub fill-requires : goal.fill-requires
+fill-requires c =
+    let d : Written = record { limit = c.self.inside.limit; spans = c.self.inside.ranges; end = edge_of c.self.inside.end } in
+    let le = fill_fits (record { limit = c.self.inside.limit; spans = c.self.inside.ranges; end = edge_of c.self.inside.end }) c.args.self (edge_of c.args.range.upper) (span_of c.args.range) c.args.self.limit c.self.view_is c.requires.fits in
+    omega (arith, le, c.self.invariant.1, ap (λ (w : Written). w.limit) c.self.view_is)
+
+-- what the ranges are then
+told : (d e : Written) (filled new : List Span) (upper : Item) (r : Span) → d ≡ e → filled ≡ d.spans ++ gap (end_of least d.spans) d.end → new ≡ filled ++ r ∷ [] → new ≡ (told_more e upper (r ∷ [])).spans
+told d e filled new upper r same fill push =
+    push ∙ ap (λ (x : List Span). x ++ r ∷ []) fill ∙ append_assoc d.spans (gap (end_of least d.spans) d.end) (r ∷ []) ∙ ap (λ (w : Written). (told_more w upper (r ∷ [])).spans) same
+
+pub push-requires-clause-above : goal.push-requires-clause-above
+push-requires-clause-above c =
+    let d : Written = record { limit = c.self.inside.limit; spans = c.self.inside.ranges; end = edge_of c.self.inside.end } in
+    let end = filled_end (record { limit = c.self.inside.limit; spans = c.self.inside.ranges; end = edge_of c.self.inside.end }) c.self.invariant.0 in
+    omega (arith, c.requires.tells.ascends.1, ap (λ (x : List Span). place (end_of least x)) c.in_ok-fill.ensures, ap place end, ap (λ (w : Written). place w.end) c.self.view_is)
+
+pub push-requires-clause-fits : goal.push-requires-clause-fits
+push-requires-clause-fits c =
+    let all = told (record { limit = c.self.inside.limit; spans = c.self.inside.ranges; end = edge_of c.self.inside.end }) c.args.self c.fill.new.self (c.fill.new.self ++ span_of c.args.range ∷ []) (edge_of c.args.range.upper) (span_of c.args.range)
+    c.self.view_is c.in_ok-fill.ensures refl in
+    omega (arith, ap (λ (x : List Span). length (text_of x)) all, c.requires.fits, c.self.invariant.1, ap (λ (w : Written). w.limit) c.self.view_is)
+
+new_draft : (d e : Written) (limit : ℕ) (upper : Item) (r : Span) (new : List Span) → d ≡ e → IsDraft d → limit ≡ d.limit → place upper ≤ place infinity → Tells e.end upper (r ∷ []) → length (text_of (told_more e upper (r ∷ [])).spans) ≤ e.limit
+    → (place upper < place infinity → length (text_of (told_more e upper (r ∷ [])).spans) + 64 ≤ e.limit) → new ≡ (told_more e upper (r ∷ [])).spans → IsDraft (record { limit = limit; spans = new; end = upper })
+new_draft d e limit upper r new same draft lim low tells fits room is =
+    let whole = draft_tells e upper (r ∷ []) (subst IsDraft same draft) low tells fits room in
+    let made : told_more e upper (r ∷ []) ≡ record { limit = limit; spans = new; end = upper } =
+    ap (λ (x : List Span). record { limit = e.limit; spans = x; end = upper }) (sym is) ∙ ap (λ (n : ℕ). record { limit = n; spans = new; end = upper }) (sym (lim ∙ ap (λ (w : Written). w.limit) same)) in
+    subst IsDraft made whole
 
 pub invariant_of-result : goal.invariant_of-result
-invariant_of-result c =
-    let d : Written = record { spans = map span_of c.self.inside.ranges.items; end = edge_of c.self.inside.end } in
-    let rs : List Span = map span_of c.args.ranges.items in
-    let tells : Tells (edge_of c.self.inside.end) (edge_of c.args.upper) rs = subst (λ (w : Written). Tells w.end (edge_of c.args.upper) rs) (sym c.self.view_is) c.requires in
-    let same = all_told (map span_of c.self.inside.ranges.items) (map span_of c.in_ok-all.all.items) rs (map span_of c.append.new.self.items) (edge_of c.self.inside.written) (edge_of c.self.inside.end)
-    (ap (map span_of) c.in_ok-append.ensures.items ∙ map-append span_of c.in_ok-all.all.items c.args.ranges.items) c.in_ok-all.ensures c.self.invariant.1 in
-    rw same (draft_tells d (edge_of c.args.upper) rs c.self.invariant.0 (edge_low (edge_of c.args.upper) c.edge.ensures.edge) tells, sym (more-ends d (edge_of c.args.upper) rs c.self.invariant.0 tells))
+invariant_of-result c = (
+    new_draft (record { limit = c.self.inside.limit; spans = c.self.inside.ranges; end = edge_of c.self.inside.end }) c.args.self c.self.inside.limit (edge_of c.args.range.upper) (span_of c.args.range) c.push.new.self
+    c.self.view_is c.self.invariant.0 refl (edge_low (edge_of c.args.range.upper) c.edge.ensures.edge) c.requires.tells c.requires.fits c.requires.room
+    (told (record { limit = c.self.inside.limit; spans = c.self.inside.ranges; end = edge_of c.self.inside.end }) c.args.self c.fill.new.self c.push.new.self (edge_of c.args.range.upper) (span_of c.args.range)
+    c.self.view_is c.in_ok-fill.ensures c.in_ok-push.ensures),
+    c.self.invariant.1,
+)
 
 pub returns : goal.returns
 returns c =
-    let rs : List Span = map span_of c.args.ranges.items in
-    let same = all_told (map span_of c.self.inside.ranges.items) (map span_of c.in_ok-all.all.items) rs (map span_of c.append.new.self.items) (edge_of c.self.inside.written) (edge_of c.self.inside.end)
-    (ap (map span_of) c.in_ok-append.ensures.items ∙ map-append span_of c.in_ok-all.all.items c.args.ranges.items) c.in_ok-all.ensures c.self.invariant.1 in
-    rw (← c.self.view_is, same) refl
+    let all = told (record { limit = c.self.inside.limit; spans = c.self.inside.ranges; end = edge_of c.self.inside.end }) c.args.self c.fill.new.self c.push.new.self (edge_of c.args.range.upper) (span_of c.args.range)
+    c.self.view_is c.in_ok-fill.ensures c.in_ok-push.ensures in
+    ap (λ (x : List Span). record { limit = c.self.inside.limit; spans = x; end = edge_of c.args.range.upper }) all
+    ∙ ap (λ (w : Written). record { limit = w.limit; spans = (told_more c.args.self (edge_of c.args.range.upper) (span_of c.args.range ∷ [])).spans; end = edge_of c.args.range.upper }) c.self.view_is

@@ -1,49 +1,41 @@
-use Rattle.std.proofs.Common.{◌≡◌, ◌<◌, ap, ◌∙◌, arith, List, [], ◌∷◌}
+use Rattle.std.proofs.Common.{rules, ◌≡◌, ◌+◌, ◌-◌, ◌*◌, ◌<◌, ◌≤◌, ℕ, inl, inr, ap, subst, ◌∙◌, arith, [], ◌∷◌}
+use Rattle.std.specs.Prelude.{IfOk}
 use Rattle.std.proofs.lemmas.Result.{IfOk-weaker}
-use Rattle.neg_codec.specs.declared.Id.{Id}
-use Rattle.neg_codec.specs.Keys.{place}
-use Rattle.neg_codec.specs.Ranges.{edge_of}
-use Rattle.item_roll.specs.Parts.{part, ids_of}
-use Rattle.neg_draft.specs.Coverage.{Told, told_more}
-use Rattle.neg_draft.proofs.Owning.{count_up, edge_key, listed, tells_ids, ids_hold, ids_between}
+use Rattle.neg_codec.specs.Keys.{place, infinity}
+use Rattle.neg_codec.specs.Ranges.{IsEdge, edge_of}
+use Rattle.item_roll.specs.Parts.{count_below}
+use Rattle.neg_draft.specs.Coverage.{Written, told_more, Cut, Told}
+use Rattle.neg_draft.proofs.Covering.{edge_low}
+use Rattle.neg_draft.proofs.Owning.{count_up, edge_key}
+use Rattle.neg_draft.proofs.Telling.{before_most, end_key, may_be_cut, listed_part, listed_whole}
 use Rattle.neg_draft.proofs.draft.Draft.tell_ids.Goals as goal
 
-pub ids-requires : goal.ids-requires
-ids-requires c =
-    let up = count_up c.args.roll.now (edge_of c.end-lower.result) (edge_of c.args.upper) (omega (arith, ap place c.end-lower.ensures.end, c.requires)) in
-    (omega (arith, c.find.ensures.value, c.find-2.ensures.value, up), c.find-2.ensures.within)
+pub room-requires : goal.room-requires
+room-requires c = omega (arith, c.requires, edge_low (edge_of c.args.upper) c.edge-2.ensures.edge)
 
-pub tell-requires : goal.tell-requires
-tell-requires c =
-    let lt : place (edge_of c.end-lower.result) < place (edge_of c.args.upper) = omega (arith, ap place c.end-lower.ensures.end, c.requires) in
-    let key = edge_key (edge_of c.end-lower.result) (edge_of c.args.upper) c.edge.ensures.edge c.edge-2.ensures.edge lt in
-    let tells = rw c.end-lower.ensures.end at (tells_ids (edge_of c.end-lower.result) (edge_of c.args.upper) c.in_ok-ids.ids.items key (omega (arith, lt))) in
-    rw c.in_ok-ranges.ensures.items tells
+pub close-requires : goal.close-requires
+close-requires c = omega (arith, c.requires, edge_low (edge_of c.args.upper) c.edge-2.ensures.edge)
+
+closed : (c : goal.After-close) → IfOk c.close.result (Cut c.args.roll.now c.args.self (edge_of c.args.upper))
+closed c =
+    may_be_cut c.args.roll.now c.args.self (edge_of c.args.upper) c.close.result (subst IsEdge c.end-lower.ensures.end c.edge.ensures.edge)
+    (omega (arith, c.requires, edge_low (edge_of c.args.upper) c.edge-2.ensures.edge)) (omega (arith, c.requires))
+    (omega (arith, c.in_default.ensures.none, before_most c.args.self)) c.close.ensures
+
+pub returns-in_default-clause-told : goal.returns-in_default-clause-told
+returns-in_default-clause-told c = IfOk-weaker c.close.result (Cut c.args.roll.now c.args.self (edge_of c.args.upper)) (Told c.args.roll.now c.args.self (edge_of c.args.upper)) (λ d h. inr h) (closed c)
+
+pub returns-in_default-clause-exact : goal.returns-in_default-clause-exact
+returns-in_default-clause-exact c = IfOk-weaker c.close.result (Cut c.args.roll.now c.args.self (edge_of c.args.upper)) _ (λ d h. inr h) (closed c)
+
+pub overflow_sub-hi : goal.overflow_sub-hi
+overflow_sub-hi c =
+    let up = count_up c.args.roll.now (edge_of c.end-lower.result) (edge_of c.args.upper) (omega (arith, ap place c.end-lower.ensures.end, c.requires)) in
+    omega (arith, c.find-lo.ensures.value, c.find-hi.ensures.value, up)
 
 pub returns-clause-told : goal.returns-clause-told
 returns-clause-told c =
-    let lt : place (edge_of c.end-lower.result) < place (edge_of c.args.upper) = omega (arith, ap place c.end-lower.ensures.end, c.requires) in
-    let key = edge_key (edge_of c.end-lower.result) (edge_of c.args.upper) c.edge.ensures.edge c.edge-2.ensures.edge lt in
-    let tells = rw c.end-lower.ensures.end at (tells_ids (edge_of c.end-lower.result) (edge_of c.args.upper) c.in_ok-ids.ids.items key (omega (arith, lt))) in
-    let same = rw c.end-lower.ensures.end at
-    (ids_between c.args.roll.now (edge_of c.end-lower.result) (edge_of c.args.upper) c.find.result c.find-2.result c.in_ok-ids.ids.items c.in_ok-ids.ensures c.find.ensures.value
-    (c.find-2.ensures.part (edge_of c.end-lower.result) (omega (arith, lt)))) in
-    let told = rw c.in_ok-ranges.ensures.items at c.tell.ensures in
-    IfOk-weaker c.tell.result (λ d. d ≡ told_more c.args.self (edge_of c.args.upper) (listed (edge_of c.args.upper) c.in_ok-ids.ids.items ∷ [])) (Told c.args.roll.now c.args.self (edge_of c.args.upper))
-    (λ d e. record {
-      spans = listed (edge_of c.args.upper) c.in_ok-ids.ids.items ∷ [];
-      tells = tells;
-      holds = ids_hold c.args.roll.now c.args.self.end (edge_of c.args.upper) c.in_ok-ids.ids.items same;
-      now = e;
-    }) told
-
-pub returns-clause-exact : goal.returns-clause-exact
-returns-clause-exact c =
-    let lt : place (edge_of c.end-lower.result) < place (edge_of c.args.upper) = omega (arith, ap place c.end-lower.ensures.end, c.requires) in
-    let same = rw c.end-lower.ensures.end at
-    (ids_between c.args.roll.now (edge_of c.end-lower.result) (edge_of c.args.upper) c.find.result c.find-2.result c.in_ok-ids.ids.items c.in_ok-ids.ensures c.find.ensures.value
-    (c.find-2.ensures.part (edge_of c.end-lower.result) (omega (arith, lt)))) in
-    let told = rw c.in_ok-ranges.ensures.items at c.tell.ensures in
-    IfOk-weaker c.tell.result (λ d. d ≡ told_more c.args.self (edge_of c.args.upper) (listed (edge_of c.args.upper) c.in_ok-ids.ids.items ∷ []))
-    (λ d. d ≡ told_more c.args.self (edge_of c.args.upper) (listed (edge_of c.args.upper) (ids_of (part c.args.roll.now c.args.self.end (edge_of c.args.upper))) ∷ []))
-    (λ d e. e ∙ ap (λ (is : List Id). told_more c.args.self (edge_of c.args.upper) (listed (edge_of c.args.upper) is ∷ [])) same) told
+    let fin : place c.args.self.end < place infinity = omega (arith, c.requires, edge_low (edge_of c.args.upper) c.edge-2.ensures.edge) in
+    let key = end_key c.args.self (subst IsEdge c.end-lower.ensures.end c.edge.ensures.edge) fin in
+    IfOk-weaker c.list_ids.result (λ d. d ≡ told_more c.args.self (edge_of c.args.upper) (listed_part c.args.roll.now c.args.self.end (edge_of c.args.upper) ∷ [])) (Told c.args.roll.now c.args.self (edge_of c.args.upper))
+    (λ d e. inl (listed_whole c.args.roll.now c.args.self d (edge_of c.args.upper) fin (omega (arith, c.requires)) key e)) c.list_ids.ensures

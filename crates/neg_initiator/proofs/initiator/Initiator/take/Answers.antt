@@ -17,6 +17,6 @@ returns-in-Err-clause-bad c = λ f e. c.in-Err.ensures.bad f (bad_is c.in-Err.fa
 
 pub returns-then-is_empty-clause-taken : goal.returns-then-is_empty-clause-taken
 returns-then-is_empty-clause-taken c =
-    let t = taken_any c.in-Ok.message (asking c.self.inside.roll.now c.self.inside.asked (findings_of c.self.inside.found) c.self.inside.found.most)
-    (asking c.self.inside.roll.now c.in-Ok-settle.next (findings_of c.settle.new.found) c.settle.new.found.most) c.self.inside.phase phase.Ended c.in-Ok-settle.ensures.taken in
+    let t = taken_any c.in-Ok.message (asking c.self.inside.limit c.self.inside.roll.now c.self.inside.asked (findings_of c.self.inside.found) c.self.inside.found.most)
+    (asking c.self.inside.limit c.self.inside.roll.now c.in-Ok-settle.next (findings_of c.settle.new.found) c.settle.new.found.most) c.self.inside.phase phase.Ended c.in-Ok-settle.ensures.taken in
     (c.in-Ok.message, c.in-Ok.ensures.found.0, c.in-Ok.ensures.found.1, rw (← c.self.view_is) t)

@@ -18,7 +18,7 @@ pub returns-clause-becomes : goal.returns-clause-becomes
 returns-clause-becomes c =
     let pair : c.in_ok-pair.pair ≡ exchange c.args.question.now c.in-Ok.reply.items = search rules in
     let grew : c.push.new.self.items ≡ c.self.inside.pairs.items ++ exchange c.args.question.now c.in-Ok.reply.items ∷ [] = search rules in
-    let answers : AnswersBy c.self.inside.roll (exchange c.args.question.now c.in-Ok.reply.items) = answered_by _ _ _ c.in-Ok.ensures.follows (λ e. let bad = c.in-Ok.ensures.refused _ e tt in cc) in
+    let answers : AnswersBy c.self.inside.roll (exchange c.args.question.now c.in-Ok.reply.items) = answered_by _ _ _ _ c.in-Ok.ensures.follows (λ e. let bad = c.in-Ok.ensures.refused _ e tt in cc) in
     keeps_one _ _ (exchange c.args.question.now c.in-Ok.reply.items) (ap (λ (v : Local). v.roll) c.self.view_is)
     (grew ∙ ap (λ (v : Local). v.log ++ exchange c.args.question.now c.in-Ok.reply.items ∷ []) c.self.view_is)
     (subst (λ (b : List Item). AnswersBy b (exchange c.args.question.now c.in-Ok.reply.items)) (ap (λ (v : Local). v.roll) c.self.view_is) answers)

@@ -4,12 +4,12 @@ use Rattle.neg_codec.specs.Ranges.{edge_of, span_of}
 use Rattle.neg_draft.specs.Coverage.{end_of}
 use Rattle.neg_initiator.specs.Findings.{findings_of}
 use Rattle.neg_initiator.proofs.Stepping.{Progress}
-use Rattle.neg_initiator.proofs.settle.settle.Given as goal
+use Rattle.neg_initiator.proofs.settle.walk.Given as goal
 
 abbrev pub invariant-loop-range : goal.invariant-loop-range
 invariant-loop-range l = record {
-  progress : Progress l.roll l.asked (map span_of l.range-items) (map span_of (take l.range-index l.range-items)) (findings_of l.initial.found) (findings_of l.found) l.draft;
+  progress : Progress l.limit l.roll (map span_of l.range-items) (map span_of (take l.range-index l.range-items)) (findings_of l.fn.found) (findings_of l.found) l.draft;
   lower : edge_of l.lower ≡ end_of least (map span_of (take l.range-index l.range-items));
-  most : l.found.most ≡ l.initial.found.most;
-  within : length l.initial.found.need.keys ≤ l.initial.found.most → length l.found.need.keys ≤ l.found.most;
+  most : l.found.most ≡ l.fn.found.most;
+  within : length l.fn.found.need.keys ≤ l.fn.found.most → length l.found.need.keys ≤ l.found.most;
 }
