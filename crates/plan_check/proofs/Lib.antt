@@ -2,3 +2,4 @@ pub mod Firsts
 pub mod Files
 pub mod Given
 pub mod Judged
+pub mod Taken
