@@ -1,6 +1,5 @@
 -- The first place at which a list of lines fails.
-use Rattle.std.proofs.Common.{◌≡◌, ℕ, zero, suc, ◌+◌, ◌<◌, ◌≤◌, ◌&&◌, not, Bool, true, false, cond, List, [], ◌∷◌, length, map, drop, get_or, Option, Some, None, refl, sym, ap, ◌∙◌, arith, add-one, drop-cons}
-use Rattle.std.specs.Prelude.{option_map}
+use Rattle.std.proofs.Common.{◌≡◌, ℕ, ◌+◌, ◌<◌, ◌&&◌, Bool, true, false, cond, List, ◌∷◌, length, drop, get_or, Option, Some, refl, ap, ◌∙◌, add-one, drop-cons}
 use Rattle.std.specs.Ordering.{nat_cmp}
 use Rattle.neg_codec.specs.declared.Id.{Id}
 use Rattle.sharing.specs.Offers.{id_cmp}

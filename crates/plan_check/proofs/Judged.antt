@@ -1,18 +1,17 @@
 -- The gives have no fault just where they are a sharing of the offers.
-use Rattle.std.proofs.Common.{◌≡◌, ℕ, ◌+◌, ◌<◌, ◌≤◌, ◌==◌, ◌&&◌, ◌||◌, not, Bool, true, false, cond, List, [], ◌∷◌, length, get_or, map, Option, Some, None, Ok, Err, refl, sym, ap, ◌∙◌, subst, arith, inl, inr}
+use Rattle.std.proofs.Common.{◌≡◌, ℕ, ◌&&◌, ◌||◌, not, Bool, true, false, cond, List, [], ◌∷◌, get_or, map, Option, Some, None, Ok, Err, refl, sym, ap, ◌∙◌, subst, arith, inl, inr}
 use Rattle.std.specs.Prelude.{is_some, unwrap_or, Result}
 use Rattle.std.specs.declared.cmp.Ordering.{Ordering}
 use Rattle.std.specs.declared.cmp.Ordering.TheVariants.{Less, Equal, Greater}
 use Rattle.std.specs.Ordering.{is_eq, ordering_reverse}
 use Rattle.std.specs.List.{All, list_any}
-use Rattle.std.proofs.lemmas.Bool.{false≢true, cases_Bool, or_parts, or_from, and_right, true_from_ne_false, false_from_ne_true, not-false}
+use Rattle.std.proofs.lemmas.Bool.{false≢true, cases_Bool, or_parts, or_from, true_from_ne_false, not-false}
 use Rattle.std.proofs.lemmas.List.Elements.{All-head, All-tail, All-cons, All-nil, All-weaker, All-map}
 use Rattle.neg_codec.specs.declared.Id.{Id}
-use Rattle.sharing.specs.Sharing.{is_among, load, IsSharing, IsGreatest, Shows, NoneSmaller}
+use Rattle.sharing.specs.Sharing.{is_among, load, IsSharing, IsGreatest, Shows}
 use Rattle.sharing.specs.Offers.{id_cmp, is_id, Ascend, beside, relays_of, relay_in}
-use Rattle.sharing.proofs.Orders.{id_total, id_itself, id_apart, same_id, head_sorted, tail_sorted, All-unmap}
+use Rattle.sharing.proofs.Orders.{id_total, id_apart, same_id, head_sorted, tail_sorted, All-unmap}
 use Rattle.sharing.proofs.Looks.{found_itself, gives_agree, load_by_gives}
-use Rattle.sharing.proofs.Counting.{none_smaller}
 use Rattle.plan_check.specs.declared.faults.PlanFault.{PlanFault}
 use Rattle.plan_check.specs.declared.faults.PlanFault.TheVariants.{NotOffered, Missing, Stranger, GroupTooSmall}
 use Rattle.plan_check.specs.File.{File, IsFile, pairs_of}

@@ -3,3 +3,14 @@ pub mod Files
 pub mod Given
 pub mod Judged
 pub mod Taken
+pub mod Spans
+pub mod LineLemmas
+pub mod RelayLemmas
+pub mod IdLemmas
+pub mod KindLemmas
+pub mod FormLemmas
+pub mod InOrder
+pub mod TextLemmas
+pub mod OneText
+pub mod ReadLemmas
+pub mod WriteLemmas

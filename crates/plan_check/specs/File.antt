@@ -1,5 +1,5 @@
 -- A plan file: who offers each id, which relay it is given to, and a group of relays.
-use Rattle.std.specs.Prelude.{◌≡◌, ℕ, ◌<◌, List, map}
+use Rattle.std.specs.Prelude.{ℕ, ◌<◌, List, map}
 use Rattle.std.specs.List.{All}
 use Rattle.std.specs.Global.{Vec}
 use Rattle.neg_codec.specs.declared.Id.{Id}

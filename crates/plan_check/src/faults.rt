@@ -1,5 +1,10 @@
 //! Why a text or lists are no plan file, and why a plan file is no plan.
 
+ghost use Rattle.std.specs.Prelude.{◌≡◌};
+ghost use Rattle.plan_check.specs.declared.faults.PlanFault.TheVariants.{Memory as memory};
+
+use std::alloc::{AllocError, AllocFailed};
+
 #[derive(Clone, Copy, Debug, PartialEq, Eq)]
 pub enum PlanFault {
     /// The line with this number is not of the form, is out of place or is missing.
@@ -16,4 +21,20 @@ pub enum PlanFault {
     /// The group does not show that no sharing has a smaller busiest load.
     GroupTooSmall,
     Memory,
+}
+
+impl From<AllocError> for PlanFault {
+    ghost from_gives = { λ _ e. e ≡ memory };
+
+    fn from(_e: AllocError) -> PlanFault {
+        PlanFault::Memory
+    }
+}
+
+impl<T: Drop> From<AllocFailed<T>> for PlanFault {
+    ghost from_gives = { λ _ e. e ≡ memory };
+
+    fn from(_e: AllocFailed<T>) -> PlanFault {
+        PlanFault::Memory
+    }
 }

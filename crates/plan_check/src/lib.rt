@@ -3,12 +3,23 @@
 
 mod faults;
 mod file;
+mod laws;
 mod order;
+mod reading;
+mod records;
+mod text_lines;
 mod verdict;
+mod words;
+mod writing;
 
 pub use faults::PlanFault;
 pub use file::PlanFile;
+pub use laws::{one_file, round_trip};
+pub use reading::read_plan;
 pub use verdict::check;
+pub use writing::write_plan;
 
 #[cfg(test)]
 mod tests;
+#[cfg(test)]
+mod text_tests;

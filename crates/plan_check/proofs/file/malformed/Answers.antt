@@ -1,7 +1,7 @@
-use Rattle.std.proofs.Common.{◌≡◌, ◌+◌, ◌<◌, ℕ, ◌||◌, not, true, false, Some, None, sym, ap, ◌∙◌, refl, length, arith, Vec, Global}
+use Rattle.std.proofs.Common.{◌+◌, ◌<◌, ℕ, ◌||◌, not, true, false, Some, None, sym, ap, ◌∙◌, refl, length, arith, Vec, Global}
 use Rattle.std.specs.Prelude.{nat_lt}
 use Rattle.sharing.specs.declared.TheConstants.{RELAYS}
-use Rattle.plan_check.specs.Lines.{first_at, first_out, are_relays, is_empty, rises}
+use Rattle.plan_check.specs.Lines.{first_at, are_relays, is_empty}
 use Rattle.plan_check.proofs.Files.{none_left, malformed_is}
 use Rattle.plan_check.proofs.file.malformed.Goals as goal
 

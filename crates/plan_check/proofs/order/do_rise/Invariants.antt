@@ -1,7 +1,5 @@
-use Rattle.std.proofs.Common.{◌≡◌, drop, not, true, ◌||◌, None}
-use Rattle.std.specs.Prelude.{nat_lt}
-use Rattle.sharing.specs.declared.TheConstants.{RELAYS}
-use Rattle.plan_check.specs.Lines.{first_at, first_out, rises, rises_from, are_relays, is_empty}
+use Rattle.std.proofs.Common.{◌≡◌, drop}
+use Rattle.plan_check.specs.Lines.{rises, rises_from}
 use Rattle.plan_check.proofs.order.do_rise.Given as goal
 
 abbrev pub invariant-loop-relay : goal.invariant-loop-relay

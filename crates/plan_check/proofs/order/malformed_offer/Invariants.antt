@@ -1,7 +1,5 @@
-use Rattle.std.proofs.Common.{◌≡◌, drop, not, true, ◌||◌, None}
-use Rattle.std.specs.Prelude.{nat_lt}
-use Rattle.sharing.specs.declared.TheConstants.{RELAYS}
-use Rattle.plan_check.specs.Lines.{first_at, first_out, rises, rises_from, are_relays, is_empty}
+use Rattle.std.proofs.Common.{◌≡◌, drop, not, ◌||◌}
+use Rattle.plan_check.specs.Lines.{first_at, are_relays, is_empty}
 use Rattle.plan_check.proofs.order.malformed_offer.Given as goal
 
 abbrev pub invariant-loop-place : goal.invariant-loop-place

@@ -1,7 +1,5 @@
-use Rattle.std.proofs.Common.{◌≡◌, drop, not, true, ◌||◌, None}
-use Rattle.std.specs.Prelude.{nat_lt}
-use Rattle.sharing.specs.declared.TheConstants.{RELAYS}
-use Rattle.plan_check.specs.Lines.{first_at, first_out, rises, rises_from, are_relays, is_empty}
+use Rattle.std.proofs.Common.{◌≡◌, drop, true, None}
+use Rattle.plan_check.specs.Lines.{first_out}
 use Rattle.plan_check.proofs.order.misplaced_give.Given as goal
 
 abbrev pub invariant-loop-place : goal.invariant-loop-place

@@ -1,8 +1,8 @@
-use Rattle.std.proofs.Common.{◌≡◌, true, false, sym, ap, ◌∙◌, subst}
+use Rattle.std.proofs.Common.{◌≡◌, true, false, sym, ◌∙◌, subst}
 use Rattle.std.proofs.lemmas.Bool.{false≢true}
 use Rattle.sharing.specs.Sharing.{Shows, IsGreatest}
 use Rattle.sharing.proofs.Counting.{none_smaller}
-use Rattle.plan_check.specs.File.{File, IsFile, pairs_of}
+use Rattle.plan_check.specs.File.{pairs_of}
 use Rattle.plan_check.specs.Verdict.{is_not_offered, is_missing, is_stranger, given_load}
 use Rattle.plan_check.proofs.Judged.{shared_out, exact_from, fault_none, fault_first, fault_second, fault_third, judge_fault, judge_ok, judge_small, lent_not_offered, lent_missing, lent_stranger}
 use Rattle.plan_check.proofs.verdict.check.Goals as goal

@@ -1,4 +1,4 @@
-use Rattle.std.proofs.Common.{◌≡◌, ◌<◌, ◌≤◌, ◌+◌, ◌==◌, ℕ, refl, sym, ◌∙◌, ap, inl, inr, arith, subst}
+use Rattle.std.proofs.Common.{◌≡◌, ◌==◌, ℕ, sym, ap, inl, inr, arith}
 use Rattle.std.proofs.lemmas.List.Sums.{count_by-le-length}
 use Rattle.std.proofs.lemmas.Bool.{cases_eq, cases_lt}
 use Rattle.neg_codec.specs.declared.Id.{Id}

@@ -1,7 +1,5 @@
-use Rattle.std.proofs.Common.{◌≡◌, ◌<◌, ◌≤◌, ◌+◌, ◌-◌, ◌/◌, ℕ, length, get_or, sym, ap, ◌∙◌, refl, arith, true, false}
+use Rattle.std.proofs.Common.{◌+◌, ◌-◌, ◌/◌, ℕ, sym, ap, ◌∙◌, arith}
 use Rattle.std.specs.Prelude.{is_some}
-use Rattle.neg_codec.specs.declared.Id.{Id}
-use Rattle.sharing.specs.Offers.{id_cmp, beside}
 use Rattle.sharing.proofs.Searched.{go_down, go_up, found_at, not_found}
 use Rattle.plan_check.proofs.verdict.is_given.Goals as goal
 

@@ -1,11 +1,9 @@
-use Rattle.std.proofs.Common.{◌≡◌, ◌<◌, ◌≤◌, ◌+◌, ◌-◌, ◌/◌, ℕ, List, [], length, get_or, sym, ap, ◌∙◌, refl, arith, Some, None}
+use Rattle.std.proofs.Common.{◌≡◌, ◌<◌, ◌+◌, ◌-◌, ◌/◌, ℕ, List, [], length, get_or, sym, ap, ◌∙◌, arith, Some}
 use Rattle.std.specs.Global.{Vec}
-use Rattle.std.specs.declared.cmp.Ordering.{Ordering}
-use Rattle.std.specs.declared.cmp.Ordering.TheVariants.{Less, Equal, Greater}
 use Rattle.std.proofs.lemmas.List.{get_or-map, length-map}
 use Rattle.neg_codec.specs.declared.Id.{Id}
-use Rattle.sharing.specs.Offers.{id_cmp, beside}
-use Rattle.sharing.proofs.Searched.{IsBetween, between_all, go_down, go_up, found_at, not_found}
+use Rattle.sharing.specs.Offers.{id_cmp}
+use Rattle.sharing.proofs.Searched.{between_all, go_down, go_up, found_at, not_found}
 use Rattle.plan_check.specs.File.{pairs_of}
 use Rattle.plan_check.proofs.verdict.relays_at.Goals as goal
 

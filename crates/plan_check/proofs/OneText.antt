@@ -1,0 +1,82 @@
+-- A text is that of one file.
+use Rattle.std.proofs.Common.{◌≡◌, ℕ, ◌<◌, List, [], ◌∷◌, ◌++◌, map, refl, ap, sym, ◌∙◌, decimal}
+use Rattle.std.specs.List.{All}
+use Rattle.std.proofs.lemmas.List.Elements.{All-head, All-tail}
+use Rattle.std.proofs.lemmas.Fmt.{decimal_injective}
+use Rattle.hex.specs.Hex.{encode_lower}
+use Rattle.neg_codec.specs.declared.Id.{Id}
+use Rattle.sharing.specs.declared.TheConstants.{RELAYS}
+use Rattle.plan_check.specs.File.{File}
+use Rattle.plan_check.specs.PlanText.{relay_text, relays_text, offer_line, give_line, group_line, plan_lines, plan_text, IsOffer, IsGive, IsOfForm}
+use Rattle.plan_check.specs.PlanReading.{OneFile}
+use Rattle.plan_check.proofs.IdLemmas.{same_id, after_id}
+use Rattle.plan_check.proofs.LineLemmas.{same_words}
+use Rattle.plan_check.proofs.RelayLemmas.{relay_small, one_word, no_space, next_relays}
+use Rattle.plan_check.proofs.FormLemmas.{offered, given, grouped, plan_lines-is, plan_parts, behind_offers, behind_gives}
+use Rattle.plan_check.proofs.TextLemmas.{lines_of-plan}
+
+same_relays : (rs qs : List ℕ) → All (λ r. r < RELAYS) rs → All (λ r. r < RELAYS) qs → relays_text rs ≡ relays_text qs → rs ≡ qs
+same_relays [] [] hr hq e = refl
+same_relays [] (q ∷ qs) hr hq e = absurd (cc)
+same_relays (r ∷ rs) [] hr hq e = absurd (cc)
+same_relays (r ∷ rs) (q ∷ qs) hr hq e =
+    let r_small : r < RELAYS = All-head (λ r. r < RELAYS) r rs hr in
+    let q_small : q < RELAYS = All-head (λ r. r < RELAYS) q qs hq in
+    let behind : decimal r ++ relays_text rs ≡ decimal q ++ relays_text qs = cc in
+    let parts = one_word q (decimal r) (relays_text rs) (relays_text qs) q_small (no_space r r_small) (next_relays rs) (next_relays qs) behind in
+    let head : r ≡ q = decimal_injective r q (relay_small r r_small) (relay_small q q_small) parts.0 in
+    let tail : rs ≡ qs = same_relays rs qs (All-tail (λ r. r < RELAYS) r rs hr) (All-tail (λ r. r < RELAYS) q qs hq) parts.1 in
+    cc
+
+same_pair : {X Y : Type 0} (a b : X × Y) → a.0 ≡ b.0 → a.1 ≡ b.1 → a ≡ b
+same_pair a b h k = ap (λ (x : _). (x, a.1)) h ∙ ap (λ (y : _). (b.0, y)) k
+
+same_offer : (a b : Id × List ℕ) → IsOffer a → IsOffer b → offered a ≡ offered b → a ≡ b
+same_offer a b ha hb e =
+    let words : offer_line a ≡ offer_line b = same_words (offer_line a) (offer_line b) e in
+    let behind : encode_lower a.0.0 ++ relays_text a.1 ≡ encode_lower b.0.0 ++ relays_text b.1 = cc in
+    let id : a.0 ≡ b.0 = same_id a.0 b.0 (relays_text a.1) (relays_text b.1) ha.id hb.id behind in
+    let relays : a.1 ≡ b.1 = same_relays a.1 b.1 ha.relays hb.relays (after_id a.0 b.0 (relays_text a.1) (relays_text b.1) ha.id hb.id behind) in
+    same_pair a b id relays
+
+same_give : (a b : Id × ℕ) → IsGive a → IsGive b → given a ≡ given b → a ≡ b
+same_give a b ha hb e =
+    let words : give_line a ≡ give_line b = same_words (give_line a) (give_line b) e in
+    let behind : encode_lower a.0.0 ++ relay_text a.1 ≡ encode_lower b.0.0 ++ relay_text b.1 = cc in
+    let id : a.0 ≡ b.0 = same_id a.0 b.0 (relay_text a.1) (relay_text b.1) ha.id hb.id behind in
+    let number = after_id a.0 b.0 (relay_text a.1) (relay_text b.1) ha.id hb.id behind in
+    let digits : decimal a.1 ≡ decimal b.1 = cc in
+    let relay : a.1 ≡ b.1 = decimal_injective a.1 b.1 (relay_small a.1 ha.relay) (relay_small b.1 hb.relay) digits in
+    same_pair a b id relay
+
+same_group : (a b : List ℕ) → All (λ r. r < RELAYS) a → All (λ r. r < RELAYS) b → grouped a ≡ grouped b → a ≡ b
+same_group a b ha hb e =
+    let words : group_line a ≡ group_line b = same_words (group_line a) (group_line b) e in
+    same_relays a b ha hb (cc)
+
+-- records of the same lines
+same_records : {X : Type 0} (f : X → List ℕ) (P : X → Type 0) → ((a b : X) → P a → P b → f a ≡ f b → a ≡ b) → (xs ys : List X) → All P xs → All P ys → map f xs ≡ map f ys → xs ≡ ys
+same_records f P same [] [] hx hy e = refl
+same_records f P same [] (y ∷ ys) hx hy e = absurd (cc)
+same_records f P same (x ∷ xs) [] hx hy e = absurd (cc)
+same_records f P same (x ∷ xs) (y ∷ ys) hx hy e =
+    let line : f x ≡ f y = cc in
+    let others : map f xs ≡ map f ys = cc in
+    let head : x ≡ y = same x y (All-head P x xs hx) (All-head P y ys hy) line in
+    let tail : xs ≡ ys = same_records f P same xs ys (All-tail P x xs hx) (All-tail P y ys hy) others in
+    cc
+
+pub one_plan : (a b : File) → IsOfForm a → IsOfForm b → plan_lines a ≡ plan_lines b → a ≡ b
+one_plan a b ha hb e =
+    let parts = plan_parts a.offers a.gives ha.offers ha.gives (grouped a.group ∷ []) b hb (behind_offers a.gives a.group [] ha.gives ha.group) (behind_gives a.group ha.group) (sym (plan_lines-is a) ∙ e) in
+    let last = parts.2 in
+    let line : grouped a.group ≡ grouped b.group = cc in
+    let offers : a.offers ≡ b.offers = same_records offered IsOffer same_offer a.offers b.offers ha.offers hb.offers parts.0 in
+    let gives : a.gives ≡ b.gives = same_records given IsGive same_give a.gives b.gives ha.gives hb.gives parts.1 in
+    let group : a.group ≡ b.group = same_group a.group b.group ha.group hb.group line in
+    ap (λ os. record { offers = os; gives = a.gives; group = a.group }) offers
+    ∙ ap (λ gs. record { offers = b.offers; gives = gs; group = a.group }) gives
+    ∙ ap (λ (rs : List ℕ). record { offers = b.offers; gives = b.gives; group = rs }) group
+
+pub one_file_each : OneFile
+one_file_each a b ha hb e = one_plan a b ha hb (sym (lines_of-plan (plan_text a) a ha refl) ∙ lines_of-plan (plan_text a) b hb e)

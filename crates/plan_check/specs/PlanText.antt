@@ -1,0 +1,61 @@
+-- The text of a plan file, version 1: a header, a line for each offer, one for each give, and one for the group.
+use Rattle.std.specs.Prelude.{◌≡◌, ℕ, ◌<◌, List, [], ◌∷◌, ◌++◌, length, map, codes, decimal, All}
+use Rattle.std.specs.List.{flat_map}
+use Rattle.hex.specs.Hex.{encode_lower}
+use Rattle.neg_codec.specs.declared.Id.{Id}
+use Rattle.neg_codec.specs.Keys.{IsId}
+use Rattle.sharing.specs.declared.TheConstants.{RELAYS}
+use Rattle.plan_check.specs.File.{File, IsFile}
+use Rattle.plan_check.specs.TextLines.{ended}
+
+-- a space, and a relay in decimal
+abbrev pub relay_text : ℕ → List ℕ
+relay_text r = 32 ∷ decimal r
+
+abbrev pub relays_text : List ℕ → List ℕ
+relays_text relays = flat_map relay_text relays
+
+-- Lines without their line feeds. An id is written in lower-case hex digits.
+abbrev pub header_line : List ℕ
+header_line = codes "nostr-plan 1"
+
+abbrev pub offer_line : Id × List ℕ → List ℕ
+offer_line o = codes "offer " ++ encode_lower o.0.0 ++ relays_text o.1
+
+abbrev pub give_line : Id × ℕ → List ℕ
+give_line g = codes "give " ++ encode_lower g.0.0 ++ relay_text g.1
+
+abbrev pub group_line : List ℕ → List ℕ
+group_line relays = codes "group" ++ relays_text relays
+
+-- the lines of a file, each with its line feed
+unfoldable pub plan_lines : File → List (List ℕ)
+plan_lines file =
+    ended header_line ∷ (map (λ o. ended (offer_line o)) file.offers
+    ++ (map (λ g. ended (give_line g)) file.gives ++ ended (group_line file.group) ∷ []))
+
+unfoldable pub plan_text : File → List ℕ
+plan_text file = flat_map (λ line. line) (plan_lines file)
+
+-- an id of 32 bytes, and one relay or more that offer it
+pub record IsOffer (o : Id × List ℕ) : Type 0 where
+  pub id : IsId o.0
+  pub some : 0 < length o.1
+  pub relays : All (λ r. r < RELAYS) o.1
+
+-- an id of 32 bytes, and a relay
+pub record IsGive (g : Id × ℕ) : Type 0 where
+  pub id : IsId g.0
+  pub relay : g.1 < RELAYS
+
+-- What has lines of the form, whether or not they are in order.
+pub record IsOfForm (file : File) : Type 0 where
+  pub offers : All IsOffer file.offers
+  pub gives : All IsGive file.gives
+  pub group : All (λ r. r < RELAYS) file.group
+
+-- The text of a plan file.
+pub record IsTextOf (text : List ℕ) (file : File) : Type 0 where
+  pub form : IsOfForm file
+  pub ordered : IsFile file
+  pub is : text ≡ plan_text file

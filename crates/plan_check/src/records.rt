@@ -1,0 +1,59 @@
+//! What a line tells: an offer, a give or a group.
+
+ghost use Rattle.std.specs.Prelude.{◌≡◌, ◌≢◌, ◌<◌, ℕ, List, All, IfSome, IfNone, IfOk};
+ghost use Rattle.neg_codec.specs.declared.Id.{Id as AnId};
+ghost use Rattle.sharing.specs.declared.TheConstants.{RELAYS};
+ghost use Rattle.plan_check.specs.PlanText.{offer_line, give_line, group_line, IsOffer, IsGive};
+
+use crate::words::{cut_id, cut_relay, parse_relays, skip_word};
+use neg_codec::Id;
+use std::alloc::{AllocError, Global};
+
+/// The offer of a line without its line feed.
+pub(crate) fn parse_offer(alloc: Global, line: &[u8]) -> Result<Option<(Id, Vec<u16>)>, AllocError>
+    ensures found { IfOk result (λ r. IfSome r (λ o. line.now ≡ offer_line (o.0, o.1.items))) }
+    ensures offer { IfOk result (λ r. IfSome r (λ o. IsOffer (o.0, o.1.items))) }
+    ensures none { IfOk result (λ r. IfNone r ((o : AnId × List ℕ) → IsOffer o → line.now ≢ offer_line o)) }
+{
+    let Some(rest) = skip_word(line, b"offer ") else {
+        return Ok(None);
+    };
+    let Some((id, rest)) = cut_id(rest) else {
+        return Ok(None);
+    };
+    if rest.is_empty() {
+        return Ok(None);
+    }
+    match parse_relays(alloc, rest)? {
+        Some(relays) => Ok(Some((id, relays))),
+        None => Ok(None),
+    }
+}
+
+/// The give of a line without its line feed.
+pub(crate) fn parse_give(line: &[u8]) -> Option<(Id, u16)>
+    ensures found { IfSome result (λ g. line.now ≡ give_line g) }
+    ensures give { IfSome result IsGive }
+    ensures none { IfNone result ((g : AnId × ℕ) → IsGive g → line.now ≢ give_line g) }
+{
+    let rest = skip_word(line, b"give ")?;
+    let (id, rest) = cut_id(rest)?;
+    let (relay, rest) = cut_relay(rest)?;
+    if rest.is_empty() {
+        Some((id, relay))
+    } else {
+        None
+    }
+}
+
+/// The group of a line without its line feed.
+pub(crate) fn parse_group(alloc: Global, line: &[u8]) -> Result<Option<Vec<u16>>, AllocError>
+    ensures found { IfOk result (λ r. IfSome r (λ group. line.now ≡ group_line group.items)) }
+    ensures group { IfOk result (λ r. IfSome r (λ group. All (λ r. r < RELAYS) group.items)) }
+    ensures none { IfOk result (λ r. IfNone r ((group : List ℕ) → All (λ r. r < RELAYS) group → line.now ≢ group_line group)) }
+{
+    match skip_word(line, b"group") {
+        Some(rest) => parse_relays(alloc, rest),
+        None => Ok(None),
+    }
+}
