@@ -2,7 +2,6 @@ pub mod Firsts
 pub mod Files
 pub mod Given
 pub mod Judged
-pub mod Taken
 pub mod Spans
 pub mod LineLemmas
 pub mod RelayLemmas

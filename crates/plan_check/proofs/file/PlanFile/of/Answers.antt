@@ -1,6 +1,6 @@
 use Rattle.std.proofs.Common.{◌≡◌, ℕ, Some, None, sym, ◌∙◌}
 use Rattle.plan_check.proofs.Files.{none_left, file_ok}
-use Rattle.plan_check.proofs.Taken.{well_formed, well_placed}
+use Rattle.plan_check.proofs.InOrder.{file_form_ok, in_order}
 use Rattle.plan_check.proofs.file.PlanFile.of.Goals as goal
 
 pub invariant_of-result : goal.invariant_of-result
@@ -14,7 +14,7 @@ no_place : (n : ℕ) → Some n ≡ None → ⊥
 no_place n e = cc
 
 pub returns-in-Some-clause-taken : goal.returns-in-Some-clause-taken
-returns-in-Some-clause-taken c ok = absurd (no_place c.in-Some.place (sym c.in-Some.is ∙ c.malformed.ensures ∙ well_formed _ ok))
+returns-in-Some-clause-taken c ok = absurd (no_place c.in-Some.place (sym c.in-Some.is ∙ c.malformed.ensures ∙ file_form_ok _ ok))
 
 pub returns-in-Some-misplaced-clause-taken : goal.returns-in-Some-misplaced-clause-taken
-returns-in-Some-misplaced-clause-taken c ok = absurd (no_place c.in-Some-misplaced.place (sym c.in-Some-misplaced.is ∙ c.misplaced.ensures ∙ well_placed _ ok))
+returns-in-Some-misplaced-clause-taken c ok = absurd (no_place c.in-Some-misplaced.place (sym c.in-Some-misplaced.is ∙ c.misplaced.ensures ∙ in_order _ ok))
