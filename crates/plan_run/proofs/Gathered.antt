@@ -50,6 +50,7 @@ gather_member set found new n h is e = subst (λ xs. Gathers set xs (n + 1)) (sy
   ordered = sorted_push nat_cmp found n h.ordered (All-weaker (λ x. x < n) (λ x. nat_cmp x n ≡ Less) (λ x lt. less_from x n lt) found h.below);
   below = All-push (λ x. x < n + 1) found n (All-weaker (λ x. x < n) (λ x. x < n + 1) (λ x lt. omega arith) found h.below) (omega arith);
 })
+
 pub gather_other : (set found : List ℕ) (n : ℕ) → Gathers set found n → is_among set n ≡ false → Gathers set found (n + 1)
 gather_other set found n h is = record {
   members = λ r lt. elim (cases_eq r n) [
