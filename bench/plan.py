@@ -15,33 +15,10 @@ import os
 import subprocess
 import sys
 import tempfile
-import threading
-import time
+
+from measure import Refused, compared, once
 
 SHAPES = ["random", "sparse", "few", "skewed", "chain", "nested", "single"]
-
-
-class Refused(Exception):
-    """A program ended with another status than 0, or too late."""
-
-
-def once(words, source, target, seconds):
-    """Wall time, processor time and peak memory in KiB of one run."""
-    with open(source, "rb") as stdin, open(target, "wb") as stdout:
-        start = time.perf_counter()
-        child = subprocess.Popen(words, stdin=stdin, stdout=stdout, stderr=subprocess.PIPE)
-        timer = threading.Timer(seconds, child.kill)
-        timer.start()
-        errors = child.stderr.read()
-        _, status, usage = os.wait4(child.pid, 0)
-        timer.cancel()
-        wall = time.perf_counter() - start
-        child.returncode = os.waitstatus_to_exitcode(status)
-        child.stderr.close()
-    if child.returncode != 0:
-        why = "over %d s" % seconds if child.returncode < 0 else errors.decode(errors="replace").strip()
-        raise Refused("%s %s: %s" % (os.path.basename(words[0]), words[1], why))
-    return wall, usage.ru_utime + usage.ru_stime, usage.ru_maxrss
 
 
 def answer(program, plan):
@@ -49,15 +26,6 @@ def answer(program, plan):
     with open(plan, "rb") as stdin:
         done = subprocess.run([program, "check"], stdin=stdin, capture_output=True, check=False)
     return (done.stdout or done.stderr).decode(errors="replace").strip()
-
-
-def cells(ours, theirs):
-    """Wall time in ms, processor time in ms and memory in MiB of both, with the ratios."""
-    text = []
-    for k, unit, best in ((0, 1e3, min), (1, 1e3, min), (2, 1 / 1024, max)):
-        x, y = best(run[k] for run in ours) * unit, best(run[k] for run in theirs) * unit
-        text.append("%8.1f %7.1f (%6.2f)" % (x, y, x / max(y, 1e-9)))
-    return " | ".join(text)
 
 
 def main():
@@ -71,8 +39,9 @@ def main():
     parser.add_argument("--runs", type=int, default=5)
     parser.add_argument("--seconds", type=float, default=300)
     options = parser.parse_args()
-    print("%-6s %-7s | %25s | %25s | %25s | %s" % (
+    print("%-6s %-7s | %23s | %23s | %23s | %s" % (
         "job", "shape", "wall ms (ratio)", "processor ms (ratio)", "memory MiB (ratio)", "answers"))
+    limited = ["timeout", str(options.seconds)]
     wrong = False
     with tempfile.TemporaryDirectory() as folder:
         source, ours, theirs, told, other = (
@@ -81,13 +50,13 @@ def main():
             with open(source, "wb") as made:
                 subprocess.run([options.baseline, "gen", "plan", "--ids", str(options.ids), "--relays",
                                 str(options.relays), "--shape", shape], stdout=made, check=True)
-            once([options.baseline, "plan"], source, theirs, options.seconds)
+            once([options.baseline, "plan"], source, theirs)
             for job, given, a_out, b_out in (("plan", source, ours, theirs), ("check", theirs, told, other)):
                 a, b = [], []
                 try:
                     for _ in range(options.runs):
-                        a.append(once([options.mirror, job], given, a_out, options.seconds))
-                        b.append(once([options.baseline, job], given, b_out, options.seconds))
+                        a.append(once(limited + [options.mirror, job], given, a_out))
+                        b.append(once(limited + [options.baseline, job], given, b_out))
                 except Refused as refused:
                     print("%-6s %-7s | %s" % (job, shape, refused), flush=True)
                     continue
@@ -97,8 +66,9 @@ def main():
                     answers = [open(out, encoding="utf-8").read().strip() for out in (told, other)]
                 equal = answers[0] == answers[1]
                 wrong = wrong or not equal
-                print("%-6s %-7s | %s | %s" % (
-                    job, shape, cells(a, b), answers[0] if equal else "DIFFER: " + ", ".join(answers)), flush=True)
+                print("%-6s %-7s | %23s | %23s | %23s | %s" % (
+                    job, shape, *compared(a, b), answers[0] if equal else "DIFFER: " + ", ".join(answers)),
+                    flush=True)
     sys.exit(1 if wrong else 0)
 
 

@@ -13,40 +13,8 @@ import os
 import subprocess
 import sys
 import tempfile
-import time
 
-
-class Refused(Exception):
-    """A program ended with another status than 0."""
-
-
-def once(words, source, target):
-    """Wall time, processor time, peak memory in KiB and status of one run."""
-    with open(source, "rb") as stdin, open(target, "wb") as stdout:
-        start = time.perf_counter()
-        child = subprocess.Popen(words, stdin=stdin, stdout=stdout, stderr=subprocess.PIPE)
-        errors = child.stderr.read()
-        _, status, usage = os.wait4(child.pid, 0)
-        wall = time.perf_counter() - start
-        child.returncode = os.waitstatus_to_exitcode(status)
-        child.stderr.close()
-    if child.returncode != 0:
-        raise Refused("%s: %s" % (os.path.basename(words[0]), errors.decode(errors="replace").strip()))
-    return wall, usage.ru_utime + usage.ru_stime, usage.ru_maxrss
-
-
-def same(one, other):
-    with open(one, "rb") as a, open(other, "rb") as b:
-        while True:
-            x, y = a.read(1 << 20), b.read(1 << 20)
-            if x != y:
-                return False
-            if not x:
-                return True
-
-
-def numbers(text):
-    return [int(word) for word in text.split(",")]
+from measure import Refused, compared, numbers, once, same
 
 
 def main():
@@ -78,12 +46,8 @@ def main():
                     continue
                 equal = same(ours, theirs)
                 wrong = wrong or not equal
-                cells = []
-                for k, unit, best in ((0, 1e3, min), (1, 1e3, min), (2, 1 / 1024, max)):
-                    x, y = best(run[k] for run in a) * unit, best(run[k] for run in b) * unit
-                    cells.append("%6.1f %6.1f (%5.2f)" % (x, y, x / max(y, 1e-9)))
                 print("%9d %8d | %21s | %21s | %21s | %s" % (
-                    items, ppm, *cells, "equal" if equal else "DIFFER"), flush=True)
+                    items, ppm, *compared(a, b), "equal" if equal else "DIFFER"), flush=True)
     sys.exit(1 if wrong else 0)
 
 

@@ -1,7 +1,10 @@
 -- Bytes and their digits, one after another.
-use Rattle.std.proofs.Common.{◌≡◌, ℕ, zero, suc, ◌+◌, ◌*◌, ◌/◌, ◌%◌, ◌<◌, List, [], ◌∷◌, ◌++◌, length, take, get_or, slice_index, set, refl, ap, sym, ◌∙◌, append_assoc, arith}
+use Rattle.std.proofs.Common.{◌≡◌, ◌≢◌, ℕ, zero, suc, ◌+◌, ◌*◌, ◌/◌, ◌%◌, ◌<◌, ◌≤◌, ◌⊎◌, inl, inr, All, List, [], ◌∷◌, ◌++◌, length, take, get_or, slice_index, set, refl, ap, sym, ◌∙◌, append_assoc, arith}
 use Rattle.std.proofs.lemmas.List.{take_more, take_more_set}
+use Rattle.std.proofs.lemmas.List.Elements.{All-head, All-tail}
 use Rattle.hex.specs.Hex.{encode_lower, encode_with, lower_digits}
+use Rattle.neg_codec.specs.declared.Id.{Id}
+use Rattle.neg_codec.specs.Keys.{IsId}
 
 -- the digits of a byte
 abbrev pub high_digit : ℕ → ℕ
@@ -44,3 +47,37 @@ encode_more text id i b within more high low so_far =
     let right : encode_lower (take (i + 1) (set id i b)) ≡ encode_lower (take i id) ++ (high_digit b ∷ low_digit b ∷ []) =
     ap encode_lower (take_more_set id i b within) ∙ encode-append (take i id) (b ∷ []) ∙ ap (λ t. encode_lower (take i id) ++ t) (encode-one b) in
     left ∙ append_assoc (encode_lower (take i id)) (high_digit b ∷ []) (low_digit b ∷ []) ∙ sym right
+
+-- one of the first n bytes is no lower-case digit
+pub record HasStray (text : List ℕ) (n : ℕ) : Type 0 where
+  pub at : ℕ
+  pub before : at < n
+  pub stray : (d : ℕ) → d < 16 → get_or text at 0 ≢ slice_index lower_digits d
+
+-- two bytes more
+pub stray_more : (text : List ℕ) (i most high low new : ℕ) → 16 ≤ new → (new ≡ most) ⊎ (new ≡ high) ⊎ (new ≡ low)
+    → (16 ≤ most → HasStray text (2 * i))
+    → (16 ≤ high → (d : ℕ) → d < 16 → get_or text (2 * i) 0 ≢ slice_index lower_digits d)
+    → (16 ≤ low → (d : ℕ) → d < 16 → get_or text (2 * i + 1) 0 ≢ slice_index lower_digits d)
+    → HasStray text (2 * (i + 1))
+stray_more text i most high low new large is was of_high of_low = elim is [
+  | inl e ↦ let s = was (omega (arith, e, large)) in record { at = s.at; before = omega (arith, s.before); stray = s.stray }
+  | inr rest ↦ elim rest [
+    | inl e ↦ record { at = 2 * i; before = omega arith; stray = of_high (omega (arith, e, large)) }
+    | inr e ↦ record { at = 2 * i + 1; before = omega arith; stray = of_low (omega (arith, e, large)) }
+  ]
+]
+
+-- the digits of bytes are lower-case digits
+is_digit : (bytes : List ℕ) (k : ℕ) → All (λ b. b < 256) bytes → k < 2 * length bytes → (d : ℕ) × (d < 16) × (get_or (encode_lower bytes) k 0 ≡ slice_index lower_digits d)
+unfolding encode_with
+is_digit [] k small within = absurd (omega arith)
+is_digit (b ∷ bs) zero small within = (b / 16, omega (arith, All-head (λ b. b < 256) b bs small), refl)
+is_digit (b ∷ bs) (suc zero) small within = (b % 16, omega arith, refl)
+is_digit (b ∷ bs) (suc (suc k)) small within = is_digit bs k (All-tail (λ b. b < 256) b bs small) (omega (arith, within))
+
+-- so a text with another byte is that of no id
+pub no_stray : (text : List ℕ) (id : Id) → IsId id → text ≡ encode_lower id.0 → (n : ℕ) → HasStray text n → n ≤ 64 → ⊥
+no_stray text id is same n s le =
+    let d = is_digit id.0 s.at is.bytes (omega (arith, s.before, is.len, le)) in
+    s.stray d.0 d.1 (ap (λ t. get_or t s.at 0) same ∙ d.2)

@@ -1,6 +1,6 @@
 //! The item that a line tells.
 
-ghost use Rattle.std.specs.Prelude.{◌≡◌, ◌≢◌, ◌<◌, ◌^◌, ℕ, IfSome, IfNone, decimal, slice_index};
+ghost use Rattle.std.specs.Prelude.{◌≡◌, ◌≢◌, ◌<◌, ◌≤◌, ◌⊎◌, ◌^◌, ◌/◌, ◌%◌, ℕ, IfSome, IfNone, decimal, slice_index};
 ghost use Rattle.hex.specs.Hex.{encode_lower, lower_digits};
 ghost use Rattle.neg_codec.specs.declared.Id.{Id as AnId};
 ghost use Rattle.neg_codec.specs.declared.Item.{Item as AnItem};
@@ -31,20 +31,42 @@ fn parse_time(text: &[u8]) -> Option<u64>
     Some(value)
 }
 
-/// The value of a lower-case hex digit. There is one branch, for what is no digit.
-fn hex_digit(byte: u8) -> Option<u8>
-    ensures found { IfSome result (λ d. (d < 16) × (byte ≡ slice_index lower_digits d)) }
-    ensures none { IfNone result ((d : ℕ) → d < 16 → byte ≢ slice_index lower_digits d) }
+/// The value of a lower-case hex digit, and 16 for another byte.
+fn hex_digit(byte: u8) -> u8
+    ensures digit { result < 16 → byte ≡ slice_index lower_digits result }
+    ensures other { 16 ≤ result → (d : ℕ) → d < 16 → byte ≢ slice_index lower_digits d }
+    ensures small { result ≤ 16 }
 {
     let number = byte.wrapping_sub(b'0');
     let letter = byte.wrapping_sub(b'a');
-    if !(number < 10 || letter < 6) {
-        return None;
+    if number < 10 {
+        number
+    } else if letter < 6 {
+        letter + 10
+    } else {
+        16
     }
-    Some(if number < 10 { number } else { letter + 10 })
 }
 
-/// The id of a text of 64 lower-case hex digits.
+/// The greatest of three.
+fn greatest(a: u8, b: u8, c: u8) -> u8
+    ensures above { (a ≤ result) × (b ≤ result) × (c ≤ result) }
+    ensures one { (result ≡ a) ⊎ (result ≡ b) ⊎ (result ≡ c) }
+{
+    let first = if a < b { b } else { a };
+    if first < c { c } else { first }
+}
+
+/// The byte of two digits.
+fn byte_of(high: u8, low: u8) -> u8
+    ensures high { high < 16 → low < 16 → result / 16 ≡ high }
+    ensures low { high < 16 → low < 16 → result % 16 ≡ low }
+{
+    high.wrapping_mul(16).wrapping_add(low)
+}
+
+/// The id of a text of 64 lower-case hex digits. All are looked at before one is refused, so that no
+/// digit costs a branch.
 fn parse_id(text: &[u8]) -> Option<Id>
     ensures found { IfSome result (λ id. text.now ≡ encode_lower id.0) }
     ensures id { IfSome result IsId }
@@ -54,10 +76,15 @@ fn parse_id(text: &[u8]) -> Option<Id>
         return None;
     }
     let mut id = [0; 32];
+    let mut most = 0;
     for i in 0..32 {
-        let high = hex_digit(text[2 * i])?;
-        let low = hex_digit(text[2 * i + 1])?;
-        id[i] = 16 * high + low;
+        let high = hex_digit(text[2 * i]);
+        let low = hex_digit(text[2 * i + 1]);
+        most = greatest(most, high, low);
+        id[i] = byte_of(high, low);
+    }
+    if most > 15 {
+        return None;
     }
     Some(Id(id))
 }

@@ -1,5 +1,5 @@
 -- Sets of ids, as the lists of their keys.
-use Rattle.std.proofs.Common.{◌≡◌, ◌+◌, ◌<◌, length, take, get_or, ◌⊎◌, inl, inr, ℕ, List, [], ◌∷◌, refl, sym, ap, subst}
+use Rattle.std.proofs.Common.{◌≡◌, ◌+◌, ◌<◌, ◌≤◌, length, arith, take, get_or, ◌⊎◌, inl, inr, ℕ, List, [], ◌∷◌, refl, sym, ap, subst}
 use Rattle.std.specs.Prelude.{Contains}
 use Rattle.std.specs.declared.cmp.Ordering.{Ordering}
 use Rattle.std.specs.declared.cmp.Ordering.TheVariants.{Less, Equal, Greater}
@@ -22,6 +22,15 @@ id_exact a b e = ap (λ (bytes : List ℕ). bytes_id bytes) (exact_bytes a.0 b.0
   where
     bytes_id : List ℕ → Id
     bytes_id bytes = record { 0 = bytes }
+
+pub put_count : (ks : List Id) (k : Id) → length (insert_key id_cmp ks k) ≤ length ks + 1
+put_count [] k = omega arith
+put_count (x ∷ xs) k = go (id_cmp k x) (put_count xs k)
+  where
+    go : (o : Ordering) → length (insert_key id_cmp xs k) ≤ length xs + 1 → length (match_ordering o (k ∷ x ∷ xs) (x ∷ xs) (x ∷ insert_key id_cmp xs k)) ≤ length (x ∷ xs) + 1
+    go Less again = omega arith
+    go Equal again = omega arith
+    go Greater again = omega (arith, again)
 
 pub put_gives : (ks : List Id) (k i : Id) → Contains (insert_key id_cmp ks k) i → Contains ks i ⊎ (i ≡ k)
 put_gives [] k i h = elim (contains_cases k [] i h) [ inl e ↦ inr (sym e) | inr n ↦ absurd (contains_none i n) ]

@@ -1,6 +1,6 @@
 //! What a session has found out.
 
-ghost use Rattle.std.specs.Prelude.{◌≡◌, ◌<◌, ◌⊎◌, ◌^◌, [], ◌∷◌, OnOk, IfErr, Err, length};
+ghost use Rattle.std.specs.Prelude.{◌≡◌, ◌<◌, ◌≤◌, ◌⊎◌, ◌^◌, [], ◌∷◌, OnOk, IfErr, Err, length};
 ghost use Rattle.neg_initiator.specs.Notes.{NotesOne, Notes, Passes};
 
 use crate::InitFault;
@@ -30,6 +30,7 @@ fn note(
     most: usize,
 ) -> Result<(), InitFault>
     ensures ok { OnOk result (NotesOne others.now.keys id.now into.old.keys into.new.keys) }
+    ensures within { OnOk result (length into.old.keys ≤ most → length into.new.keys ≤ most) }
     ensures full { result ≡ Err InitFault.NeedFull → (most < 2 ^ 63) × Passes others.now.keys (id.now ∷ []) into.old.keys most }
     ensures fault { IfErr result (λ e. (e ≡ InitFault.NeedFull) ⊎ (e ≡ InitFault.Memory)) }
 {
@@ -54,6 +55,7 @@ fn note_all(
     most: usize,
 ) -> Result<(), InitFault>
     ensures ok { OnOk result (Notes others.now.keys listed.now into.old.keys into.new.keys) }
+    ensures within { OnOk result (length into.old.keys ≤ most → length into.new.keys ≤ most) }
     ensures full { result ≡ Err InitFault.NeedFull → (most < 2 ^ 63) × Passes others.now.keys listed.now into.old.keys most }
     ensures fault { IfErr result (λ e. (e ≡ InitFault.NeedFull) ⊎ (e ≡ InitFault.Memory)) }
 {
@@ -70,6 +72,7 @@ fn note_all(
 pub fn compare(alloc: Global, found: &mut Found, own: &[Id], listed: &[Id]) -> Result<(), InitFault>
     ensures need { OnOk result (Notes own.now listed.now found.old.need.keys found.new.need.keys) }
     ensures have { OnOk result (Notes listed.now own.now found.old.have.keys found.new.have.keys) }
+    ensures within { OnOk result (length found.old.need.keys ≤ found.old.most → length found.new.need.keys ≤ found.old.most) }
     ensures kept { (found.new.trusted ≡ found.old.trusted) × (found.new.most ≡ found.old.most) }
     ensures full { result ≡ Err InitFault.NeedFull → Passes own.now listed.now found.old.need.keys found.old.most }
     ensures fault { IfErr result (λ e. (e ≡ InitFault.NeedFull) ⊎ (e ≡ InitFault.Memory)) }

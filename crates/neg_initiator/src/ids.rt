@@ -1,6 +1,6 @@
 //! Sets of ids.
 
-ghost use Rattle.std.specs.Prelude.{◌≡◌, ◌⊎◌, ◌↔◌, IsTrue, IfOk, OnOk, OnErr, Contains};
+ghost use Rattle.std.specs.Prelude.{◌≡◌, ◌≤◌, ◌+◌, ◌⊎◌, ◌↔◌, length, IsTrue, IfOk, OnOk, OnErr, Contains};
 ghost use Rattle.neg_codec.specs.declared.Id.{Id};
 
 use neg_codec::Id;
@@ -17,6 +17,7 @@ pub fn has(set: &BTreeSet<Id>, id: &Id) -> bool
 /// Puts an id into the set.
 pub fn put(set: &mut BTreeSet<Id>, id: Id) -> Result<(), AllocError>
     ensures ok { OnOk result ((i : Id) → Contains set.new.keys i ↔ (Contains set.old.keys i ⊎ (i ≡ id))) }
+    ensures count { OnOk result (length set.new.keys ≤ length set.old.keys + 1) }
     ensures err { OnErr result (set.new.keys ≡ set.old.keys) }
 {
     set.insert(id)?;

@@ -1,6 +1,6 @@
 //! What is done with the stretches of a reply.
 
-ghost use Rattle.std.specs.Prelude.{◌≡◌, ◌<◌, ◌≤◌, ◌⊎◌, [], IfOk, IfErr, OnOk, Err};
+ghost use Rattle.std.specs.Prelude.{◌≡◌, ◌<◌, ◌≤◌, ◌⊎◌, [], length, IfOk, IfErr, OnOk, Err};
 ghost use Rattle.neg_codec.specs.Keys.{place};
 ghost use Rattle.neg_codec.specs.Ranges.{ids, edge_of, span_of};
 ghost use Rattle.item_roll.specs.Parts.{part, ids_of};
@@ -33,6 +33,7 @@ fn settle_ids(
     ensures finds { OnOk result (Finds roll.now (edge_of lower.now) (record { upper = edge_of upper.now; claim = ids listed.now }) (findings_of found.old) (findings_of found.new)) }
     ensures accounts { OnOk result (AccountsFor roll.now (findings_of found.new) (edge_of lower.now) (edge_of upper.now) (ids listed.now)) }
     ensures most { found.new.most ≡ found.old.most }
+    ensures within { OnOk result (length found.old.need.keys ≤ found.old.most → length found.new.need.keys ≤ found.new.most) }
     ensures full { result ≡ Err InitFault.NeedFull → Passes (ids_of (part roll.now (edge_of lower.now) (edge_of upper.now))) listed.now found.old.need.keys found.old.most }
     ensures fault { IfErr result (λ e. (e ≡ InitFault.NeedFull) ⊎ (e ≡ InitFault.Memory)) }
 {
@@ -58,6 +59,7 @@ pub fn settle_range(
     ensures settles { IfOk result (λ d. Settles roll.now (edge_of lower.now) (span_of range.now) (findings_of found.new) draft d) }
     ensures draft { IsDraft draft }
     ensures most { found.new.most ≡ found.old.most }
+    ensures within { OnOk result (length found.old.need.keys ≤ found.old.most → length found.new.need.keys ≤ found.new.most) }
     ensures full { result ≡ Err InitFault.NeedFull → ListsTooMany roll.now (edge_of lower.now) (span_of range.now) found.old.need.keys found.old.most }
     ensures fault { IfErr result (λ e. (e ≡ InitFault.NeedFull) ⊎ (e ≡ InitFault.Memory)) }
 {
@@ -96,6 +98,7 @@ pub fn settle(
     requires { IsSound (asking roll.now asked.now (findings_of found.old) found.old.most) }
     ensures taken { IfOk result (λ next. Taken answered.now (asking roll.now asked.now (findings_of found.old) found.old.most) (asking roll.now next (findings_of found.new) found.new.most)) }
     ensures leaves_open { IfOk result (λ next. (next ≡ []) ⊎ HasOpen next) }
+    ensures within { OnOk result (length found.old.need.keys ≤ found.old.most → length found.new.need.keys ≤ found.new.most) }
     ensures full { result ≡ Err InitFault.NeedFull → PassesMost roll.now answered.now found.old.need.keys found.old.most }
     ensures fault { IfErr result (λ e. (e ≡ InitFault.NeedFull) ⊎ (e ≡ InitFault.Memory)) }
 {

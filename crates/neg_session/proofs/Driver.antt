@@ -168,6 +168,7 @@ going_first own limits old before text s h = record {
   phase = h.phase;
   sound = h.sound;
   spelled = h.spelled;
+  few = rw h.need (omega arith);
   offered = λ i m. absurd (contains_none i (subst (λ (ns : List Id). Contains ns i) h.need m));
   knows = λ b e. knows_first own b limits.need text s h e.roll;
 }
@@ -189,6 +190,7 @@ ran_none own limits old before = record {
   need_full = λ e. cc;
   log_full = λ e. cc;
   within_log = tt;
+  few = tt;
   refused = λ c r l. absurd (subst (LastAnswer (IsRefused c)) (gained_none old) l);
 }
 
@@ -209,6 +211,7 @@ module _ (own : List Item) (limits : SessionLimits) (asked : ℕ) (old now new :
     need_full = λ h. absurd (need_full (is h));
     log_full = λ h. absurd (log_full (is h));
     within_log = tt;
+    few = tt;
     refused = λ c r l. absurd (no_refusal c (gained old now) going.read (subst (λ w. LastAnswer (IsRefused c) (gained old w)) same l));
   }
     where
@@ -245,9 +248,9 @@ module _ (own : List Item) (limits : SessionLimits) (asked : ℕ) (old now new :
       let was : Knows s.roll b s = subst (λ (w : List Item). Knows w b s) (sym going.roll) (going.knows b (explains_front b (gained old now) _ all)) in
       subst (λ (w : List Item). Knows w b next) going.roll (knows_more b s next answered h.roll follows taken was)
 
-  pub going_more : OneMessage → (next : Session) (answered : List Span) (text : List ℕ) → length reply ≤ left → Spells reply answered → message_at reply ≡ Ok answered → Taken answered s next → GoesOn text next
+  pub going_more : OneMessage → (next : Session) (answered : List Span) (text : List ℕ) → length reply ≤ left → Spells reply answered → message_at reply ≡ Ok answered → Taken answered s next → (length s.need ≤ s.most → length next.need ≤ next.most) → GoesOn text next
       → Going own limits (asked + 1) old new before last text (left - length reply) next
-  going_more one next answered text room spells read taken goes = record {
+  going_more one next answered text room spells read taken few goes = record {
     appended = next_appended;
     chained = next_chained;
     may = rw pairs (may_more own (gained old now) (exchange question reply) text (record {
@@ -268,6 +271,7 @@ module _ (own : List Item) (limits : SessionLimits) (asked : ℕ) (old now new :
     phase = goes.phase;
     sound = taken.sound;
     spelled = goes.spelled;
+    few = omega (arith, few (omega (arith, going.few, going.most)), taken.most, going.most);
     offered = λ i m. rw pairs (elim (taken.need_from i m) [
       | inl was ↦ offered_more own (gained old now) (exchange question reply ∷ []) i (going.offered i was)
       | inr listed ↦ offered_last own (gained old now) (exchange question reply) answered read i (subst (λ (w : List Item). IsListed w answered i) going.roll listed)
@@ -275,9 +279,9 @@ module _ (own : List Item) (limits : SessionLimits) (asked : ℕ) (old now new :
     knows = next_knows one next answered spells taken;
   }
 
-  pub ran_done : OneMessage → (next : Session) (answered : List Span) → asked < limits.rounds → length reply ≤ left → Spells reply answered → message_at reply ≡ Ok answered → Taken answered s next → IsDone next
+  pub ran_done : OneMessage → (next : Session) (answered : List Span) → asked < limits.rounds → length reply ≤ left → Spells reply answered → message_at reply ≡ Ok answered → Taken answered s next → (length s.need ≤ s.most → length next.need ≤ next.most) → IsDone next
       → (o : Outcome) → o.need.keys ≡ next.need → o.have.keys ≡ next.have → trusted_of o ≡ next.trusted → Ran own limits old new before last (Ok o)
-  ran_done one next answered round room spells read taken done o is_need is_have is_trusted = record {
+  ran_done one next answered round room spells read taken few done o is_need is_have is_trusted = record {
     appended = next_appended;
     chained = next_chained;
     within = omega (arith, next_count);
@@ -289,6 +293,7 @@ module _ (own : List Item) (limits : SessionLimits) (asked : ℕ) (old now new :
     need_full = λ e. cc;
     log_full = λ e. cc;
     within_log = omega (arith, next_bytes, going.bytes);
+    few = rw is_need (omega (arith, few (omega (arith, going.few, going.most)), taken.most, going.most));
     refused = λ c r l. absurd (read_or_refused (exchange question reply) c (answered, read) (last_gives (IsRefused c) (gained old now) (exchange question reply) (subst (LastAnswer (IsRefused c)) pairs l)));
   }
 
@@ -309,6 +314,7 @@ module _ (own : List Item) (limits : SessionLimits) (asked : ℕ) (old now new :
         rw pairs (offers_more own (gained old now) (exchange question reply) f.0 s.need limits.need f.1 going.offered passes);
     log_full = λ h. let more : left < length reply = log_full (is h) in omega (arith, next_bytes, going.bytes);
     within_log = tt;
+    few = tt;
     refused = λ c r l. ap Err (refused c r (last_gives (IsRefused c) (gained old now) (exchange question reply) (subst (LastAnswer (IsRefused c)) pairs l)));
   }
     where

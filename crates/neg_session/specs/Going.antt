@@ -1,5 +1,5 @@
 -- Where a session stands between two questions.
-use Rattle.std.specs.Prelude.{◌≡◌, ◌+◌, ◌++◌, ℕ, List, length, All, Contains, Ok}
+use Rattle.std.specs.Prelude.{◌≡◌, ◌+◌, ◌≤◌, ◌++◌, ℕ, List, length, All, Contains, Ok}
 use Rattle.neg_codec.specs.declared.Id.{Id}
 use Rattle.neg_codec.specs.declared.Item.{Item}
 use Rattle.neg_codec.specs.Ranges.{Span}
@@ -35,6 +35,7 @@ pub record Going (own : List Item) (limits : SessionLimits) (asked : ℕ) (old n
   pub unfailed : after ≡ before
   pub roll : s.roll ≡ own
   pub most : s.most ≡ limits.need
+  pub few : length s.need ≤ limits.need
   pub phase : s.phase ≡ Asking
   pub sound : IsSound s
   pub spelled : Spells question s.asked

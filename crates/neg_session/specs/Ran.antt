@@ -65,6 +65,7 @@ pub record Ran (own : List Item) (limits : SessionLimits) (old new : List Exchan
   pub exact : IfOk result (λ o. (b : List Item) → Explains b (gained old new) → IsRight own b o)
   pub unfailed : OnOk result (after ≡ before)
   pub within_log : OnOk result (answered_bytes (gained old new) ≤ limits.log)
+  pub few : IfOk result (λ o. length o.need.keys ≤ limits.need)
   -- each fault has its cause
   pub failed : result ≡ Err PeerFailed → before < after
   pub bad : (c : CodecFault) → result ≡ Err (Bad c) → LastAnswer (IsRefused c) (gained old new)

@@ -6,7 +6,7 @@ mod round;
 mod rules;
 
 pub use events::{Answer, Refusal, RoundEvent};
-pub use round::{Round, finished_once, one_holder};
+pub use round::{Round, finished_once, one_holder, table_stands};
 
 #[cfg(test)]
 mod tests;

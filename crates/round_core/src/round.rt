@@ -1,9 +1,10 @@
 //! Rounds.
 
-ghost use Rattle.std.specs.Prelude.{◌≡◌, ◌≤◌, ◌++◌, ◌∷◌, [], ℕ, length, IfOk, OnErr, None, is_some, slice_index_or, List, IsTrue, false};
+ghost use Rattle.std.specs.Prelude.{◌≡◌, ◌≤◌, ◌++◌, ◌∷◌, [], ℕ, length, IfOk, OnErr, None, is_some, slice_index_or, List, IsTrue, true, false};
 ghost use Rattle.std.specs.List.{list_any, zip};
-ghost use Rattle.sharing.specs.Offers.{is_id};
-ghost use Rattle.round_core.specs.History.{History, holds, has_finished, is_placed};
+ghost use Rattle.sharing.specs.Offers.{is_id, StandsFor};
+ghost use Rattle.offer_table.specs.Table.{Table};
+ghost use Rattle.round_core.specs.History.{History, TableOf, wants, holds, has_finished, is_placed};
 ghost use Rattle.fetch_plan.specs.Plan.{Planned};
 ghost use Rattle.round_core.specs.Legal.{Legal, legal_after, answer_of, no_give};
 ghost use Rattle.round_core.specs.Left.{Leaves, ReportsTo, SealsTo, InsertsTo, gives_in, cells_then};
@@ -141,4 +142,9 @@ pub fn one_holder()
 /// was placed before.
 pub fn finished_once()
     ensures { (lanes : List ℕ) (fixed : Planned) (before after : History) (w i : ℕ) → legal_after lanes fixed [] (before ++ (RoundEvent.Finish w i, Answer.Finished) ∷ after) → (has_finished before i ≡ false) × IsTrue (is_placed before (slice_index_or fixed.gives i no_give).0) }
+{}
+
+/// The table that a history leaves stands for the sets of ids that its reports name, a relay's set each.
+pub fn table_stands()
+    ensures { (h : History) (table : Table) → TableOf h table → StandsFor table.offers (λ r i. wants h r i ≡ true) }
 {}

@@ -8,17 +8,20 @@ abbrev no_id : Id
 no_id = record { 0 = [] }
 
 pub loop-id-init : goal.loop-id-init
-loop-id-init c = notes_none c.args.others.now.keys c.args.into.now.keys
+loop-id-init c = record { notes = notes_none c.args.others.now.keys c.args.into.now.keys; within = λ le. le }
 
 pub loop-id-preserved : goal.loop-id-preserved
-loop-id-preserved c = notes_more c.args.others.now.keys c.args.listed.now c.loop-id.id-index no_id c.args.into.now.keys c.loop-id.into.keys c.note.new.into.keys c.loop-id-test.true c.loop-id.invariant c.in-Ok.ensures.ok
+loop-id-preserved c = record {
+  notes = notes_more c.args.others.now.keys c.args.listed.now c.loop-id.id-index no_id c.args.into.now.keys c.loop-id.into.keys c.note.new.into.keys c.loop-id-test.true c.loop-id.invariant.notes c.in-Ok.ensures.ok;
+  within = λ le. c.in-Ok.ensures.within (c.loop-id.invariant.within le);
+}
 
 pub returns-in-Err-clause-full : goal.returns-in-Err-clause-full
 returns-in-Err-clause-full c = λ e.
     let p = c.in-Err.ensures.full e in
-    (p.0, passes_at c.args.others.now.keys c.args.listed.now c.loop-id.id-index no_id c.args.into.now.keys c.loop-id.into.keys c.args.most c.loop-id-test.true c.loop-id.invariant p.1)
+    (p.0, passes_at c.args.others.now.keys c.args.listed.now c.loop-id.id-index no_id c.args.into.now.keys c.loop-id.into.keys c.args.most c.loop-id-test.true c.loop-id.invariant.notes p.1)
 
 pub returns-clause-ok : goal.returns-clause-ok
 returns-clause-ok c =
     let le : length c.args.listed.now ≤ c.loop-id.id-index = omega arith in
-    rw (take_all c.loop-id.id-index c.args.listed.now le) at c.loop-id.invariant
+    rw (take_all c.loop-id.id-index c.args.listed.now le) at c.loop-id.invariant.notes

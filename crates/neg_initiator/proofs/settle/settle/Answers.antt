@@ -21,6 +21,7 @@ loop-range-init c = record {
       (record { need = c.args.found.now.need.keys; have = c.args.found.now.have.keys; trusted = map pair_of c.trust_skipped.new.trusted.items }));
   lower = c.lowest-lower.ensures;
   most = refl;
+  within = λ le. le;
 }
 
 pub settle_range-requires-clause-ahead : goal.settle_range-requires-clause-ahead
@@ -56,6 +57,7 @@ loop-range-preserved c =
       lower = rw (ranges_upto c.ranges-range-items.result.now c.loop-range.range-index c.range-item.result lt c.range-item.is)
           (sym (end-append least (map span_of (take c.loop-range.range-index c.ranges-range-items.result.now)) (span_of c.range-item.result ∷ [])));
       most = c.in-Ok.ensures.most ∙ c.loop-range.invariant.most;
+      within = λ le. c.in-Ok.ensures.within (c.loop-range.invariant.within le);
     }
 
 pub returns-clause-taken : goal.returns-clause-taken

@@ -32,8 +32,9 @@ returns-in-Ok-Done-clause-ran g c =
     let asked = rw c.deref.ensures.value at c.in_ok-answer.ensures.ok in
     let room : length c.in_ok-answer.answer.items ≤ c.loop-round.left = omega arith in
     let taken = rw c.deref-in-loop-round.ensures.value at c.in-Ok-Done.ensures.taken in
+    let few = c.in-Ok-Done.ensures.within in
     let done = rw c.in-Ok-Done.field-0-is at c.in-Ok-Done.ensures.leaves in
-    ran_done _ _ _ _ _ _ _ _ _ _ _ _ c.loop-round.invariant.going _ asked.0 asked.1 c.one_message.ensures c.take.new.self taken.0 c.loop-round-test.true room taken.1 taken.2 taken.3 done c.outcome.result
+    ran_done _ _ _ _ _ _ _ _ _ _ _ _ c.loop-round.invariant.going _ asked.0 asked.1 c.one_message.ensures c.take.new.self taken.0 c.loop-round-test.true room taken.1 taken.2 taken.3 few done c.outcome.result
     c.outcome.ensures.need c.outcome.ensures.have c.outcome.ensures.trusted
 
 pub returns-in-Err-Bad-clause-ran : goal.returns-in-Err-Bad-clause-ran
@@ -69,10 +70,11 @@ loop-round-preserved g c =
     let asked = rw c.deref.ensures.value at c.in_ok-answer.ensures.ok in
     let room : length c.in_ok-answer.answer.items ≤ c.loop-round.left = omega arith in
     let taken = rw c.deref-in-loop-round.ensures.value at c.in-Ok-Ask.ensures.taken in
+    let few = c.in-Ok-Ask.ensures.within in
     let goes = rw c.in-Ok-Ask.field-0-is at c.in-Ok-Ask.ensures.leaves in
     let size : c.len-left.result ≡ length c.in_ok-answer.answer.items = search rules in
     record {
-      going = rw size (going_more _ _ _ _ _ _ _ _ _ _ _ _ c.loop-round.invariant.going _ asked.0 asked.1 c.one_message.ensures c.take.new.self taken.0 _ room taken.1 taken.2 taken.3 goes);
+      going = rw size (going_more _ _ _ _ _ _ _ _ _ _ _ _ c.loop-round.invariant.going _ asked.0 asked.1 c.one_message.ensures c.take.new.self taken.0 _ room taken.1 taken.2 taken.3 few goes);
       becomes = search rules;
     }
 

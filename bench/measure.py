@@ -1,0 +1,55 @@
+"""What the measurements share: one run of a program, and what it cost."""
+import os
+import subprocess
+import time
+
+
+class Refused(Exception):
+    """A program ended with another status than 0."""
+
+
+def ended(child, words, start, errors=b""):
+    """Wall time, processor time and peak memory in KiB of a program that is to end."""
+    _, status, usage = os.wait4(child.pid, 0)
+    wall = time.perf_counter() - start
+    child.returncode = os.waitstatus_to_exitcode(status)
+    if child.returncode != 0:
+        raise Refused("%s: status %d %s" % (
+            os.path.basename(words[0]), child.returncode, errors.decode(errors="replace").strip()))
+    return wall, usage.ru_utime + usage.ru_stime, usage.ru_maxrss
+
+
+def once(words, source, target):
+    """What one run costs that reads a file as its standard input and writes another."""
+    with open(source, "rb") as stdin, open(target, "wb") as stdout:
+        start = time.perf_counter()
+        child = subprocess.Popen(words, stdin=stdin, stdout=stdout, stderr=subprocess.PIPE)
+        errors = child.stderr.read()
+        child.stderr.close()
+        return ended(child, words, start, errors)
+
+
+def same(one, other):
+    """Whether two files have the same bytes."""
+    with open(one, "rb") as a, open(other, "rb") as b:
+        while True:
+            x, y = a.read(1 << 20), b.read(1 << 20)
+            if x != y:
+                return False
+            if not x:
+                return True
+
+
+def compared(ours, theirs):
+    """A cell for the wall time in ms, the processor time in ms and the memory in MiB of two lists of runs, with the
+    ratio: least times, greatest memory."""
+    cells = []
+    for k, unit, best in ((0, 1e3, min), (1, 1e3, min), (2, 1 / 1024, max)):
+        x, y = best(run[k] for run in ours) * unit, best(run[k] for run in theirs) * unit
+        cells.append("%6.1f %6.1f (%5.2f)" % (x, y, x / max(y, 1e-9)))
+    return cells
+
+
+def numbers(text):
+    """The numbers of a list with commas."""
+    return [int(word) for word in text.split(",")]
