@@ -66,6 +66,12 @@ same_records f P same (x ∷ xs) (y ∷ ys) hx hy e =
     let tail : xs ≡ ys = same_records f P same xs ys (All-tail P x xs hx) (All-tail P y ys hy) others in
     cc
 
+same_file : (a b : File) → a.offers ≡ b.offers → a.gives ≡ b.gives → a.group ≡ b.group → a ≡ b
+same_file a b o g r =
+    ap (λ os. record { offers = os; gives = a.gives; group = a.group }) o
+    ∙ ap (λ gs. record { offers = b.offers; gives = gs; group = a.group }) g
+    ∙ ap (λ (rs : List ℕ). record { offers = b.offers; gives = b.gives; group = rs }) r
+
 pub one_plan : (a b : File) → IsOfForm a → IsOfForm b → plan_lines a ≡ plan_lines b → a ≡ b
 one_plan a b ha hb e =
     let parts = plan_parts a.offers a.gives ha.offers ha.gives (grouped a.group ∷ []) b hb (behind_offers a.gives a.group [] ha.gives ha.group) (behind_gives a.group ha.group) (sym (plan_lines-is a) ∙ e) in
@@ -74,9 +80,7 @@ one_plan a b ha hb e =
     let offers : a.offers ≡ b.offers = same_records offered IsOffer same_offer a.offers b.offers ha.offers hb.offers parts.0 in
     let gives : a.gives ≡ b.gives = same_records given IsGive same_give a.gives b.gives ha.gives hb.gives parts.1 in
     let group : a.group ≡ b.group = same_group a.group b.group ha.group hb.group line in
-    ap (λ os. record { offers = os; gives = a.gives; group = a.group }) offers
-    ∙ ap (λ gs. record { offers = b.offers; gives = gs; group = a.group }) gives
-    ∙ ap (λ (rs : List ℕ). record { offers = b.offers; gives = b.gives; group = rs }) group
+    same_file a b offers gives group
 
 pub one_file_each : OneFile
 one_file_each a b ha hb e = one_plan a b ha hb (sym (lines_of-plan (plan_text a) a ha refl) ∙ lines_of-plan (plan_text a) b hb e)

@@ -1,7 +1,8 @@
 //! Plan files that are read from their texts.
 
-ghost use Rattle.std.specs.Prelude.{◌≡◌, ◌<◌, ◌++◌, ◌∷◌, ◌⊎◌, ℕ, List, map, All, IfOk, IfErr, IfSome, IfNone, Ok, Err};
+ghost use Rattle.std.specs.Prelude.{◌≡◌, ◌≢◌, ◌<◌, ◌++◌, ◌∷◌, ◌⊎◌, ℕ, List, map, All, IfOk, IfErr, IfSome, IfNone, Ok, Err};
 ghost use Rattle.sharing.specs.declared.TheConstants.{RELAYS};
+ghost use Rattle.plan_check.specs.declared.faults.PlanFault.{PlanFault as AFault};
 ghost use Rattle.plan_check.specs.declared.faults.PlanFault.TheVariants.{Memory as memory};
 ghost use Rattle.plan_check.specs.File.{File, pairs_of};
 ghost use Rattle.plan_check.specs.TextLines.{lines_of, ended, FirstIsNot};
@@ -120,6 +121,7 @@ pub fn read_plan(alloc: Global, text: &str) -> Result<PlanFile, PlanFault>
     ensures ok { IfOk result (IsTextOf text.now) }
     ensures err { IfErr result (IsReadFault text.now) }
     ensures exact { (file : File) → IsTextOf text.now file → (result ≡ Ok file) ⊎ (result ≡ Err memory) }
+    ensures refused { (fault : AFault) → IsReadFault text.now fault → fault ≢ memory → (result ≡ Err fault) ⊎ (result ≡ Err memory) }
 {
     let lists = read_lists(alloc, text.as_bytes())?;
     PlanFile::of(lists.offers, lists.gives, lists.group)
