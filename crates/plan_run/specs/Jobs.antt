@@ -1,17 +1,16 @@
 -- What the jobs `plan` and `check` write, and why they are refused.
-use Rattle.std.specs.Prelude.{◌≡◌, ℕ, ◌≤◌, ◌⊎◌, List, [], ◌∷◌, ◌++◌, length, codes, decimal, Option, Result, Ok, Err, IsUtf8}
+use Rattle.std.specs.Prelude.{ℕ, ◌≤◌, List, [], ◌∷◌, ◌++◌, length, codes, decimal, Option, IsUtf8}
 use Rattle.std.specs.Io.KnownBytes.{Appends}
 use Rattle.sharing.specs.Sharing.{NoneSmaller}
 use Rattle.mirror_run.specs.declared.refusal.LineFault.{LineFault}
 use Rattle.mirror_run.specs.declared.refusal.LineFault.TheVariants.{Form, Order as Disorder}
 use Rattle.mirror_run.specs.declared.refusal.Refusal.{Refusal}
-use Rattle.mirror_run.specs.declared.refusal.Refusal.TheVariants.{Read, Write, InputTooLong, Line as AtLine, Plan, TableFull, Memory as Lacking}
+use Rattle.mirror_run.specs.declared.refusal.Refusal.TheVariants.{Write, Line as AtLine, Plan, TableFull}
 use Rattle.mirror_run.specs.Refused.{IsTextRefusal}
-use Rattle.plan_check.specs.declared.faults.PlanFault.{PlanFault}
-use Rattle.plan_check.specs.declared.faults.PlanFault.TheVariants.{Line, Order, Memory}
+use Rattle.plan_check.specs.declared.faults.PlanFault.TheVariants.{Line, Order}
 use Rattle.plan_check.specs.File.{File}
 use Rattle.plan_check.specs.PlanText.{IsTextOf}
-use Rattle.plan_check.specs.PlanReading.{IsReadFault, Reads}
+use Rattle.plan_check.specs.PlanReading.{IsReadFault}
 use Rattle.plan_run.specs.Planned.{IsPlannedFrom, Passes, IsTooMany, IsRefusedAs}
 
 -- the text is of a file that is planned from the input's
@@ -68,24 +67,3 @@ abbrev pub IsCheckRefusal : List ℕ → Refusal → Type 0
 IsCheckRefusal input Write = Unit {0}
 IsCheckRefusal input (Plan number) = (file : File) × IsTextOf input file × IsRefusedAs file number
 IsCheckRefusal input e = IsFileRefusal input e
-
--- not of the text or the plan, but of the reader, the writer, memory and the length
-abbrev pub IsOutside : Refusal → Type 0
-IsOutside Read = Unit {0}
-IsOutside Write = Unit {0}
-IsOutside InputTooLong = Unit {0}
-IsOutside Lacking = Unit {0}
-IsOutside _ = ⊥
-
--- The text is read as a file on which `check` answers this load. The job `check` tells it, and no other, and finds
--- no fault in the text or the plan.
-pub record PassesCheck (text : List ℕ) : Type 0 where
-  pub most : ℕ
-  pub reads : (read : Result File PlanFault) → Reads text read → (read ≡ Err Memory) ⊎ ((file : File) × (read ≡ Ok file) × Passes file most)
-  pub checks : ChecksTo text most
-  pub only : (other : ℕ) → ChecksTo text other → other ≡ most
-  pub unrefused : (e : Refusal) → IsCheckRefusal text e → IsOutside e
-
--- each text that the job `plan` writes passes the job `check`
-abbrev pub PlannedTextsPass : Type 0
-PlannedTextsPass = (input text : List ℕ) → PlansTo input text → PassesCheck text

@@ -1,2 +1,3 @@
 pub mod Planned
 pub mod Jobs
+pub mod Laws

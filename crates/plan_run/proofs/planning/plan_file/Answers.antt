@@ -1,5 +1,4 @@
-use Rattle.std.proofs.Common.{◌≡◌, ℕ, List, sym, ap, ◌∙◌}
-use Rattle.neg_codec.specs.declared.Id.{Id}
+use Rattle.std.proofs.Common.{◌≡◌, ap, ◌∙◌}
 use Rattle.fetch_plan.specs.Plan.{Planned}
 use Rattle.plan_check.specs.File.{File, pairs_of}
 use Rattle.plan_run.proofs.Done.{planned_from}

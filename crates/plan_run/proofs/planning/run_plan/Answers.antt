@@ -1,4 +1,4 @@
-use Rattle.std.proofs.Common.{◌≡◌, List, ℕ, sym, subst}
+use Rattle.std.proofs.Common.{List, ℕ, sym, subst}
 use Rattle.plan_check.specs.PlanText.{IsTextOf}
 use Rattle.plan_run.proofs.Done.{plan_written}
 use Rattle.plan_run.proofs.planning.run_plan.Goals as goal
