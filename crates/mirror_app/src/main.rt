@@ -6,6 +6,7 @@ mod tests;
 mod words;
 
 use mirror_run::{Refusal, run_recon};
+use plan_run::{run_check, run_plan};
 use std::process::ExitCode;
 use std::{env, io};
 use words::{Words, WordsFault, read_words};
@@ -33,6 +34,8 @@ fn main(rt: HostRuntime) -> io::Result<ExitCode> {
     };
     let done = match words {
         Words::Recon => run_recon(alloc, &mut rt.stdin(), &mut rt.stdout(), DEFAULT_LIMIT),
+        Words::Plan => run_plan(alloc, &mut rt.stdin(), &mut rt.stdout()),
+        Words::Check => run_check(alloc, &mut rt.stdin(), &mut rt.stdout()),
     };
     match done {
         Ok(()) => Ok(ExitCode::SUCCESS),

@@ -16,9 +16,17 @@ fn named(alloc: Global, line: &str) -> Result<Vec<String>, Fail> {
 #[test]
 fn words_that_name_a_job_and_others(rt: HostRuntime) -> Result<(), Fail> {
     let alloc = rt.alloc();
-    let words = named(alloc, "recon")?;
-    let read = read_words(alloc, words.as_slice());
-    assert!(rt; matches!(&read, Ok(Words::Recon)));
+    for (line, job) in [
+        ("recon", Words::Recon),
+        ("plan", Words::Plan),
+        ("check", Words::Check),
+    ] {
+        let words = named(alloc, line)?;
+        match read_words(alloc, words.as_slice()) {
+            Ok(read) => assert_eq!(rt; read, job),
+            Err(_) => assert!(rt; false, "{line}"),
+        }
+    }
     for line in [
         "",
         "--help",
@@ -27,8 +35,15 @@ fn words_that_name_a_job_and_others(rt: HostRuntime) -> Result<(), Fail> {
         "recon --help",
         "recon more",
         "recon --limit 5000",
-        "plan",
+        "plan more",
+        "plan --help",
+        "plan check",
+        "check --least",
+        "help plan",
+        "help check",
+        "help nothing",
         "Recon",
+        "Plan",
         "--version",
         "recon recon",
     ] {

@@ -3,7 +3,7 @@ use Rattle.std.proofs.Common.{◌≡◌, ℕ, ◌<◌, ◌≤◌, List, [], ◌+
 use Rattle.std.specs.Option.{IfSome, option_map}
 use Rattle.std.proofs.lemmas.List.{length-take}
 use Rattle.mirror_run.specs.declared.refusal.Refusal.{Refusal}
-use Rattle.mirror_run.specs.declared.refusal.Refusal.TheVariants.{Read, Write, InputTooLong, NotUtf8, Line, Session, Memory}
+use Rattle.mirror_run.specs.declared.refusal.Refusal.TheVariants.{Read, Write, InputTooLong, NotUtf8, Line, Session, Plan, TableFull, Memory}
 use Rattle.mirror_run.specs.Refused.{IsTextRefusal}
 
 -- fewer bytes than were asked for are all
@@ -33,6 +33,8 @@ refused_whole input NotUtf8 h =
     subst P (taken_whole 67108865 input (omega (arith, h.0))) h
 refused_whole input (Line n f) h = h
 refused_whole input (Session k) h = h
+refused_whole input (Plan k) h = h
+refused_whole input TableFull h = h
 refused_whole input Memory h = tt
 
 known_refusal : (bytes : List ℕ) (e : Refusal) (known : Option (List ℕ)) → IsTextRefusal bytes e → IfSome known (λ input. bytes ≡ take 67108865 input) → IfSome known (λ input. IsTextRefusal input e)

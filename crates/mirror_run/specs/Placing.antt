@@ -3,7 +3,7 @@ use Rattle.std.specs.Prelude.{◌≡◌, ◌≢◌, ℕ, ◌≤◌, ◌<◌, Lis
 use Rattle.neg_codec.specs.declared.Item.{Item}
 use Rattle.neg_codec.specs.Keys.{endless}
 use Rattle.mirror_run.specs.declared.refusal.LineFault.{LineFault}
-use Rattle.mirror_run.specs.declared.refusal.LineFault.TheVariants.{Form, Infinity, Present, Full}
+use Rattle.mirror_run.specs.declared.refusal.LineFault.TheVariants.{Form, Infinity, Present, Full, Order}
 
 -- no item stands twice
 abbrev pub Distinct : List Item → Type 0
@@ -19,6 +19,7 @@ pub record IsTaken (items : List Item) : Type 0 where
 -- why an item isn't taken after those before it
 abbrev pub Refuses : List Item → Item → LineFault → Type 0
 Refuses before item Form = ⊥
+Refuses before item Order = ⊥
 Refuses before item Infinity = item.time ≡ endless
 Refuses before item Present = (item.time ≢ endless) × Contains before item
 Refuses before item Full = (item.time ≢ endless) × (¬ Contains before item) × (length before ≡ 1000000)

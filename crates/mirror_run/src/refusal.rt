@@ -18,6 +18,8 @@ pub enum LineFault {
     Present,
     /// The list has 1,000,000 items already.
     Full,
+    /// A plan's line isn't above the one before with the same word, or its relays don't ascend.
+    Order,
 }
 
 /// Why a job wasn't done.
@@ -35,6 +37,11 @@ pub enum Refusal {
     Line(usize, LineFault),
     /// The number of the session's fault, 1 to 5.
     Session(u8),
+    /// The number of what the plan lacks, 3 to 6: an id is given to a relay that doesn't offer it, an
+    /// offered id isn't given, a given id isn't offered, the group doesn't show the greatest load.
+    Plan(u8),
+    /// More than 200,000 ids are offered.
+    TableFull,
     /// Want of memory.
     Memory,
 }
@@ -51,6 +58,7 @@ impl fmt::Display for LineFault {
             LineFault::Infinity => write!(f, "infinity"),
             LineFault::Present => write!(f, "present"),
             LineFault::Full => write!(f, "full"),
+            LineFault::Order => write!(f, "order"),
         }
     }
 }
@@ -70,6 +78,8 @@ impl fmt::Display for Refusal {
             Refusal::NotUtf8 => write!(f, "not UTF-8"),
             Refusal::Line(n, fault) => write!(f, "line {n}: {fault}"),
             Refusal::Session(k) => write!(f, "session {k}"),
+            Refusal::Plan(k) => write!(f, "plan {k}"),
+            Refusal::TableFull => write!(f, "table full"),
             Refusal::Memory => write!(f, "memory"),
         }
     }

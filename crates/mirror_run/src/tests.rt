@@ -222,7 +222,10 @@ fn texts_of_refusals(rt: HostRuntime) -> Result<(), Fail> {
         ),
         (Refusal::Line(20, LineFault::Infinity), "line 20: infinity"),
         (Refusal::Line(3, LineFault::Present), "line 3: present"),
+        (Refusal::Line(6, LineFault::Order), "line 6: order"),
         (Refusal::Session(4), "session 4"),
+        (Refusal::Plan(6), "plan 6"),
+        (Refusal::TableFull, "table full"),
         (Refusal::Memory, "memory"),
     ];
     for (refusal, want) in table {

@@ -13,6 +13,10 @@ report_fault relay count =
     if not (nat_lt relay RELAYS) then Some Relay
     else (if nat_lt MOST_IDS count then Some TableFull else None)
 
+-- of offers of that many ids
+abbrev pub offers_fault : ℕ → Option OfferFault
+offers_fault count = if nat_lt MOST_IDS count then Some TableFull else None
+
 -- of two tables put together
 abbrev pub merge_fault : Table → Table → Option OfferFault
 merge_fault a b =

@@ -2,6 +2,7 @@
 #![tactic(auto)]
 
 mod faults;
+mod offers;
 mod relays;
 mod table;
 

@@ -73,6 +73,22 @@ fn count_new(mine: &BTreeMap<Id, RelaySet>, theirs: &BTreeMap<Id, RelaySet>) -> 
 }
 
 impl OfferTable {
+    /// The table of these relays that reported, and these offers.
+    pub(crate) fn of_map(
+        alloc: Global,
+        reported: RelaySet,
+        offers: BTreeMap<Id, RelaySet>,
+    ) -> OfferTable
+        requires { IsTable (record { reported = reported; offers = offers.entries }) }
+        ensures { result ≡ record { reported = reported; offers = offers.entries } }
+    {
+        OfferTable {
+            reported,
+            offers,
+            alloc,
+        }
+    }
+
     /// The table to which no relay has reported.
     pub fn empty(alloc: Global) -> OfferTable
         ensures none { result ≡ record { reported = []; offers = [] } }

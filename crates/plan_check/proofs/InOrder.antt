@@ -70,3 +70,10 @@ in_order file ok =
     or_nones _ _ (none_out_back (λ o. o.0) (λ o. rises o.1) None 0 file.offers ok.offers_ok.ascend (λ k d lt. rising_back None _ (ok.offers_ok.relays k d lt).ascend))
     (or_nones _ _ (none_out_back (λ g. g.0) (λ _. true) None (length file.offers) file.gives ok.ascend (λ k d lt. refl))
     (ap (λ t. cond t None (Some (length file.offers + length file.gives))) (rising_back None file.group ok.group_ok.ascend)))
+
+-- a file in order has its lines of the form
+pub file_form_ok : (file : File) → IsFile file → malformed_at file ≡ None
+file_form_ok file ok =
+    or_nones _ _ (no_place _ 0 file.offers (λ k d lt. ap (λ b. b || not (are_relays (get_or file.offers k d).1)) (not_empty _ (ok.offers_ok.some k d lt)) ∙ ap not (relays_small _ (ok.offers_ok.relays k d lt).small)))
+    (or_nones _ _ (no_place _ (length file.offers) file.gives (λ k d lt. ap not (lt-ltb _ RELAYS (ok.relays k d lt))))
+    (ap (λ t. cond t None (Some (length file.offers + length file.gives))) (relays_small file.group ok.group_ok.small)))

@@ -6,7 +6,7 @@ use Rattle.sharing.specs.Sharing.{is_among, load, IsSharing, IsGreatest, Shows}
 use Rattle.sharing.specs.Offers.{beside, relays_of, relay_in}
 use Rattle.plan_check.specs.declared.faults.PlanFault.{PlanFault}
 use Rattle.plan_check.specs.declared.faults.PlanFault.TheVariants.{NotOffered, Missing, Stranger, GroupTooSmall}
-use Rattle.plan_check.specs.File.{File}
+use Rattle.plan_check.specs.File.{File, IsFile}
 
 -- some offered id is given to a relay that does not offer it
 abbrev pub is_not_offered : File → Bool
@@ -45,3 +45,9 @@ JudgesBy None file (Err f) = (f ≡ GroupTooSmall) × ((most : ℕ) → IsShared
 
 abbrev pub Judges : File → Result ℕ PlanFault → Type 0
 Judges file result = JudgesBy (gives_fault file) file result
+
+-- Where the gives are a sharing and the group shows its busiest load, the checker answers that load.
+abbrev pub OneAnswer : Type 0
+OneAnswer =
+    (file : File) (most : ℕ) (answer : Result ℕ PlanFault)
+    → IsFile file → IsSharedOut file most → Shows file.group file.offers most → Judges file answer → answer ≡ Ok most

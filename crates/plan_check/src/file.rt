@@ -38,6 +38,7 @@ impl PlanFile {
         group: Vec<u16>,
     ) -> Result<PlanFile, PlanFault>
         ensures fault { let file : File = record { offers = map (λ o. (o.0, o.1.items)) offers.items; gives = gives.items; group = group.items } in MatchOption (file_fault (malformed_at file) (misplaced_at file)) (IsOk result) (λ f. result ≡ Err f) }
+        ensures taken { let file : File = record { offers = map (λ o. (o.0, o.1.items)) offers.items; gives = gives.items; group = group.items } in IsFile file → IsOk result }
         ensures keeps { IfOk result (λ file. file ≡ record { offers = map (λ o. (o.0, o.1.items)) offers.items; gives = gives.items; group = group.items }) }
         ensures file { IfOk result IsFile }
     {

@@ -1,6 +1,7 @@
 //! Laws of plan texts.
 
 ghost use Rattle.plan_check.specs.PlanReading.{OneFile, RoundTrip};
+ghost use Rattle.plan_check.specs.Verdict.{OneAnswer};
 
 /// A text is that of one plan file at most.
 pub fn one_file()
@@ -10,4 +11,9 @@ pub fn one_file()
 /// The text of a plan file is read as the file, want of memory aside.
 pub fn round_trip()
     ensures { RoundTrip }
+{}
+
+/// The checker answers the busiest load of a sharing that the group shows to be least, and nothing else.
+pub fn one_answer()
+    ensures { OneAnswer }
 {}

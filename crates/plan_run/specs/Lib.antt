@@ -1,0 +1,3 @@
+pub mod Planned
+pub mod Jobs
+pub mod Laws

@@ -1,0 +1,40 @@
+-- The plan file that is made of the offers of another, and what the checker says of a file.
+use Rattle.std.specs.Prelude.{◌≡◌, ℕ, ◌<◌, length, Err}
+use Rattle.sharing.specs.declared.TheConstants.{MOST_IDS}
+use Rattle.sharing.specs.Sharing.{Shows}
+use Rattle.sharing.specs.Reached.{IsLeast}
+use Rattle.sharing.specs.Offers.{relay_in}
+use Rattle.plan_check.specs.declared.faults.PlanFault.{PlanFault}
+use Rattle.plan_check.specs.declared.faults.PlanFault.TheVariants.{NotOffered, Missing, Stranger, GroupTooSmall}
+use Rattle.plan_check.specs.File.{File}
+use Rattle.plan_check.specs.Verdict.{IsSharedOut, Judges}
+
+-- The gives are a sharing of the offers with this busiest load, and the group shows that none has less. Just then
+-- `check` answers it.
+pub record Passes (file : File) (most : ℕ) : Type 0 where
+  pub shared : IsSharedOut file most
+  pub shows : Shows file.group file.offers most
+
+-- The offers are those that were read. The gives are a least sharing of them, and the group is what chains of moves
+-- reach from its busiest relays.
+pub record IsPlannedFrom (read made : File) : Type 0 where
+  pub offers : made.offers ≡ read.offers
+  pub most : ℕ
+  pub least : IsLeast (relay_in made.gives) made.offers most made.group
+  pub passes : Passes made most
+
+-- more ids are offered than a table takes
+abbrev pub IsTooMany : File → Type 0
+IsTooMany file = MOST_IDS < length file.offers
+
+-- the number of what is wrong with a plan
+abbrev pub HasNumber : PlanFault → ℕ → Type 0
+HasNumber NotOffered number = number ≡ 3
+HasNumber Missing number = number ≡ 4
+HasNumber Stranger number = number ≡ 5
+HasNumber GroupTooSmall number = number ≡ 6
+HasNumber _ number = ⊥
+
+-- the checker's fault has this number
+abbrev pub IsRefusedAs : File → ℕ → Type 0
+IsRefusedAs file number = (fault : PlanFault) × HasNumber fault number × Judges file (Err fault)

@@ -1,0 +1,60 @@
+//! The job `check`.
+
+ghost use Rattle.std.specs.Prelude.{◌≡◌, ◌≢◌, ℕ, IfOk, IfErr, OnOk, IfSome, string_bytes};
+ghost use Rattle.std.specs.Io.KnownBytes.{Keeps};
+ghost use Rattle.sharing.specs.Sharing.{NoneSmaller};
+ghost use Rattle.plan_run.specs.Planned.{Passes, IsRefusedAs};
+ghost use Rattle.plan_run.specs.Jobs.{IsLeastWritten, IsCheckRefusal, least_text};
+
+use crate::reading::read_file;
+use crate::writing::write_text;
+use mirror_run::Refusal;
+use plan_check::{PlanFault, PlanFile, check};
+use std::alloc::{AllocError, Global};
+use std::io::{Read, Write};
+
+/// The busiest load of a file's gives, where they are a sharing that the group shows to be least; else the
+/// number of what is wrong.
+fn load_of(file: &PlanFile) -> Result<u64, u8>
+    ensures ok { IfOk result (Passes file.now) }
+    ensures least { IfOk result (NoneSmaller file.now.offers) }
+    ensures err { IfErr result (IsRefusedAs file.now) }
+{
+    match check(file) {
+        Ok(most) => Ok(most),
+        Err(PlanFault::NotOffered) => Err(3),
+        Err(PlanFault::Missing) => Err(4),
+        Err(PlanFault::Stranger) => Err(5),
+        Err(PlanFault::GroupTooSmall) => Err(6),
+        Err(_) => unreachable!(),
+    }
+}
+
+/// The line that tells a load.
+fn line_of(alloc: Global, most: u64) -> Result<String, AllocError>
+    ensures { IfOk result (λ text. string_bytes text ≡ least_text most) }
+{
+    format!(in alloc; "least {most}\n")
+}
+
+/// Reads a plan text, and writes `least` and its busiest load, where its gives are a sharing of its offers and
+/// its group shows that none has less.
+pub fn run_check<R: Read, W: Write>(
+    alloc: Global,
+    reader: &mut R,
+    writer: &mut W,
+) -> Result<(), Refusal>
+    ensures ok { OnOk result (IfSome (R.remaining reader.old) (λ input.
+        IsLeastWritten input (W.contents writer.old) (W.contents writer.new))) }
+    ensures err { IfErr result (λ e. IfSome (R.remaining reader.old) (λ input. IsCheckRefusal input e)) }
+    ensures unwritten { IfErr result (λ e. e ≢ Refusal.Write → Keeps (W.contents writer.old) (W.contents writer.new)) }
+{
+    let file = read_file(alloc, reader)?;
+    match load_of(&file) {
+        Ok(most) => {
+            let line = line_of(alloc, most)?;
+            write_text(writer, line.as_str())
+        }
+        Err(number) => Err(Refusal::Plan(number)),
+    }
+}

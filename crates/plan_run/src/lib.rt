@@ -1,0 +1,17 @@
+//! The program's jobs on plans, over any reader and any writer.
+#![tactic(auto)]
+
+mod checking;
+mod laws;
+mod parts;
+mod planning;
+mod reading;
+mod writing;
+
+pub use checking::run_check;
+pub use laws::{faulty_texts_fail, least_texts_pass, planned_texts_pass};
+pub use planning::{plan_file, run_plan};
+pub use reading::read_file;
+
+#[cfg(test)]
+mod tests;
