@@ -3,4 +3,4 @@ use Rattle.fetch_plan.proofs.Trails.{Adding_from}
 use Rattle.fetch_plan.proofs.chains.add_from.Given as goal
 
 abbrev pub invariant-loop-place : goal.invariant-loop-place
-invariant-loop-place l = Adding_from l.shares (relay_at l.initial.steps.items l.next) l.initial.steps.items l.initial.marked l.steps.items l.marked l.place
+invariant-loop-place l = Adding_from l.enough l.groups (relay_at l.initial.steps.items l.next) l.initial.steps.items l.initial.marked l.steps.items l.marked l.place
