@@ -3,11 +3,12 @@ use Rattle.std.proofs.Common.{◌≡◌, ◌≢◌, ℕ, zero, suc, ◌+◌, ◌
 use Rattle.sharing.specs.declared.TheConstants.{RELAYS}
 use Rattle.std.specs.Option.{is_some}
 use Rattle.std.specs.List.{count_by, sum}
-use Rattle.std.proofs.lemmas.Bool.{false≢true, cases_lt, cases_eq}
+use Rattle.std.proofs.lemmas.Bool.{false≢true, cases_lt, cases_eq, cases_Bool}
 use Rattle.std.proofs.lemmas.List.{get_or_push, length_push, get_or-set_same, get_or-set_other, length-set}
 use Rattle.std.proofs.Math.ListN.{get_or-append}
 use Rattle.std.proofs.lemmas.List.Sums.{sum_by-set, sum_by-cons, get_or-le-sum_by}
 use Rattle.sharing.specs.Sharing.{is_among}
+use Rattle.sharing.proofs.Looks.{among_each}
 use Rattle.fetch_plan.specs.Shares.{is_marked}
 use Rattle.fetch_plan.specs.Groups.{amount, shared_by, total, no_group, AreGroups}
 use Rattle.fetch_plan.specs.declared.groups.Group.{Group}
@@ -426,3 +427,17 @@ pub searched_high : (enough : ℕ) (groups : List Group) (loads : List ℕ) (mos
 searched_high enough groups loads most steps marked now marks_now next h done r m =
     let w = h.marks.found r m in
     subst (λ r. most < get_or loads r 0 + 2 * enough) w.2 (h.high w.0 (omega (arith, w.1)))
+
+-- where each relay is on the trail, all are marked
+pub all_marked : (steps : List Step) (marked : List Bool) → AreMarked steps marked → RELAYS ≤ length steps → (r : ℕ) → r < RELAYS → is_marked marked r ≡ true
+unfolding is_marked
+all_marked steps marked h all r lt =
+    let one : cond (not (get_or marked r false)) 1 0 ≤ count_by not marked = get_or-le-sum_by (λ b. cond (not b) 1 0) marked r false (omega (arith, h.wide)) in
+    elim (cases_Bool (get_or marked r false)) [
+      | inl t ↦ t
+      | inr f ↦ absurd (omega (arith, one, h.counted, ap {B = ℕ} (λ b. cond (not b) 1 0) f))
+    ]
+
+pub all_closed : (enough : ℕ) (groups : List Group) (n relay : ℕ) (steps : List Step) (marked : List Bool) → AreGroups groups → n ≤ length groups → AreMarked steps marked → RELAYS ≤ length steps → IsClosedAt enough groups n relay marked
+all_closed enough groups n relay steps marked ok le h all k r lt some among =
+    all_marked steps marked h all r (among_each (λ r. r < RELAYS) (shared_by groups k) r (ok.relays k (omega arith)).small among)

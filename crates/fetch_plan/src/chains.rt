@@ -7,15 +7,12 @@ ghost use Rattle.std.specs.List.{sum};
 ghost use Rattle.sharing.specs.Sharing.{is_among};
 ghost use Rattle.fetch_plan.specs.declared.groups.Group.{Group};
 ghost use Rattle.fetch_plan.specs.Shares.{is_marked};
-ghost use Rattle.fetch_plan.specs.Groups.{amount, shared_by, AreGiven, AreSame, AreLoadsOf, IsMoved};
+ghost use Rattle.fetch_plan.specs.Groups.{amount, shared_by, AreGroups, AreGiven, AreSame, AreLoadsOf, IsMoved};
 ghost use Rattle.fetch_plan.specs.Trail.{relay_at, IsTrail, AreMarked, Extends, StayMarked, IsClosedAt, PassesOn, AreStarts, from_at, squares, AreSettled};
 
 use crate::groups::Group;
 use sharing::{RELAYS, SLOTS};
 use std::alloc::{AllocError, Global};
-
-/// As many ids move at once at first: at least half of what a table holds.
-const FIRST_MOVE: u64 = 131_072;
 
 /// How a step was found: from an earlier step, by the group at a place.
 #[derive(Clone, Copy)]
@@ -128,6 +125,7 @@ fn search(
     steps: &mut Vec<Step>,
     marked: &mut [bool; SLOTS],
 ) -> Result<Option<usize>, AllocError>
+    requires groups { AreGroups groups.now }
     requires bound { (r : ℕ) → r < RELAYS → slice_index loads.now r ≤ most }
     requires trail { IsTrail enough groups.now steps.old.items }
     requires marks { AreMarked steps.old.items marked.old }
@@ -146,7 +144,9 @@ fn search(
         if (most - loads[usize::from(relay)]) / 2 >= enough {
             return Ok(Some(next));
         }
-        add_from(enough, groups, next, steps, marked)?;
+        if steps.len() < SLOTS {
+            add_from(enough, groups, next, steps, marked)?;
+        }
         next += 1;
     }
     Ok(None)
@@ -262,6 +262,20 @@ fn settle_by(
     }
 }
 
+/// The greatest number of ids of one group that are given to one relay.
+fn most_given(groups: &[Group]) -> u64
+    ensures { (k r : ℕ) → k < length groups.now → r < RELAYS → amount groups.now k r ≤ result }
+{
+    let mut most = 0;
+    for group in groups {
+        let here = greatest(&group.given);
+        if here > most {
+            most = here;
+        }
+    }
+    most
+}
+
 /// Moves ids along chains, many at once and then fewer, until no single id can move along a chain from a
 /// busiest relay to one with at least two fewer. It answers which relays chains reach then.
 pub(crate) fn settle(
@@ -276,7 +290,7 @@ pub(crate) fn settle(
     ensures same { OnOk result (AreSame groups.old groups.new) }
     ensures settled { IfOk result (λ marked. (most : ℕ) × AreSettled 1 groups.new most marked) }
 {
-    let mut some = FIRST_MOVE;
+    let mut some = most_given(groups);
     while some > 1 {
         settle_by(alloc, some, groups, loads)?;
         some /= 2;
