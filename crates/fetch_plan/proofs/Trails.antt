@@ -1,16 +1,17 @@
 -- What one more step does to a trail and its marks.
-use Rattle.std.proofs.Common.{◌≡◌, ◌≢◌, ℕ, zero, suc, ◌+◌, ◌*◌, ◌<◌, ◌≤◌, Bool, true, false, cond, not, List, [], ◌∷◌, ◌++◌, length, get_or, set, refl, sym, ap, ◌∙◌, subst, arith, inl, inr, Some, None}
+use Rattle.std.proofs.Common.{◌≡◌, ◌≢◌, ℕ, zero, suc, ◌+◌, ◌*◌, ◌<◌, ◌≤◌, Bool, true, false, cond, not, List, [], ◌∷◌, ◌++◌, length, get_or, set, refl, sym, ap, ◌∙◌, subst, arith, inl, inr, Some, None, ◌==◌, ◌⊎◌}
 use Rattle.sharing.specs.declared.TheConstants.{RELAYS}
 use Rattle.std.specs.Option.{is_some}
 use Rattle.std.specs.List.{count_by, sum}
-use Rattle.std.proofs.lemmas.Bool.{false≢true, cases_lt, cases_eq, cases_Bool}
+use Rattle.std.proofs.lemmas.Bool.{false≢true, cases_lt, cases_eq, cases_Bool, or_cases, eqb-true}
 use Rattle.std.proofs.lemmas.List.{get_or_push, length_push, get_or-set_same, get_or-set_other, length-set}
 use Rattle.std.proofs.Math.ListN.{get_or-append}
+use Rattle.std.proofs.lemmas.List.Folds.{list_any-append}
 use Rattle.std.proofs.lemmas.List.Sums.{sum_by-set, sum_by-cons, get_or-le-sum_by}
 use Rattle.sharing.specs.Sharing.{is_among}
 use Rattle.sharing.proofs.Looks.{among_each}
 use Rattle.fetch_plan.specs.Shares.{is_marked}
-use Rattle.fetch_plan.specs.Groups.{amount, shared_by, total, no_group, AreGroups}
+use Rattle.fetch_plan.specs.Groups.{amount, shared_by, total, no_group, AreGroups, AreLarge}
 use Rattle.fetch_plan.specs.declared.groups.Group.{Group}
 use Rattle.fetch_plan.specs.declared.chains.Step.{Step}
 use Rattle.fetch_plan.specs.declared.chains.Link.{Link}
@@ -189,7 +190,7 @@ pub from_at_is : (steps : List Step) (k : ℕ) (s d : Step) → k < length steps
 unfolding from_at
 from_at_is steps k s d lt e = ap (λ (x : Step). x.from) (get_or_any steps k no_step d lt ∙ sym e)
 
--- the relays of a share below this one are on the trail
+-- the relays of a group below this one are on the trail
 pub record Adding (enough : ℕ) (groups : List Group) (relays : List ℕ) (steps : List Step) (marked : List Bool) (now : List Step) (marks_now : List Bool) (relay : ℕ) : Type 0 where
   pub trail : IsTrail enough groups now
   pub marks : AreMarked now marks_now
@@ -253,51 +254,68 @@ extends_more a b c h g = record {
       ];
 }
 
--- the enough groups of one relay so far
-pub record Adding_from (enough : ℕ) (groups : List Group) (relay : ℕ) (steps : List Step) (marked : List Bool) (now : List Step) (marks_now : List Bool) (n : ℕ) : Type 0 where
+-- what those of these groups lead to of which enough ids are given to this relay is marked
+abbrev pub IsClosedOver : ℕ → List Group → List ℕ → ℕ → List Bool → Type 0
+IsClosedOver enough groups places relay marked =
+    (k r : ℕ) → is_among places k ≡ true → enough ≤ amount groups k relay → is_among (shared_by groups k) r ≡ true → is_marked marked r ≡ true
+
+-- the groups at these places are done
+pub record Adding_from (enough : ℕ) (groups : List Group) (relay : ℕ) (steps : List Step) (marked : List Bool) (now : List Step) (marks_now : List Bool) (done : List ℕ) : Type 0 where
   pub trail : IsTrail enough groups now
   pub marks : AreMarked now marks_now
   pub extends : Extends steps now
   pub stay : StayMarked marked marks_now
-  pub closed : IsClosedAt enough groups n relay marks_now
+  pub closed : IsClosedOver enough groups done relay marks_now
 
-pub closed_more : (enough : ℕ) (groups : List Group) (n relay : ℕ) (marked : List Bool) → IsClosedAt enough groups n relay marked → (enough ≤ amount groups n relay → (r : ℕ) → is_among (shared_by groups n) r ≡ true → is_marked marked r ≡ true) → IsClosedAt enough groups (n + 1) relay marked
-closed_more enough groups n relay marked before here k r lt e h =
-    elim (cases_eq k n) [
-      | inl same ↦ here (subst (λ k. enough ≤ amount groups k relay) same e) r (ap (λ k. is_among (shared_by groups k) r) (sym same) ∙ h)
-      | inr ne ↦ before k r (omega arith) e h
+pub among_push : (done : List ℕ) (place k : ℕ) → is_among (done ++ place ∷ []) k ≡ true → (is_among done k ≡ true) ⊎ (k ≡ place)
+among_push done place k h =
+    elim (or_cases (is_among done k) (is_among (place ∷ []) k) (sym (list_any-append (λ x. k == x) done (place ∷ [])) ∙ h)) [
+      | inl earlier ↦ inl earlier
+      | inr last ↦ elim (or_cases (k == place) false last) [ inl e ↦ inr (eqb-true k place e) | inr e ↦ absurd (false≢true e) ]
     ]
 
-pub from_none : (enough : ℕ) (groups : List Group) (relay : ℕ) (steps : List Step) (marked : List Bool) → IsTrail enough groups steps → AreMarked steps marked → Adding_from enough groups relay steps marked steps marked 0
+pub closed_more : (enough : ℕ) (groups : List Group) (done : List ℕ) (place relay : ℕ) (marked : List Bool) → IsClosedOver enough groups done relay marked → (enough ≤ amount groups place relay → (r : ℕ) → is_among (shared_by groups place) r ≡ true → is_marked marked r ≡ true) → IsClosedOver enough groups (done ++ place ∷ []) relay marked
+closed_more enough groups done place relay marked before here k r in_all some among =
+    elim (among_push done place k in_all) [
+      | inl earlier ↦ before k r earlier some among
+      | inr same ↦ here (subst (λ k. enough ≤ amount groups k relay) same some) r (ap (λ k. is_among (shared_by groups k) r) (sym same) ∙ among)
+    ]
+
+pub from_none : (enough : ℕ) (groups : List Group) (relay : ℕ) (steps : List Step) (marked : List Bool) → IsTrail enough groups steps → AreMarked steps marked → Adding_from enough groups relay steps marked steps marked []
 from_none enough groups relay steps marked trail marks = record {
   trail = trail;
   marks = marks;
   extends = extends_refl steps;
   stay = λ r h. h;
-  closed = λ k r lt. absurd (omega arith);
+  closed = λ k r in_all. absurd (false≢true in_all);
 }
 
-pub from_pass : (enough : ℕ) (groups : List Group) (relay : ℕ) (steps : List Step) (marked : List Bool) (now : List Step) (marks_now : List Bool) (n : ℕ) →
-    Adding_from enough groups relay steps marked now marks_now n → (enough ≤ amount groups n relay → ⊥) → Adding_from enough groups relay steps marked now marks_now (n + 1)
-from_pass enough groups relay steps marked now marks_now n h other = record {
+pub from_pass : (enough : ℕ) (groups : List Group) (relay : ℕ) (steps : List Step) (marked : List Bool) (now : List Step) (marks_now : List Bool) (done : List ℕ) (place : ℕ) →
+    Adding_from enough groups relay steps marked now marks_now done → (enough ≤ amount groups place relay → ⊥) → Adding_from enough groups relay steps marked now marks_now (done ++ place ∷ [])
+from_pass enough groups relay steps marked now marks_now done place h other = record {
   trail = h.trail;
   marks = h.marks;
   extends = h.extends;
   stay = h.stay;
-  closed = closed_more enough groups n relay marks_now h.closed (λ e. absurd (other e));
+  closed = closed_more enough groups done place relay marks_now h.closed (λ e. absurd (other e));
 }
 
-pub from_step : (enough : ℕ) (groups : List Group) (relay : ℕ) (steps : List Step) (marked : List Bool) (now later : List Step) (marks_now marks_later : List Bool) (n : ℕ) →
-    Adding_from enough groups relay steps marked now marks_now n → IsTrail enough groups later → AreMarked later marks_later → Extends now later → StayMarked marks_now marks_later →
-    ((r : ℕ) → is_among (shared_by groups n) r ≡ true → is_marked marks_later r ≡ true) →
-    Adding_from enough groups relay steps marked later marks_later (n + 1)
-from_step enough groups relay steps marked now later marks_now marks_later n h trail marks extends stay reached = record {
+pub from_step : (enough : ℕ) (groups : List Group) (relay : ℕ) (steps : List Step) (marked : List Bool) (now later : List Step) (marks_now marks_later : List Bool) (done : List ℕ) (place : ℕ) →
+    Adding_from enough groups relay steps marked now marks_now done → IsTrail enough groups later → AreMarked later marks_later → Extends now later → StayMarked marks_now marks_later →
+    ((r : ℕ) → is_among (shared_by groups place) r ≡ true → is_marked marks_later r ≡ true) →
+    Adding_from enough groups relay steps marked later marks_later (done ++ place ∷ [])
+from_step enough groups relay steps marked now later marks_now marks_later done place h trail marks extends stay reached = record {
   trail = trail;
   marks = marks;
   extends = extends_more steps now later h.extends extends;
   stay = λ r m. stay r (h.stay r m);
-  closed = closed_more enough groups n relay marks_later (λ k r lt e among. stay r (h.closed k r lt e among)) (λ _. reached);
+  closed = closed_more enough groups done place relay marks_later (λ k r in_all e among. stay r (h.closed k r in_all e among)) (λ _. reached);
 }
+
+-- the other groups have too few ids
+pub closed_large : (enough : ℕ) (groups : List Group) (places : List ℕ) (relay : ℕ) (marked : List Bool) → AreGroups groups → AreLarge enough groups places → relay < RELAYS → IsClosedOver enough groups places relay marked → IsClosedAt enough groups (length groups) relay marked
+closed_large enough groups places relay marked ok large small h k r lt some among =
+    h k r (large.all k lt (omega (arith, some, amount-le-total groups k relay ok lt small))) some among
 
 -- the relays below this one with the greatest load are on the trail
 pub record Starting (loads : List ℕ) (most : ℕ) (steps : List Step) (marked : List Bool) (relay : ℕ) : Type 0 where

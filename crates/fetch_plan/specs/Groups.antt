@@ -1,6 +1,6 @@
 -- Ids in groups that the same relays offer: how many of each group are given to each relay.
 use Rattle.std.specs.Prelude.{◌≡◌, ℕ, ◌+◌, ◌<◌, ◌≤◌, ◌==◌, true, List, [], length, slice_index_or, count_by, cond, sum_by, map, Option, Some}
-use Rattle.std.specs.List.{sum}
+use Rattle.std.specs.List.{sum, All}
 use Rattle.sharing.specs.declared.TheConstants.{RELAYS, MOST_IDS}
 use Rattle.sharing.specs.Sharing.{is_among}
 use Rattle.sharing.specs.Offers.{AreRelays}
@@ -43,6 +43,16 @@ pub record AreGiven (groups : List Group) : Type 0 where
   pub groups_ok : AreGroups groups
   pub few : (k : ℕ) → k < length groups → total groups k ≤ MOST_IDS
   pub offer : (k r : ℕ) → k < length groups → 0 < amount groups k r → is_among (shared_by groups k) r ≡ true
+
+-- the number of each group's ids
+pub record AreCounts (groups : List Group) (counts : List ℕ) : Type 0 where
+  pub long : length counts ≡ length groups
+  pub totals : (k : ℕ) → k < length groups → slice_index_or counts k 0 ≡ total groups k
+
+-- these places are those of all groups that have enough ids
+pub record AreLarge (enough : ℕ) (groups : List Group) (places : List ℕ) : Type 0 where
+  pub within : All (λ k. k < length groups) places
+  pub all : (k : ℕ) → k < length groups → enough ≤ total groups k → is_among places k ≡ true
 
 -- the same groups, with as many ids in each
 pub record AreSame (old new : List Group) : Type 0 where

@@ -4,15 +4,23 @@
 
 ghost use Rattle.std.specs.Prelude.{◌≡◌, ◌≢◌, ◌≤◌, ◌<◌, ◌+◌, ◌*◌, ◌^◌, ◌==◌, true, ℕ, List, length, OnOk, IfOk, IfSome, IfNone, slice_index, false, None, cond};
 ghost use Rattle.std.specs.List.{sum};
+ghost use Rattle.sharing.specs.declared.TheConstants.{MOST_IDS};
 ghost use Rattle.sharing.specs.Sharing.{is_among};
 ghost use Rattle.fetch_plan.specs.declared.groups.Group.{Group};
 ghost use Rattle.fetch_plan.specs.Shares.{is_marked};
-ghost use Rattle.fetch_plan.specs.Groups.{amount, shared_by, AreGroups, AreGiven, AreSame, AreLoadsOf, IsMoved};
+ghost use Rattle.fetch_plan.specs.Groups.{amount, shared_by, total, AreGroups, AreCounts, AreLarge, AreGiven, AreSame, AreLoadsOf, IsMoved};
 ghost use Rattle.fetch_plan.specs.Trail.{relay_at, IsTrail, AreMarked, Extends, StayMarked, IsClosedAt, PassesOn, AreStarts, from_at, squares, AreSettled};
 
 use crate::groups::Group;
 use sharing::{RELAYS, SLOTS};
 use std::alloc::{AllocError, Global};
+
+/// How many ids move at once, and the places of the groups that have as many.
+#[derive(Drop)]
+struct Level {
+    some: u64,
+    places: Vec<usize>,
+}
 
 /// How a step was found: from an earlier step, by the group at a place.
 #[derive(Clone, Copy)]
@@ -63,29 +71,31 @@ fn add_steps(
 
 /// Adds all relays that offer a group of which enough ids are given to the relay of the step at `next`.
 fn add_from(
-    enough: u64,
+    level: &Level,
     groups: &[Group],
     next: usize,
     steps: &mut Vec<Step>,
     marked: &mut [bool; SLOTS],
 ) -> Result<(), AllocError>
+    requires groups { AreGroups groups.now }
+    requires large { AreLarge level.now.some groups.now level.now.places.items }
     requires next { next < length steps.old.items }
-    requires trail { IsTrail enough groups.now steps.old.items }
+    requires trail { IsTrail level.now.some groups.now steps.old.items }
     requires marks { AreMarked steps.old.items marked.old }
-    ensures trail { OnOk result (IsTrail enough groups.now steps.new.items) }
+    ensures trail { OnOk result (IsTrail level.now.some groups.now steps.new.items) }
     ensures marks { OnOk result (AreMarked steps.new.items marked.new) }
     ensures extends { OnOk result (Extends steps.old.items steps.new.items) }
     ensures stay { OnOk result (StayMarked marked.old marked.new) }
-    ensures closed { OnOk result (IsClosedAt enough groups.now (length groups.now) (relay_at steps.old.items next) marked.new) }
+    ensures closed { OnOk result (IsClosedAt level.now.some groups.now (length groups.now) (relay_at steps.old.items next) marked.new) }
 {
     let slot = usize::from(steps[next].relay);
-    for (place, group) in groups.iter().enumerate() {
-        if group.given[slot] >= enough {
+    for place in &level.places {
+        if groups[*place].given[slot] >= level.some {
             let link = Link {
                 parent: next,
-                place,
+                place: *place,
             };
-            add_steps(enough, groups, link, steps, marked)?;
+            add_steps(level.some, groups, link, steps, marked)?;
         }
     }
     Ok(())
@@ -118,7 +128,7 @@ fn first_steps(
 /// The first step whose relay has fewer than the busiest ones by at least twice what moves, or none once the
 /// steps lead nowhere else.
 fn search(
-    enough: u64,
+    level: &Level,
     groups: &[Group],
     loads: &[u64; SLOTS],
     most: u64,
@@ -126,26 +136,27 @@ fn search(
     marked: &mut [bool; SLOTS],
 ) -> Result<Option<usize>, AllocError>
     requires groups { AreGroups groups.now }
+    requires large { AreLarge level.now.some groups.now level.now.places.items }
     requires bound { (r : ℕ) → r < RELAYS → slice_index loads.now r ≤ most }
-    requires trail { IsTrail enough groups.now steps.old.items }
+    requires trail { IsTrail level.now.some groups.now steps.old.items }
     requires marks { AreMarked steps.old.items marked.old }
-    ensures trail { OnOk result (IsTrail enough groups.now steps.new.items) }
+    ensures trail { OnOk result (IsTrail level.now.some groups.now steps.new.items) }
     ensures marks { OnOk result (AreMarked steps.new.items marked.new) }
     ensures extends { OnOk result (Extends steps.old.items steps.new.items) }
     ensures stay { OnOk result (StayMarked marked.old marked.new) }
     ensures end { IfOk result (λ found. IfSome found (λ k. k < length steps.new.items)) }
-    ensures low { IfOk result (λ found. IfSome found (λ k. slice_index loads.now (relay_at steps.new.items k) + 2 * enough ≤ most)) }
-    ensures closed { IfOk result (λ found. IfNone found (PassesOn enough groups.now (is_marked marked.new))) }
-    ensures high { IfOk result (λ found. IfNone found ((r : ℕ) → is_marked marked.new r ≡ true → most < slice_index loads.now r + 2 * enough)) }
+    ensures low { IfOk result (λ found. IfSome found (λ k. slice_index loads.now (relay_at steps.new.items k) + 2 * level.now.some ≤ most)) }
+    ensures closed { IfOk result (λ found. IfNone found (PassesOn level.now.some groups.now (is_marked marked.new))) }
+    ensures high { IfOk result (λ found. IfNone found ((r : ℕ) → is_marked marked.new r ≡ true → most < slice_index loads.now r + 2 * level.now.some)) }
 {
     let mut next = 0;
     while next < steps.len() {
         let relay = steps[next].relay;
-        if (most - loads[usize::from(relay)]) / 2 >= enough {
+        if (most - loads[usize::from(relay)]) / 2 >= level.some {
             return Ok(Some(next));
         }
         if steps.len() < SLOTS {
-            add_from(enough, groups, next, steps, marked)?;
+            add_from(level, groups, next, steps, marked)?;
         }
         next += 1;
     }
@@ -210,29 +221,30 @@ pub(crate) fn greatest(loads: &[u64; SLOTS]) -> u64
 /// there is none, it marks the relays that chains reach, and answers true.
 fn settle_once(
     alloc: Global,
-    some: u64,
+    level: &Level,
     groups: &mut [Group],
     loads: &mut [u64; SLOTS],
     marked: &mut [bool; SLOTS],
 ) -> Result<bool, AllocError>
-    requires some { 0 < some }
+    requires some { 0 < level.now.some }
     requires loads { AreLoadsOf groups.old loads.old }
     requires given { AreGiven groups.old }
+    requires large { AreLarge level.now.some groups.old level.now.places.items }
     requires unmarked { (r : ℕ) → is_marked marked.old r ≡ false }
     ensures loads { OnOk result (AreLoadsOf groups.new loads.new) }
     ensures given { OnOk result (AreGiven groups.new) }
     ensures same { OnOk result (AreSame groups.old groups.new) }
     ensures smaller { IfOk result (λ done. done ≡ false → squares loads.new < squares loads.old) }
-    ensures settled { IfOk result (λ done. done ≡ true → (most : ℕ) × AreSettled some groups.new most marked.new) }
+    ensures settled { IfOk result (λ done. done ≡ true → (most : ℕ) × AreSettled level.now.some groups.new most marked.new) }
 {
     let most = greatest(loads);
     let mut steps = first_steps(alloc, loads, most, marked)?;
-    match search(some, groups, loads, most, &mut steps, marked)? {
+    match search(level, groups, loads, most, &mut steps, marked)? {
         None => Ok(true),
         Some(end) => {
             let to = steps[end].relay;
-            let from = walk(some, groups, &steps, end);
-            shift(loads, from, to, some);
+            let from = walk(level.some, groups, &steps, end);
+            shift(loads, from, to, level.some);
             Ok(false)
         }
     }
@@ -242,35 +254,73 @@ fn settle_once(
 /// twice as many. It answers which relays chains reach then.
 fn settle_by(
     alloc: Global,
-    some: u64,
+    level: &Level,
     groups: &mut [Group],
     loads: &mut [u64; SLOTS],
 ) -> Result<[bool; SLOTS], AllocError>
-    requires some { 0 < some }
+    requires some { 0 < level.now.some }
     requires loads { AreLoadsOf groups.old loads.old }
     requires given { AreGiven groups.old }
+    requires large { AreLarge level.now.some groups.old level.now.places.items }
     ensures loads { OnOk result (AreLoadsOf groups.new loads.new) }
     ensures given { OnOk result (AreGiven groups.new) }
     ensures same { OnOk result (AreSame groups.old groups.new) }
-    ensures settled { IfOk result (λ marked. (most : ℕ) × AreSettled some groups.new most marked) }
+    ensures settled { IfOk result (λ marked. (most : ℕ) × AreSettled level.now.some groups.new most marked) }
 {
     'chains: loop {
         let mut marked = [false; SLOTS];
-        if settle_once(alloc, some, groups, loads, &mut marked)? {
+        if settle_once(alloc, level, groups, loads, &mut marked)? {
             return Ok(marked);
         }
     }
 }
 
-/// The greatest number of ids of one group that are given to one relay.
-fn most_given(groups: &[Group]) -> u64
-    ensures { (k r : ℕ) → k < length groups.now → r < RELAYS → amount groups.now k r ≤ result }
+/// The number of a group's ids.
+fn count_of(group: &Group) -> u64
+    requires { sum group.now.given ≤ MOST_IDS }
+    ensures { result ≡ sum group.now.given }
+{
+    let mut count = 0;
+    for given in &group.given {
+        count += *given;
+    }
+    count
+}
+
+/// The number of each group's ids.
+fn counts_of(alloc: Global, groups: &[Group]) -> Result<Vec<u64>, AllocError>
+    requires { (k : ℕ) → k < length groups.now → total groups.now k ≤ MOST_IDS }
+    ensures { IfOk result (λ counts. AreCounts groups.now counts.items) }
+{
+    let mut counts = Vec::new(alloc);
+    for group in groups {
+        counts.push(count_of(group))?;
+    }
+    Ok(counts)
+}
+
+/// Where so many ids move at once.
+fn level_of(alloc: Global, counts: &[u64], some: u64) -> Result<Level, AllocError>
+    ensures some { IfOk result (λ level. level.some ≡ some) }
+    ensures large { IfOk result (λ level. (groups : List Group) → AreCounts groups counts.now → AreLarge some groups level.places.items) }
+{
+    let mut places = Vec::new(alloc);
+    for (place, count) in counts.iter().enumerate() {
+        if *count >= some {
+            places.push(place)?;
+        }
+    }
+    Ok(Level { some, places })
+}
+
+/// The greatest number.
+fn most_of(counts: &[u64]) -> u64
+    ensures { (k : ℕ) → k < length counts.now → slice_index counts.now k ≤ result }
 {
     let mut most = 0;
-    for group in groups {
-        let here = greatest(&group.given);
-        if here > most {
-            most = here;
+    for count in counts {
+        if *count > most {
+            most = *count;
         }
     }
     most
@@ -290,10 +340,11 @@ pub(crate) fn settle(
     ensures same { OnOk result (AreSame groups.old groups.new) }
     ensures settled { IfOk result (λ marked. (most : ℕ) × AreSettled 1 groups.new most marked) }
 {
-    let mut some = most_given(groups);
+    let counts = counts_of(alloc, groups)?;
+    let mut some = most_of(&counts);
     while some > 1 {
-        settle_by(alloc, some, groups, loads)?;
+        settle_by(alloc, &level_of(alloc, &counts, some)?, groups, loads)?;
         some /= 2;
     }
-    settle_by(alloc, 1, groups, loads)
+    settle_by(alloc, &level_of(alloc, &counts, 1)?, groups, loads)
 }

@@ -23,7 +23,7 @@ loop-next-preserved c =
     let next : ℕ = c.loop-next.next in
     let lt : next < length c.loop-next.steps.items = omega arith in
     let read : relay_at c.loop-next.steps.items next ≡ c.index.result.now.relay = relay_at_is _ _ c.index.result.now c.index.result.now lt c.index.ensures in
-    let high : c.args.most < get_or c.args.loads.now (relay_at c.loop-next.steps.items next) 0 + 2 * c.args.enough = rw read (omega (arith, c.if-most-loads.false, ap (λ r. get_or c.args.loads.now r 0) c.from.ensures)) in
+    let high : c.args.most < get_or c.args.loads.now (relay_at c.loop-next.steps.items next) 0 + 2 * c.args.level.now.some = rw read (omega (arith, c.if-most-loads.false, ap (λ r. get_or c.args.loads.now r 0) c.from.ensures)) in
     elim c.if-len-lt-SLOTS.branch [
       | then-len-lt-SLOTS+in_ok-add_from w ↦
           (let said = w.in_ok-add_from.ensures in

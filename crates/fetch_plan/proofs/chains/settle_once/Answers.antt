@@ -10,7 +10,7 @@ returns-in-None-clause-settled c _ =
     (c.greatest-most.result, settled _ _ _ _ _ _ _ _ c.requires.loads c.requires.given.groups_ok c.greatest-most.ensures.bound c.greatest-most.ensures.one o.starts o.all n.trail n.marks n.extends n.stay (rw c.in-None.is at n.closed) (rw c.in-None.is at n.high))
 
 -- what the chain's two ends have
-apart : (c : goal.After-shift-arg-1) → get_or c.args.loads.now c.index.result.now.relay 0 + 2 * c.args.some ≤ get_or c.args.loads.now c.walk-from.result 0
+apart : (c : goal.After-shift-arg-1) → get_or c.args.loads.now c.index.result.now.relay 0 + 2 * c.args.level.now.some ≤ get_or c.args.loads.now c.walk-from.result 0
 apart c =
     let n = c.in_ok-search.ensures in
     let end = rw c.in-Some.is at n.end in
@@ -40,7 +40,7 @@ returns-clause-loads c r lt =
     let end = rw c.in-Some.is at n.end in
     let read = relay_at_is _ _ c.index.result.now c.index.result.now end c.index.ensures in
     let moved = rw c.deref.ensures.value at c.walk-from.ensures.moved in
-    omega (arith, moved r, c.shift.ensures.moved r, c.requires.loads r lt, ap {B = ℕ} (λ t. cond (t == r) c.args.some 0) read)
+    omega (arith, moved r, c.shift.ensures.moved r, c.requires.loads r lt, ap {B = ℕ} (λ t. cond (t == r) c.args.level.now.some 0) read)
 
 pub returns-clause-smaller : goal.returns-clause-smaller
 returns-clause-smaller c _ =
