@@ -3,7 +3,7 @@
 //! then half as many, and at last single ones.
 
 ghost use Rattle.std.specs.Prelude.{◌≡◌, ◌≢◌, ◌≤◌, ◌<◌, ◌+◌, ◌*◌, ◌^◌, ◌==◌, true, ℕ, List, length, OnOk, IfOk, IfSome, IfNone, slice_index, false, None, cond};
-ghost use Rattle.std.specs.List.{sum};
+ghost use Rattle.std.specs.List.{sum, All};
 ghost use Rattle.sharing.specs.declared.TheConstants.{MOST_IDS};
 ghost use Rattle.sharing.specs.Sharing.{is_among};
 ghost use Rattle.fetch_plan.specs.declared.groups.Group.{Group};
@@ -125,8 +125,24 @@ fn first_steps(
     Ok(steps)
 }
 
-/// The first step whose relay has fewer than the busiest ones by at least twice what moves, or none once the
-/// steps lead nowhere else.
+/// The first step whose relay has fewer than the busiest ones by at least twice what moves.
+fn low_step(some: u64, loads: &[u64; SLOTS], most: u64, steps: &[Step]) -> Option<usize>
+    requires small { All (λ s. s.relay < RELAYS) steps.now }
+    requires bound { (r : ℕ) → r < RELAYS → slice_index loads.now r ≤ most }
+    ensures within { IfSome result (λ k. k < length steps.now) }
+    ensures low { IfSome result (λ k. slice_index loads.now (relay_at steps.now k) + 2 * some ≤ most) }
+    ensures high { IfNone result ((k : ℕ) → k < length steps.now → most < slice_index loads.now (relay_at steps.now k) + 2 * some) }
+{
+    for (place, step) in steps.iter().enumerate() {
+        if (most - loads[usize::from(step.relay)]) / 2 >= some {
+            return Some(place);
+        }
+    }
+    None
+}
+
+/// A step whose relay has fewer than the busiest ones by at least twice what moves, or none once the steps lead
+/// nowhere else.
 fn search(
     level: &Level,
     groups: &[Group],
@@ -151,9 +167,8 @@ fn search(
 {
     let mut next = 0;
     while next < steps.len() {
-        let relay = steps[next].relay;
-        if (most - loads[usize::from(relay)]) / 2 >= level.some {
-            return Ok(Some(next));
+        if let Some(end) = low_step(level.some, loads, most, steps) {
+            return Ok(Some(end));
         }
         if steps.len() < SLOTS {
             add_from(level, groups, next, steps, marked)?;
