@@ -1,6 +1,10 @@
 pub mod Trails
+pub mod Moves
 pub mod Walks
 pub mod Settling
-pub mod Pushes
+pub mod Seats
+pub mod Gives
+pub mod Hands
+pub mod Shared
 pub mod Planned
 pub mod Searched

@@ -1,9 +1,9 @@
 -- From the settled shares to the promises on offers.
-use Rattle.std.proofs.Common.{◌≡◌, ◌≢◌, ℕ, zero, suc, ◌+◌, ◌-◌, ◌*◌, ◌<◌, ◌≤◌, ◌==◌, Bool, true, false, cond, List, [], ◌∷◌, ◌++◌, length, get_or, map, refl, sym, ap, ◌∙◌, subst, arith, inl, inr, ◌⊎◌}
+use Rattle.std.proofs.Common.{◌≡◌, ℕ, ◌<◌, ◌≤◌, ◌==◌, Bool, true, cond, List, [], ◌∷◌, length, get_or, map, refl, sym, ap, ◌∙◌, subst, arith, inl, inr}
 use Rattle.sharing.specs.declared.TheConstants.{RELAYS}
-use Rattle.std.specs.List.{All, count_by, sum_by, list_all}
+use Rattle.std.specs.List.{All, list_all}
 use Rattle.std.specs.List.Sorted.{IsStrictlySortedBy}
-use Rattle.std.proofs.lemmas.Bool.{false≢true, cases_lt, ne_eqb}
+use Rattle.std.proofs.lemmas.Bool.{cases_lt, ne_eqb}
 use Rattle.std.proofs.lemmas.List.{get_or-map, length-map}
 use Rattle.std.proofs.lemmas.List.Elements.{All-map, All-head, All-tail, All-nil}
 use Rattle.sharing.specs.declared.TheConstants.{MOST_IDS}
@@ -14,12 +14,11 @@ use Rattle.fetch_plan.specs.Plan.{Planned, IsPlan, IsPlanOf, given_load}
 use Rattle.std.proofs.lemmas.List.Sums.{sum_by-cons}
 use Rattle.sharing.specs.Sharing.{is_among, load, IsSharing, IsGreatest, Shows, alone, Distinct}
 use Rattle.neg_codec.specs.declared.Id.{Id}
-use Rattle.sharing.proofs.Counting.{shows_from_closed, alone_over_base, least_of_group, sum_by-zero}
-use Rattle.fetch_plan.specs.declared.chains.Share.{Share}
-use Rattle.fetch_plan.specs.Trail.{given, offered, held, no_share, is_marked, AreOffered, offers_of, IsClosed, IsClosedTest, IsSettled, gives_of}
-use Rattle.sharing.specs.Reached.{KeepsTo, IsReached, IsLeast}
-use Rattle.fetch_plan.proofs.Trails.{offered_is, given_is, get_or_any}
-use Rattle.fetch_plan.proofs.Settling.{none_held}
+use Rattle.sharing.proofs.Counting.{shows_from_closed}
+use Rattle.fetch_plan.specs.declared.hand_out.Share.{Share}
+use Rattle.fetch_plan.specs.Shares.{given, held, no_share, is_marked, AreOffered, offers_of, IsClosedTest, IsSettled, gives_of}
+use Rattle.sharing.specs.Reached.{KeepsTo, IsLeast}
+use Rattle.fetch_plan.proofs.Shared.{offered_is, given_is, none_held}
 
 -- each share as the relay it is given to, with those that offer it
 abbrev pub givens : List Share → List (ℕ × List ℕ)

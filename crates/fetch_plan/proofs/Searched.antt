@@ -1,19 +1,16 @@
 -- A search among ids in order.
-use Rattle.std.proofs.Common.{◌≡◌, ◌≢◌, ℕ, ◌+◌, ◌-◌, ◌<◌, ◌≤◌, Bool, true, false, cond, List, [], ◌∷◌, length, map, get_or, Option, Some, None, refl, sym, ap, ◌∙◌, subst, arith, inl, inr, zero, suc}
-use Rattle.std.specs.declared.cmp.Ordering.{Ordering}
+use Rattle.std.proofs.Common.{◌≡◌, ℕ, ◌+◌, ◌<◌, ◌≤◌, false, cond, List, [], ◌∷◌, length, map, get_or, Some, None, refl, sym, ap, ◌∙◌, arith, inl, inr, suc}
 use Rattle.std.specs.declared.cmp.Ordering.TheVariants.{Less, Equal, Greater}
 use Rattle.std.specs.Ordering.{is_eq, ordering_reverse}
-use Rattle.std.specs.List.{All}
-use Rattle.std.specs.List.Sorted.{IsStrictlySortedBy}
 use Rattle.std.proofs.lemmas.Bool.{cases_lt, cases_eq}
 use Rattle.std.proofs.lemmas.List.{get_or-map, length-map}
 use Rattle.std.proofs.lemmas.Map.Keys.{Less-from_sorted}
 use Rattle.neg_codec.specs.declared.Id.{Id}
 use Rattle.sharing.specs.Offers.{id_cmp, is_id, Ascend, beside}
-use Rattle.sharing.proofs.Orders.{id_total, id_itself, same_id, is_equal}
+use Rattle.sharing.proofs.Orders.{id_total, same_id}
 use Rattle.sharing.proofs.Looks.{found_itself}
-use Rattle.fetch_plan.specs.declared.chains.Share.{Share}
-use Rattle.fetch_plan.specs.Trail.{gives_of}
+use Rattle.fetch_plan.specs.declared.hand_out.Share.{Share}
+use Rattle.fetch_plan.specs.Shares.{gives_of}
 
 abbrev pub no_give : Id × ℕ
 no_give = (record { 0 = [] }, 0)

@@ -1,17 +1,21 @@
 -- What one more step does to a trail and its marks.
-use Rattle.std.proofs.Common.{◌≡◌, ◌≢◌, ℕ, zero, suc, ◌+◌, ◌-◌, ◌*◌, ◌<◌, ◌≤◌, ◌==◌, Bool, true, false, cond, not, List, [], ◌∷◌, ◌++◌, length, get_or, set, refl, sym, ap, ◌∙◌, subst, arith, rules, inl, inr, ◌⊎◌, Option, Some, None}
+use Rattle.std.proofs.Common.{◌≡◌, ◌≢◌, ℕ, zero, suc, ◌+◌, ◌*◌, ◌<◌, ◌≤◌, Bool, true, false, cond, not, List, [], ◌∷◌, ◌++◌, length, get_or, set, refl, sym, ap, ◌∙◌, subst, arith, inl, inr, Some, None, ◌==◌, ◌⊎◌}
 use Rattle.sharing.specs.declared.TheConstants.{RELAYS}
 use Rattle.std.specs.Option.{is_some}
-use Rattle.std.specs.List.{count_by, sum_by}
-use Rattle.std.proofs.lemmas.Bool.{false≢true, cases_lt, cases_eq, cases_Bool}
+use Rattle.std.specs.List.{count_by, sum}
+use Rattle.std.proofs.lemmas.Bool.{false≢true, cases_lt, cases_eq, cases_Bool, or_cases, eqb-true}
 use Rattle.std.proofs.lemmas.List.{get_or_push, length_push, get_or-set_same, get_or-set_other, length-set}
 use Rattle.std.proofs.Math.ListN.{get_or-append}
-use Rattle.std.proofs.lemmas.List.Sums.{sum_by-set, sum_by-cons}
+use Rattle.std.proofs.lemmas.List.Folds.{list_any-append}
+use Rattle.std.proofs.lemmas.List.Sums.{sum_by-set, sum_by-cons, get_or-le-sum_by}
 use Rattle.sharing.specs.Sharing.{is_among}
-use Rattle.fetch_plan.specs.declared.chains.Share.{Share}
+use Rattle.sharing.proofs.Looks.{among_each}
+use Rattle.fetch_plan.specs.Shares.{is_marked}
+use Rattle.fetch_plan.specs.Groups.{amount, shared_by, total, no_group, AreGroups, AreLarge}
+use Rattle.fetch_plan.specs.declared.groups.Group.{Group}
 use Rattle.fetch_plan.specs.declared.chains.Step.{Step}
 use Rattle.fetch_plan.specs.declared.chains.Link.{Link}
-use Rattle.fetch_plan.specs.Trail.{given, offered, relay_at, from_at, is_marked, no_step, no_share, IsLink, IsTrail, AreMarked, Extends, StayMarked, IsClosedAt, IsClosed, AreStarts}
+use Rattle.fetch_plan.specs.Trail.{relay_at, from_at, no_step, IsLink, IsTrail, AreMarked, Extends, StayMarked, IsClosedAt, PassesOn, AreStarts}
 
 pub get_or_any : {X : Type 0} (xs : List X) (k : ℕ) (a b : X) → k < length xs → get_or xs k a ≡ get_or xs k b
 get_or_any [] k a b lt = absurd (omega arith)
@@ -43,36 +47,36 @@ module _ (steps : List Step) (s : Step) where
         | inr above ↦ (let e : length steps ≡ k = omega (arith, length_push steps s) in subst P e new)
       ]
 
-  link_before : (shares : List Share) (k : ℕ) (link : Link) → k < length steps → IsLink shares steps k link → IsLink shares (steps ++ s ∷ []) k link
-  link_before shares k link lt h =
+  link_before : (enough : ℕ) (groups : List Group) (k : ℕ) (link : Link) → k < length steps → IsLink enough groups steps k link → IsLink enough groups (steps ++ s ∷ []) k link
+  link_before enough groups k link lt h =
       let early : link.parent < length steps = omega (arith, h.earlier) in
       record {
         earlier = h.earlier;
         placed = h.placed;
-        giver = h.giver ∙ sym (relay_before link.parent early);
-        taker = ap (is_among (offered shares link.place)) (relay_before k lt) ∙ h.taker;
+        giver = subst (λ r. enough ≤ amount groups link.place r) (sym (relay_before link.parent early)) h.giver;
+        taker = ap (is_among (shared_by groups link.place)) (relay_before k lt) ∙ h.taker;
       }
 
 -- one more step with a link, to a relay that is not marked
-pub push_trail : (shares : List Share) (steps : List Step) (marked : List Bool) (relay : ℕ) (link : Link) → IsTrail shares steps → AreMarked steps marked → relay < RELAYS → is_marked marked relay ≡ false →
-    link.parent < length steps → link.place < length shares → given shares link.place ≡ relay_at steps link.parent → is_among (offered shares link.place) relay ≡ true →
-    IsTrail shares (steps ++ record { relay = relay; from = Some link } ∷ [])
-push_trail shares steps marked relay link trail marks lt new parent placed giver taker =
+pub push_trail : (enough : ℕ) (groups : List Group) (steps : List Step) (marked : List Bool) (relay : ℕ) (link : Link) → IsTrail enough groups steps → AreMarked steps marked → relay < RELAYS → is_marked marked relay ≡ false →
+    link.parent < length steps → link.place < length groups → enough ≤ amount groups link.place (relay_at steps link.parent) → is_among (shared_by groups link.place) relay ≡ true →
+    IsTrail enough groups (steps ++ record { relay = relay; from = Some link } ∷ [])
+push_trail enough groups steps marked relay link trail marks lt new parent placed giver taker =
     let s : Step = record { relay = relay; from = Some link } in
     let after : List Step = steps ++ s ∷ [] in
     record {
       small = each_push steps s (λ k. relay_at after k < RELAYS)
           (λ k h. subst (λ r. r < RELAYS) (sym (relay_before steps s k h)) (trail.small k h))
           (subst (λ r. r < RELAYS) (sym (relay_last steps s (length steps) refl)) lt);
-      links = λ k l h e. each_push steps s (λ k. (l : Link) → from_at after k ≡ Some l → IsLink shares after k l)
-          (λ k h l e. link_before steps s shares k l h (trail.links k l h (sym (from_before steps s k h) ∙ e)))
+      links = λ k l h e. each_push steps s (λ k. (l : Link) → from_at after k ≡ Some l → IsLink enough groups after k l)
+          (λ k h l e. link_before steps s enough groups k l h (trail.links k l h (sym (from_before steps s k h) ∙ e)))
           (λ l e.
           let same : link ≡ l = (let o : from_at after (length steps) ≡ Some link = from_last steps s (length steps) refl in cc) in
-          subst (λ l. IsLink shares after (length steps) l) same (record {
+          subst (λ l. IsLink enough groups after (length steps) l) same (record {
             earlier = parent;
             placed = placed;
-            giver = giver ∙ sym (relay_before steps s link.parent parent);
-            taker = ap (is_among (offered shares link.place)) (relay_last steps s (length steps) refl) ∙ taker;
+            giver = subst (λ r. enough ≤ amount groups link.place r) (sym (relay_before steps s link.parent parent)) giver;
+            taker = ap (is_among (shared_by groups link.place)) (relay_last steps s (length steps) refl) ∙ taker;
           }))
           k h l e;
       apart = λ j k jk h. each_push steps s (λ k. (j : ℕ) → j < k → relay_at after j ≢ relay_at after k)
@@ -161,13 +165,22 @@ pub is_marked_is : (marked : List Bool) (r : ℕ) (b d : Bool) → r < length ma
 unfolding is_marked
 is_marked_is marked r b d lt e = get_or_any marked r false d lt ∙ sym e
 
-pub offered_is : (shares : List Share) (k : ℕ) (s d : Share) → k < length shares → s ≡ get_or shares k d → offered shares k ≡ s.relays
-unfolding offered
-offered_is shares k s d lt e = ap (λ (x : Share). x.relays) (get_or_any shares k no_share d lt ∙ sym e)
+pub shared_is : (groups : List Group) (k : ℕ) (d : Group) → k < length groups → shared_by groups k ≡ (get_or groups k d).relays
+unfolding shared_by
+shared_is groups k d lt = ap (λ (g : Group). g.relays) (get_or_any groups k no_group d lt)
 
-pub given_is : (shares : List Share) (k : ℕ) (s d : Share) → k < length shares → s ≡ get_or shares k d → given shares k ≡ s.relay
-unfolding given
-given_is shares k s d lt e = ap (λ (x : Share). x.relay) (get_or_any shares k no_share d lt ∙ sym e)
+pub amount_is : (groups : List Group) (k r : ℕ) (g d : Group) → k < length groups → g ≡ get_or groups k d → amount groups k r ≡ get_or g.given r 0
+unfolding amount
+amount_is groups k r g d lt e = ap (λ (g : Group). get_or g.given r 0) (get_or_any groups k no_group d lt ∙ sym e)
+
+pub total_is : (groups : List Group) (k : ℕ) (g d : Group) → k < length groups → g ≡ get_or groups k d → total groups k ≡ sum g.given
+unfolding total
+total_is groups k g d lt e = ap (λ (g : Group). sum g.given) (get_or_any groups k no_group d lt ∙ sym e)
+
+-- a relay is given no more of a group's ids than all relays are
+pub amount-le-total : (groups : List Group) (k r : ℕ) → AreGroups groups → k < length groups → r < RELAYS → amount groups k r ≤ total groups k
+unfolding amount total
+amount-le-total groups k r h lt small = get_or-le-sum_by (λ x. x) (get_or groups k no_group).given r 0 (omega (arith, h.wide k lt))
 
 pub relay_at_is : (steps : List Step) (k : ℕ) (s d : Step) → k < length steps → s ≡ get_or steps k d → relay_at steps k ≡ s.relay
 unfolding relay_at
@@ -177,17 +190,17 @@ pub from_at_is : (steps : List Step) (k : ℕ) (s d : Step) → k < length steps
 unfolding from_at
 from_at_is steps k s d lt e = ap (λ (x : Step). x.from) (get_or_any steps k no_step d lt ∙ sym e)
 
--- the relays of a share below this one are on the trail
-pub record Adding (shares : List Share) (relays : List ℕ) (steps : List Step) (marked : List Bool) (now : List Step) (marks_now : List Bool) (relay : ℕ) : Type 0 where
-  pub trail : IsTrail shares now
+-- the relays of a group below this one are on the trail
+pub record Adding (enough : ℕ) (groups : List Group) (relays : List ℕ) (steps : List Step) (marked : List Bool) (now : List Step) (marks_now : List Bool) (relay : ℕ) : Type 0 where
+  pub trail : IsTrail enough groups now
   pub marks : AreMarked now marks_now
   pub extends : Extends steps now
   pub stay : StayMarked marked marks_now
   pub reached : (r : ℕ) → r < relay → is_among relays r ≡ true → is_marked marks_now r ≡ true
   pub small : 0 < relay → (r : ℕ) → is_among relays r ≡ true → r < RELAYS
 
-pub adding_none : (shares : List Share) (relays : List ℕ) (steps : List Step) (marked : List Bool) → IsTrail shares steps → AreMarked steps marked → Adding shares relays steps marked steps marked 0
-adding_none shares relays steps marked trail marks = record {
+pub adding_none : (enough : ℕ) (groups : List Group) (relays : List ℕ) (steps : List Step) (marked : List Bool) → IsTrail enough groups steps → AreMarked steps marked → Adding enough groups relays steps marked steps marked 0
+adding_none enough groups relays steps marked trail marks = record {
   trail = trail;
   marks = marks;
   extends = extends_refl steps;
@@ -196,12 +209,12 @@ adding_none shares relays steps marked trail marks = record {
   small = λ lt. absurd (omega arith);
 }
 
-pub adding_pass : (shares : List Share) (relays : List ℕ) (steps : List Step) (marked : List Bool) (now later : List Step) (marks_now marks_later : List Bool) (relay : ℕ) →
-    Adding shares relays steps marked now marks_now relay → later ≡ now → marks_later ≡ marks_now → (is_among relays relay ≡ true → is_marked marks_now relay ≡ true) → ((r : ℕ) → is_among relays r ≡ true → r < RELAYS) →
-    Adding shares relays steps marked later marks_later (relay + 1)
-adding_pass shares relays steps marked now later marks_now marks_later relay h e f here small =
-    subst (λ m. Adding shares relays steps marked later m (relay + 1)) (sym f)
-    (subst (λ s. Adding shares relays steps marked s marks_now (relay + 1)) (sym e) (record {
+pub adding_pass : (enough : ℕ) (groups : List Group) (relays : List ℕ) (steps : List Step) (marked : List Bool) (now later : List Step) (marks_now marks_later : List Bool) (relay : ℕ) →
+    Adding enough groups relays steps marked now marks_now relay → later ≡ now → marks_later ≡ marks_now → (is_among relays relay ≡ true → is_marked marks_now relay ≡ true) → ((r : ℕ) → is_among relays r ≡ true → r < RELAYS) →
+    Adding enough groups relays steps marked later marks_later (relay + 1)
+adding_pass enough groups relays steps marked now later marks_now marks_later relay h e f here small =
+    subst (λ m. Adding enough groups relays steps marked later m (relay + 1)) (sym f)
+    (subst (λ s. Adding enough groups relays steps marked s marks_now (relay + 1)) (sym e) (record {
       trail = h.trail;
       marks = h.marks;
       extends = h.extends;
@@ -210,22 +223,22 @@ adding_pass shares relays steps marked now later marks_now marks_later relay h e
       small = λ _. small;
     }))
 
-pub adding_step : (shares : List Share) (link : Link) (steps : List Step) (marked : List Bool) (now later : List Step) (marks_now marks_later : List Bool) (relay : ℕ) →
-    link.place < length shares → link.parent < length steps → given shares link.place ≡ relay_at steps link.parent →
-    Adding shares (offered shares link.place) steps marked now marks_now relay → relay < RELAYS → is_among (offered shares link.place) relay ≡ true → is_marked marks_now relay ≡ false →
-    later ≡ now ++ record { relay = relay; from = Some link } ∷ [] → marks_later ≡ set marks_now relay true → ((r : ℕ) → is_among (offered shares link.place) r ≡ true → r < RELAYS) →
-    Adding shares (offered shares link.place) steps marked later marks_later (relay + 1)
-adding_step shares link steps marked now later marks_now marks_later relay placed parent giver h lt among new e f tiny =
+pub adding_step : (enough : ℕ) (groups : List Group) (link : Link) (steps : List Step) (marked : List Bool) (now later : List Step) (marks_now marks_later : List Bool) (relay : ℕ) →
+    link.place < length groups → link.parent < length steps → enough ≤ amount groups link.place (relay_at steps link.parent) →
+    Adding enough groups (shared_by groups link.place) steps marked now marks_now relay → relay < RELAYS → is_among (shared_by groups link.place) relay ≡ true → is_marked marks_now relay ≡ false →
+    later ≡ now ++ record { relay = relay; from = Some link } ∷ [] → marks_later ≡ set marks_now relay true → ((r : ℕ) → is_among (shared_by groups link.place) r ≡ true → r < RELAYS) →
+    Adding enough groups (shared_by groups link.place) steps marked later marks_later (relay + 1)
+adding_step enough groups link steps marked now later marks_now marks_later relay placed parent giver h lt among new e f tiny =
     let s : Step = record { relay = relay; from = Some link } in
     let fits : relay < length marks_now = omega (arith, h.marks.wide) in
     let early : link.parent < length now = omega (arith, h.extends.longer) in
-    subst (λ m. Adding shares (offered shares link.place) steps marked later m (relay + 1)) (sym f)
-    (subst (λ s. Adding shares (offered shares link.place) steps marked s (set marks_now relay true) (relay + 1)) (sym e) (record {
-      trail = push_trail shares now marks_now relay link h.trail h.marks lt new early placed (giver ∙ sym (relay_kept steps now link.parent h.extends parent)) among;
+    subst (λ m. Adding enough groups (shared_by groups link.place) steps marked later m (relay + 1)) (sym f)
+    (subst (λ s. Adding enough groups (shared_by groups link.place) steps marked s (set marks_now relay true) (relay + 1)) (sym e) (record {
+      trail = push_trail enough groups now marks_now relay link h.trail h.marks lt new early placed (subst (λ r. enough ≤ amount groups link.place r) (sym (relay_kept steps now link.parent h.extends parent)) giver) among;
       marks = push_marks now marks_now s h.marks lt new;
       extends = extends_push steps now relay link h.extends;
       stay = λ r old. marked_stay marks_now relay fits r (h.stay r old);
-      reached = reached_more (offered shares link.place) (set marks_now relay true) relay
+      reached = reached_more (shared_by groups link.place) (set marks_now relay true) relay
           (λ r below yes. marked_stay marks_now relay fits r (h.reached r below yes)) (λ _. marked_at marks_now relay fits);
       small = λ _. tiny;
     }))
@@ -241,55 +254,72 @@ extends_more a b c h g = record {
       ];
 }
 
--- the shares of one relay so far
-pub record Adding_from (shares : List Share) (relay : ℕ) (steps : List Step) (marked : List Bool) (now : List Step) (marks_now : List Bool) (n : ℕ) : Type 0 where
-  pub trail : IsTrail shares now
+-- what those of these groups lead to of which enough ids are given to this relay is marked
+abbrev pub IsClosedOver : ℕ → List Group → List ℕ → ℕ → List Bool → Type 0
+IsClosedOver enough groups places relay marked =
+    (k r : ℕ) → is_among places k ≡ true → enough ≤ amount groups k relay → is_among (shared_by groups k) r ≡ true → is_marked marked r ≡ true
+
+-- the groups at these places are done
+pub record Adding_from (enough : ℕ) (groups : List Group) (relay : ℕ) (steps : List Step) (marked : List Bool) (now : List Step) (marks_now : List Bool) (done : List ℕ) : Type 0 where
+  pub trail : IsTrail enough groups now
   pub marks : AreMarked now marks_now
   pub extends : Extends steps now
   pub stay : StayMarked marked marks_now
-  pub closed : IsClosedAt shares n relay marks_now
+  pub closed : IsClosedOver enough groups done relay marks_now
 
-pub closed_more : (shares : List Share) (n relay : ℕ) (marked : List Bool) → IsClosedAt shares n relay marked → (given shares n ≡ relay → (r : ℕ) → is_among (offered shares n) r ≡ true → is_marked marked r ≡ true) → IsClosedAt shares (n + 1) relay marked
-closed_more shares n relay marked before here k r lt e h =
-    elim (cases_eq k n) [
-      | inl same ↦ here (ap (given shares) (sym same) ∙ e) r (ap (λ k. is_among (offered shares k) r) (sym same) ∙ h)
-      | inr ne ↦ before k r (omega arith) e h
+pub among_push : (done : List ℕ) (place k : ℕ) → is_among (done ++ place ∷ []) k ≡ true → (is_among done k ≡ true) ⊎ (k ≡ place)
+among_push done place k h =
+    elim (or_cases (is_among done k) (is_among (place ∷ []) k) (sym (list_any-append (λ x. k == x) done (place ∷ [])) ∙ h)) [
+      | inl earlier ↦ inl earlier
+      | inr last ↦ elim (or_cases (k == place) false last) [ inl e ↦ inr (eqb-true k place e) | inr e ↦ absurd (false≢true e) ]
     ]
 
-pub from_none : (shares : List Share) (relay : ℕ) (steps : List Step) (marked : List Bool) → IsTrail shares steps → AreMarked steps marked → Adding_from shares relay steps marked steps marked 0
-from_none shares relay steps marked trail marks = record {
+pub closed_more : (enough : ℕ) (groups : List Group) (done : List ℕ) (place relay : ℕ) (marked : List Bool) → IsClosedOver enough groups done relay marked → (enough ≤ amount groups place relay → (r : ℕ) → is_among (shared_by groups place) r ≡ true → is_marked marked r ≡ true) → IsClosedOver enough groups (done ++ place ∷ []) relay marked
+closed_more enough groups done place relay marked before here k r in_all some among =
+    elim (among_push done place k in_all) [
+      | inl earlier ↦ before k r earlier some among
+      | inr same ↦ here (subst (λ k. enough ≤ amount groups k relay) same some) r (ap (λ k. is_among (shared_by groups k) r) (sym same) ∙ among)
+    ]
+
+pub from_none : (enough : ℕ) (groups : List Group) (relay : ℕ) (steps : List Step) (marked : List Bool) → IsTrail enough groups steps → AreMarked steps marked → Adding_from enough groups relay steps marked steps marked []
+from_none enough groups relay steps marked trail marks = record {
   trail = trail;
   marks = marks;
   extends = extends_refl steps;
   stay = λ r h. h;
-  closed = λ k r lt. absurd (omega arith);
+  closed = λ k r in_all. absurd (false≢true in_all);
 }
 
-pub from_pass : (shares : List Share) (relay : ℕ) (steps : List Step) (marked : List Bool) (now : List Step) (marks_now : List Bool) (n : ℕ) →
-    Adding_from shares relay steps marked now marks_now n → (given shares n ≡ relay → ⊥) → Adding_from shares relay steps marked now marks_now (n + 1)
-from_pass shares relay steps marked now marks_now n h other = record {
+pub from_pass : (enough : ℕ) (groups : List Group) (relay : ℕ) (steps : List Step) (marked : List Bool) (now : List Step) (marks_now : List Bool) (done : List ℕ) (place : ℕ) →
+    Adding_from enough groups relay steps marked now marks_now done → (enough ≤ amount groups place relay → ⊥) → Adding_from enough groups relay steps marked now marks_now (done ++ place ∷ [])
+from_pass enough groups relay steps marked now marks_now done place h other = record {
   trail = h.trail;
   marks = h.marks;
   extends = h.extends;
   stay = h.stay;
-  closed = closed_more shares n relay marks_now h.closed (λ e. absurd (other e));
+  closed = closed_more enough groups done place relay marks_now h.closed (λ e. absurd (other e));
 }
 
-pub from_step : (shares : List Share) (relay : ℕ) (steps : List Step) (marked : List Bool) (now later : List Step) (marks_now marks_later : List Bool) (n : ℕ) →
-    Adding_from shares relay steps marked now marks_now n → IsTrail shares later → AreMarked later marks_later → Extends now later → StayMarked marks_now marks_later →
-    ((r : ℕ) → is_among (offered shares n) r ≡ true → is_marked marks_later r ≡ true) →
-    Adding_from shares relay steps marked later marks_later (n + 1)
-from_step shares relay steps marked now later marks_now marks_later n h trail marks extends stay reached = record {
+pub from_step : (enough : ℕ) (groups : List Group) (relay : ℕ) (steps : List Step) (marked : List Bool) (now later : List Step) (marks_now marks_later : List Bool) (done : List ℕ) (place : ℕ) →
+    Adding_from enough groups relay steps marked now marks_now done → IsTrail enough groups later → AreMarked later marks_later → Extends now later → StayMarked marks_now marks_later →
+    ((r : ℕ) → is_among (shared_by groups place) r ≡ true → is_marked marks_later r ≡ true) →
+    Adding_from enough groups relay steps marked later marks_later (done ++ place ∷ [])
+from_step enough groups relay steps marked now later marks_now marks_later done place h trail marks extends stay reached = record {
   trail = trail;
   marks = marks;
   extends = extends_more steps now later h.extends extends;
   stay = λ r m. stay r (h.stay r m);
-  closed = closed_more shares n relay marks_later (λ k r lt e among. stay r (h.closed k r lt e among)) (λ _. reached);
+  closed = closed_more enough groups done place relay marks_later (λ k r in_all e among. stay r (h.closed k r in_all e among)) (λ _. reached);
 }
+
+-- the other groups have too few ids
+pub closed_large : (enough : ℕ) (groups : List Group) (places : List ℕ) (relay : ℕ) (marked : List Bool) → AreGroups groups → AreLarge enough groups places → relay < RELAYS → IsClosedOver enough groups places relay marked → IsClosedAt enough groups (length groups) relay marked
+closed_large enough groups places relay marked ok large small h k r lt some among =
+    h k r (large.all k lt (omega (arith, some, amount-le-total groups k relay ok lt small))) some among
 
 -- the relays below this one with the greatest load are on the trail
 pub record Starting (loads : List ℕ) (most : ℕ) (steps : List Step) (marked : List Bool) (relay : ℕ) : Type 0 where
-  pub trail : (shares : List Share) → IsTrail shares steps
+  pub trail : (enough : ℕ) (groups : List Group) → IsTrail enough groups steps
   pub marks : AreMarked steps marked
   pub starts : AreStarts loads most steps
   pub all : (r : ℕ) → r < relay → get_or loads r 0 ≡ most → is_marked marked r ≡ true
@@ -302,7 +332,7 @@ count_none (m ∷ ms) h = omega (arith, sum_by-cons (λ x. cond (not x) 1 0) m m
 
 pub starting_none : (loads : List ℕ) (most : ℕ) (marked : List Bool) → length marked ≡ RELAYS → ((r : ℕ) → is_marked marked r ≡ false) → Starting loads most [] marked 0
 starting_none loads most marked wide none = record {
-  trail = λ shares. record { small = λ k lt. absurd (omega arith); links = λ k l lt. absurd (omega arith); apart = λ j k jk lt. absurd (omega arith) };
+  trail = λ enough groups. record { small = λ k lt. absurd (omega arith); links = λ k l lt. absurd (omega arith); apart = λ j k jk lt. absurd (omega arith) };
   marks = record { wide = wide; noted = λ k lt. absurd (omega arith); found = λ r h. absurd (false≢true (sym (none r) ∙ h)); counted = omega (arith, count_none marked none) };
   starts = record { unlinked = λ k lt. absurd (omega arith); busiest = λ k lt. absurd (omega arith) };
   all = λ r lt. absurd (omega arith);
@@ -318,17 +348,17 @@ starting_pass loads most steps marked relay h ne = record {
   later = λ r le. h.later r (omega arith);
 }
 
-push_start : (shares : List Share) (steps : List Step) (marked : List Bool) (relay : ℕ) → IsTrail shares steps → AreMarked steps marked → relay < RELAYS → is_marked marked relay ≡ false →
-    IsTrail shares (steps ++ record { relay = relay; from = None } ∷ [])
-push_start shares steps marked relay trail marks lt new =
+push_start : (enough : ℕ) (groups : List Group) (steps : List Step) (marked : List Bool) (relay : ℕ) → IsTrail enough groups steps → AreMarked steps marked → relay < RELAYS → is_marked marked relay ≡ false →
+    IsTrail enough groups (steps ++ record { relay = relay; from = None } ∷ [])
+push_start enough groups steps marked relay trail marks lt new =
     let s : Step = record { relay = relay; from = None } in
     let after : List Step = steps ++ s ∷ [] in
     record {
       small = each_push steps s (λ k. relay_at after k < RELAYS)
           (λ k h. subst (λ r. r < RELAYS) (sym (relay_before steps s k h)) (trail.small k h))
           (subst (λ r. r < RELAYS) (sym (relay_last steps s (length steps) refl)) lt);
-      links = λ k l h e. each_push steps s (λ k. (l : Link) → from_at after k ≡ Some l → IsLink shares after k l)
-          (λ k h l e. link_before steps s shares k l h (trail.links k l h (sym (from_before steps s k h) ∙ e)))
+      links = λ k l h e. each_push steps s (λ k. (l : Link) → from_at after k ≡ Some l → IsLink enough groups after k l)
+          (λ k h l e. link_before steps s enough groups k l h (trail.links k l h (sym (from_before steps s k h) ∙ e)))
           (λ l e. absurd (let o : from_at after (length steps) ≡ None = from_last steps s (length steps) refl in cc))
           k h l e;
       apart = λ j k jk h. each_push steps s (λ k. (j : ℕ) → j < k → relay_at after j ≢ relay_at after k)
@@ -344,7 +374,7 @@ starting_step loads most steps marked relay h lt here =
     let after : List Step = steps ++ s ∷ [] in
     let fits : relay < length marked = omega (arith, h.marks.wide) in
     record {
-      trail = λ shares. push_start shares steps marked relay (h.trail shares) h.marks lt (h.later relay (omega arith));
+      trail = λ enough groups. push_start enough groups steps marked relay (h.trail enough groups) h.marks lt (h.later relay (omega arith));
       marks = push_marks steps marked s h.marks lt (h.later relay (omega arith));
       starts = record {
         unlinked = each_push steps s (λ k. from_at after k ≡ None) (λ k lt. from_before steps s k lt ∙ h.starts.unlinked k lt) (from_last steps s (length steps) refl);
@@ -360,17 +390,17 @@ starting_step loads most steps marked relay h lt here =
     }
 
 -- the steps before next are done
-pub record Searching (shares : List Share) (loads : List ℕ) (most : ℕ) (steps : List Step) (marked : List Bool) (now : List Step) (marks_now : List Bool) (next : ℕ) : Type 0 where
-  pub trail : IsTrail shares now
+pub record Searching (enough : ℕ) (groups : List Group) (loads : List ℕ) (most : ℕ) (steps : List Step) (marked : List Bool) (now : List Step) (marks_now : List Bool) (next : ℕ) : Type 0 where
+  pub trail : IsTrail enough groups now
   pub marks : AreMarked now marks_now
   pub extends : Extends steps now
   pub stay : StayMarked marked marks_now
   pub within : next ≤ length now
-  pub closed : (j : ℕ) → j < next → IsClosedAt shares (length shares) (relay_at now j) marks_now
-  pub high : (j : ℕ) → j < next → most ≤ get_or loads (relay_at now j) 0 + 1
+  pub closed : (j : ℕ) → j < next → IsClosedAt enough groups (length groups) (relay_at now j) marks_now
+  pub high : (j : ℕ) → j < next → most < get_or loads (relay_at now j) 0 + 2 * enough
 
-pub searching_none : (shares : List Share) (loads : List ℕ) (most : ℕ) (steps : List Step) (marked : List Bool) → IsTrail shares steps → AreMarked steps marked → Searching shares loads most steps marked steps marked 0
-searching_none shares loads most steps marked trail marks = record {
+pub searching_none : (enough : ℕ) (groups : List Group) (loads : List ℕ) (most : ℕ) (steps : List Step) (marked : List Bool) → IsTrail enough groups steps → AreMarked steps marked → Searching enough groups loads most steps marked steps marked 0
+searching_none enough groups loads most steps marked trail marks = record {
   trail = trail;
   marks = marks;
   extends = extends_refl steps;
@@ -380,11 +410,11 @@ searching_none shares loads most steps marked trail marks = record {
   high = λ j lt. absurd (omega arith);
 }
 
-pub searching_step : (shares : List Share) (loads : List ℕ) (most : ℕ) (steps : List Step) (marked : List Bool) (now later : List Step) (marks_now marks_later : List Bool) (next : ℕ) →
-    Searching shares loads most steps marked now marks_now next → next < length now → most ≤ get_or loads (relay_at now next) 0 + 1 →
-    IsTrail shares later → AreMarked later marks_later → Extends now later → StayMarked marks_now marks_later → IsClosedAt shares (length shares) (relay_at now next) marks_later →
-    Searching shares loads most steps marked later marks_later (next + 1)
-searching_step shares loads most steps marked now later marks_now marks_later next h lt high trail marks extends stay closed =
+pub searching_step : (enough : ℕ) (groups : List Group) (loads : List ℕ) (most : ℕ) (steps : List Step) (marked : List Bool) (now later : List Step) (marks_now marks_later : List Bool) (next : ℕ) →
+    Searching enough groups loads most steps marked now marks_now next → next < length now → most < get_or loads (relay_at now next) 0 + 2 * enough →
+    IsTrail enough groups later → AreMarked later marks_later → Extends now later → StayMarked marks_now marks_later → IsClosedAt enough groups (length groups) (relay_at now next) marks_later →
+    Searching enough groups loads most steps marked later marks_later (next + 1)
+searching_step enough groups loads most steps marked now later marks_now marks_later next h lt high trail marks extends stay closed =
     let same : (j : ℕ) → j < length now → relay_at later j ≡ relay_at now j = λ j below. relay_kept now later j extends below in
     record {
       trail = trail;
@@ -392,26 +422,40 @@ searching_step shares loads most steps marked now later marks_now marks_later ne
       extends = extends_more steps now later h.extends extends;
       stay = λ r m. stay r (h.stay r m);
       within = omega (arith, extends.longer);
-      closed = λ j below. subst (λ r. IsClosedAt shares (length shares) r marks_later) (sym (same j (omega (arith, h.within))))
+      closed = λ j below. subst (λ r. IsClosedAt enough groups (length groups) r marks_later) (sym (same j (omega (arith, h.within))))
           (elim (cases_eq j next) [
-            | inl e ↦ subst (λ j. IsClosedAt shares (length shares) (relay_at now j) marks_later) (sym e) closed
+            | inl e ↦ subst (λ j. IsClosedAt enough groups (length groups) (relay_at now j) marks_later) (sym e) closed
             | inr ne ↦ λ k r kk g among. stay r (h.closed j (omega arith) k r kk g among)
           ]);
-      high = λ j below. subst (λ r. most ≤ get_or loads r 0 + 1) (sym (same j (omega (arith, h.within))))
+      high = λ j below. subst (λ r. most < get_or loads r 0 + 2 * enough) (sym (same j (omega (arith, h.within))))
           (elim (cases_eq j next) [
-            | inl e ↦ subst (λ j. most ≤ get_or loads (relay_at now j) 0 + 1) (sym e) high
+            | inl e ↦ subst (λ j. most < get_or loads (relay_at now j) 0 + 2 * enough) (sym e) high
             | inr ne ↦ h.high j (omega arith)
           ]);
     }
 
-pub searched_closed : (shares : List Share) (loads : List ℕ) (most : ℕ) (steps : List Step) (marked : List Bool) (now : List Step) (marks_now : List Bool) (next : ℕ) →
-    Searching shares loads most steps marked now marks_now next → length now ≤ next → IsClosed shares marks_now
-searched_closed shares loads most steps marked now marks_now next h done k r kk m among =
-    let w = h.marks.found (given shares k) m in
-    h.closed w.0 (omega (arith, w.1)) k r kk (sym w.2) among
+pub searched_closed : (enough : ℕ) (groups : List Group) (loads : List ℕ) (most : ℕ) (steps : List Step) (marked : List Bool) (now : List Step) (marks_now : List Bool) (next : ℕ) →
+    Searching enough groups loads most steps marked now marks_now next → length now ≤ next → PassesOn enough groups (is_marked marks_now)
+searched_closed enough groups loads most steps marked now marks_now next h done k s r kk m some among =
+    let w = h.marks.found s m in
+    h.closed w.0 (omega (arith, w.1)) k r kk (subst (λ s. enough ≤ amount groups k s) (sym w.2) some) among
 
-pub searched_high : (shares : List Share) (loads : List ℕ) (most : ℕ) (steps : List Step) (marked : List Bool) (now : List Step) (marks_now : List Bool) (next : ℕ) →
-    Searching shares loads most steps marked now marks_now next → length now ≤ next → (r : ℕ) → is_marked marks_now r ≡ true → most ≤ get_or loads r 0 + 1
-searched_high shares loads most steps marked now marks_now next h done r m =
+pub searched_high : (enough : ℕ) (groups : List Group) (loads : List ℕ) (most : ℕ) (steps : List Step) (marked : List Bool) (now : List Step) (marks_now : List Bool) (next : ℕ) →
+    Searching enough groups loads most steps marked now marks_now next → length now ≤ next → (r : ℕ) → is_marked marks_now r ≡ true → most < get_or loads r 0 + 2 * enough
+searched_high enough groups loads most steps marked now marks_now next h done r m =
     let w = h.marks.found r m in
-    subst (λ r. most ≤ get_or loads r 0 + 1) w.2 (h.high w.0 (omega (arith, w.1)))
+    subst (λ r. most < get_or loads r 0 + 2 * enough) w.2 (h.high w.0 (omega (arith, w.1)))
+
+-- where each relay is on the trail, all are marked
+pub all_marked : (steps : List Step) (marked : List Bool) → AreMarked steps marked → RELAYS ≤ length steps → (r : ℕ) → r < RELAYS → is_marked marked r ≡ true
+unfolding is_marked
+all_marked steps marked h all r lt =
+    let one : cond (not (get_or marked r false)) 1 0 ≤ count_by not marked = get_or-le-sum_by (λ b. cond (not b) 1 0) marked r false (omega (arith, h.wide)) in
+    elim (cases_Bool (get_or marked r false)) [
+      | inl t ↦ t
+      | inr f ↦ absurd (omega (arith, one, h.counted, ap {B = ℕ} (λ b. cond (not b) 1 0) f))
+    ]
+
+pub all_closed : (enough : ℕ) (groups : List Group) (n relay : ℕ) (steps : List Step) (marked : List Bool) → AreGroups groups → n ≤ length groups → AreMarked steps marked → RELAYS ≤ length steps → IsClosedAt enough groups n relay marked
+all_closed enough groups n relay steps marked ok le h all k r lt some among =
+    all_marked steps marked h all r (among_each (λ r. r < RELAYS) (shared_by groups k) r (ok.relays k (omega arith)).small among)

@@ -1,57 +1,61 @@
-//! Chains of single moves: from a busiest relay, along ids that the next relay offers too, to one with at
-//! least two fewer.
+//! Chains of moves: from a busiest relay, along groups that the next relay offers too, to one with so many
+//! fewer that moving as many ids along the whole chain evens the two out. At first many ids move at once,
+//! then half as many, and at last single ones.
 
-ghost use Rattle.std.specs.Prelude.{◌≡◌, ◌≤◌, ◌<◌, ◌+◌, ◌==◌, true, ℕ, List, [], length, OnOk, IfOk, IfSome, IfNone, slice_index, false, None, slice_index_or, cond};
+ghost use Rattle.std.specs.Prelude.{◌≡◌, ◌≢◌, ◌≤◌, ◌<◌, ◌+◌, ◌*◌, ◌^◌, ◌==◌, true, ℕ, List, length, OnOk, IfOk, IfSome, IfNone, slice_index, false, None, cond};
+ghost use Rattle.std.specs.List.{sum, All};
+ghost use Rattle.sharing.specs.declared.TheConstants.{MOST_IDS};
 ghost use Rattle.sharing.specs.Sharing.{is_among};
-ghost use Rattle.fetch_plan.specs.declared.chains.Share.{Share};
-ghost use Rattle.fetch_plan.specs.Trail.{given, offered, relay_at, is_marked, IsTrail, AreMarked, Extends, StayMarked, IsClosedAt, IsClosed, AreStarts, from_at, AreOffered, offers_of, IsMoved, AreLoads, squares, IsSettled};
+ghost use Rattle.fetch_plan.specs.declared.groups.Group.{Group};
+ghost use Rattle.fetch_plan.specs.Shares.{is_marked};
+ghost use Rattle.fetch_plan.specs.Groups.{amount, shared_by, total, AreGroups, AreCounts, AreLarge, AreGiven, AreSame, AreLoadsOf, IsMoved};
+ghost use Rattle.fetch_plan.specs.Trail.{relay_at, IsTrail, AreMarked, Extends, StayMarked, IsClosedAt, PassesOn, AreStarts, from_at, squares, AreSettled};
 
-use neg_codec::Id;
-use offer_table::RelaySet;
+use crate::groups::Group;
 use sharing::{RELAYS, SLOTS};
 use std::alloc::{AllocError, Global};
 
-/// An id, the relays that offer it, and the one of them that it is given to.
-#[derive(Clone, Copy)]
-pub(crate) struct Share {
-    pub id: Id,
-    pub relays: RelaySet,
-    pub relay: u16,
+/// How many ids move at once, and the places of the groups that have as many.
+#[derive(Drop)]
+struct Level {
+    some: u64,
+    places: Vec<usize>,
 }
 
-/// How a step was found: from an earlier step, by the share at a place.
+/// How a step was found: from an earlier step, by the group at a place.
 #[derive(Clone, Copy)]
 struct Link {
     parent: usize,
     place: usize,
 }
 
-/// A relay that chains of single moves reach.
+/// A relay that chains of moves reach.
 #[derive(Clone, Copy)]
 struct Step {
     relay: u16,
     from: Option<Link>,
 }
 
-/// Adds the relays of one share that are not on the trail yet.
+/// Adds the relays of one group that are not on the trail yet.
 fn add_steps(
-    shares: &[Share],
+    enough: u64,
+    groups: &[Group],
     link: Link,
     steps: &mut Vec<Step>,
     marked: &mut [bool; SLOTS],
 ) -> Result<(), AllocError>
-    requires placed { link.place < length shares.now }
+    requires placed { link.place < length groups.now }
     requires parent { link.parent < length steps.old.items }
-    requires giver { given shares.now link.place ≡ relay_at steps.old.items link.parent }
-    requires trail { IsTrail shares.now steps.old.items }
+    requires giver { enough ≤ amount groups.now link.place (relay_at steps.old.items link.parent) }
+    requires trail { IsTrail enough groups.now steps.old.items }
     requires marks { AreMarked steps.old.items marked.old }
-    ensures trail { OnOk result (IsTrail shares.now steps.new.items) }
+    ensures trail { OnOk result (IsTrail enough groups.now steps.new.items) }
     ensures marks { OnOk result (AreMarked steps.new.items marked.new) }
     ensures extends { OnOk result (Extends steps.old.items steps.new.items) }
     ensures stay { OnOk result (StayMarked marked.old marked.new) }
-    ensures reached { OnOk result ((r : ℕ) → is_among (offered shares.now link.place) r ≡ true → is_marked marked.new r ≡ true) }
+    ensures reached { OnOk result ((r : ℕ) → is_among (shared_by groups.now link.place) r ≡ true → is_marked marked.new r ≡ true) }
 {
-    let relays = shares[link.place].relays;
+    let relays = groups[link.place].relays;
     for relay in 0..RELAYS {
         let slot = usize::from(relay);
         if relays.has(relay) && !marked[slot] {
@@ -65,30 +69,33 @@ fn add_steps(
     Ok(())
 }
 
-/// Adds all relays that offer a share which is given to the relay of the step at `next`.
+/// Adds all relays that offer a group of which enough ids are given to the relay of the step at `next`.
 fn add_from(
-    shares: &[Share],
+    level: &Level,
+    groups: &[Group],
     next: usize,
     steps: &mut Vec<Step>,
     marked: &mut [bool; SLOTS],
 ) -> Result<(), AllocError>
+    requires groups { AreGroups groups.now }
+    requires large { AreLarge level.now.some groups.now level.now.places.items }
     requires next { next < length steps.old.items }
-    requires trail { IsTrail shares.now steps.old.items }
+    requires trail { IsTrail level.now.some groups.now steps.old.items }
     requires marks { AreMarked steps.old.items marked.old }
-    ensures trail { OnOk result (IsTrail shares.now steps.new.items) }
+    ensures trail { OnOk result (IsTrail level.now.some groups.now steps.new.items) }
     ensures marks { OnOk result (AreMarked steps.new.items marked.new) }
     ensures extends { OnOk result (Extends steps.old.items steps.new.items) }
     ensures stay { OnOk result (StayMarked marked.old marked.new) }
-    ensures closed { OnOk result (IsClosedAt shares.now (length shares.now) (relay_at steps.old.items next) marked.new) }
+    ensures closed { OnOk result (IsClosedAt level.now.some groups.now (length groups.now) (relay_at steps.old.items next) marked.new) }
 {
-    let relay = steps[next].relay;
-    for (place, share) in shares.iter().enumerate() {
-        if share.relay == relay {
+    let slot = usize::from(steps[next].relay);
+    for place in &level.places {
+        if groups[*place].given[slot] >= level.some {
             let link = Link {
                 parent: next,
-                place,
+                place: *place,
             };
-            add_steps(shares, link, steps, marked)?;
+            add_steps(level.some, groups, link, steps, marked)?;
         }
     }
     Ok(())
@@ -102,7 +109,7 @@ fn first_steps(
     marked: &mut [bool; SLOTS],
 ) -> Result<Vec<Step>, AllocError>
     requires { (r : ℕ) → is_marked marked.old r ≡ false }
-    ensures trail { IfOk result (λ steps. (shares : List Share) → IsTrail shares steps.items) }
+    ensures trail { IfOk result (λ steps. (enough : ℕ) (groups : List Group) → IsTrail enough groups steps.items) }
     ensures marks { IfOk result (λ steps. AreMarked steps.items marked.new) }
     ensures starts { IfOk result (λ steps. AreStarts loads.now most steps.items) }
     ensures all { OnOk result ((r : ℕ) → r < RELAYS → slice_index loads.now r ≡ most → is_marked marked.new r ≡ true) }
@@ -118,50 +125,94 @@ fn first_steps(
     Ok(steps)
 }
 
-/// The first step whose relay has at least two fewer than the busiest ones, or none once the steps lead nowhere else.
+/// The first step whose relay has fewer than the busiest ones by at least twice what moves.
+fn low_step(some: u64, loads: &[u64; SLOTS], most: u64, steps: &[Step]) -> Option<usize>
+    requires small { All (λ s. s.relay < RELAYS) steps.now }
+    requires bound { (r : ℕ) → r < RELAYS → slice_index loads.now r ≤ most }
+    ensures within { IfSome result (λ k. k < length steps.now) }
+    ensures low { IfSome result (λ k. slice_index loads.now (relay_at steps.now k) + 2 * some ≤ most) }
+    ensures high { IfNone result ((k : ℕ) → k < length steps.now → most < slice_index loads.now (relay_at steps.now k) + 2 * some) }
+{
+    for (place, step) in steps.iter().enumerate() {
+        if (most - loads[usize::from(step.relay)]) / 2 >= some {
+            return Some(place);
+        }
+    }
+    None
+}
+
+/// A step whose relay has fewer than the busiest ones by at least twice what moves, or none once the steps lead
+/// nowhere else.
 fn search(
-    shares: &[Share],
+    level: &Level,
+    groups: &[Group],
     loads: &[u64; SLOTS],
     most: u64,
     steps: &mut Vec<Step>,
     marked: &mut [bool; SLOTS],
 ) -> Result<Option<usize>, AllocError>
-    requires some { 0 < most }
-    requires trail { IsTrail shares.now steps.old.items }
+    requires groups { AreGroups groups.now }
+    requires large { AreLarge level.now.some groups.now level.now.places.items }
+    requires bound { (r : ℕ) → r < RELAYS → slice_index loads.now r ≤ most }
+    requires trail { IsTrail level.now.some groups.now steps.old.items }
     requires marks { AreMarked steps.old.items marked.old }
-    ensures trail { OnOk result (IsTrail shares.now steps.new.items) }
+    ensures trail { OnOk result (IsTrail level.now.some groups.now steps.new.items) }
     ensures marks { OnOk result (AreMarked steps.new.items marked.new) }
     ensures extends { OnOk result (Extends steps.old.items steps.new.items) }
     ensures stay { OnOk result (StayMarked marked.old marked.new) }
     ensures end { IfOk result (λ found. IfSome found (λ k. k < length steps.new.items)) }
-    ensures low { IfOk result (λ found. IfSome found (λ k. slice_index loads.now (relay_at steps.new.items k) + 2 ≤ most)) }
-    ensures closed { IfOk result (λ found. IfNone found (IsClosed shares.now marked.new)) }
-    ensures high { IfOk result (λ found. IfNone found ((r : ℕ) → is_marked marked.new r ≡ true → most ≤ slice_index loads.now r + 1)) }
+    ensures low { IfOk result (λ found. IfSome found (λ k. slice_index loads.now (relay_at steps.new.items k) + 2 * level.now.some ≤ most)) }
+    ensures closed { IfOk result (λ found. IfNone found (PassesOn level.now.some groups.now (is_marked marked.new))) }
+    ensures high { IfOk result (λ found. IfNone found ((r : ℕ) → is_marked marked.new r ≡ true → most < slice_index loads.now r + 2 * level.now.some)) }
 {
     let mut next = 0;
     while next < steps.len() {
-        let relay = steps[next].relay;
-        if loads[usize::from(relay)] < most - 1 {
-            return Ok(Some(next));
+        if let Some(end) = low_step(level.some, loads, most, steps) {
+            return Ok(Some(end));
         }
-        add_from(shares, next, steps, marked)?;
+        if steps.len() < SLOTS {
+            add_from(level, groups, next, steps, marked)?;
+        }
         next += 1;
     }
     Ok(None)
 }
 
-/// Moves one share along each link, from the step at `end` back to a step without a link, and answers that step's relay.
-fn walk(shares: &mut [Share], steps: &[Step], end: usize) -> u16
+/// Some fewer for a relay, and as many more for another.
+fn shift(counts: &mut [u64; SLOTS], from: u16, to: u16, some: u64)
+    requires from { from < RELAYS }
+    requires to { to < RELAYS }
+    requires apart { from ≢ to }
+    requires enough { some ≤ slice_index counts.old from }
+    requires room { slice_index counts.old to + some < 2 ^ 64 }
+    ensures moved { (r : ℕ) → slice_index counts.new r + cond (from == r) some 0 ≡ slice_index counts.old r + cond (to == r) some 0 }
+    ensures total { sum counts.new ≡ sum counts.old }
+    ensures smaller { 0 < some → slice_index counts.old to + 2 * some ≤ slice_index counts.old from → squares counts.new < squares counts.old }
+{
+    counts[usize::from(from)] -= some;
+    counts[usize::from(to)] += some;
+}
+
+/// Moves so many ids along each link, from the step at `end` back to a step without a link, and answers that
+/// step's relay.
+fn walk(some: u64, groups: &mut [Group], steps: &[Step], end: usize) -> u16
     requires end { end < length steps.now }
-    requires trail { IsTrail shares.old steps.now }
+    requires trail { IsTrail some groups.old steps.now }
+    requires given { AreGiven groups.old }
     ensures start { (k : ℕ) × (k < length steps.now) × (from_at steps.now k ≡ None) × (relay_at steps.now k ≡ result) }
-    ensures moved { IsMoved shares.old shares.new result (relay_at steps.now end) }
-    ensures offers { offers_of shares.new ≡ offers_of shares.old }
-    ensures offered { AreOffered shares.old → AreOffered shares.new }
+    ensures moved { IsMoved groups.old groups.new result (relay_at steps.now end) some }
+    ensures same { AreSame groups.old groups.new }
+    ensures given { AreGiven groups.new }
 {
     let mut at = end;
     while let Some(link) = steps[at].from {
-        shares[link.place].relay = steps[at].relay;
+        let group = &mut groups[link.place];
+        shift(
+            &mut group.given,
+            steps[link.parent].relay,
+            steps[at].relay,
+            some,
+        );
         at = link.parent;
     }
     steps[at].relay
@@ -181,66 +232,134 @@ pub(crate) fn greatest(loads: &[u64; SLOTS]) -> u64
     most
 }
 
-/// One fewer for a relay, and one more for another that has at least two fewer.
-fn shift_load(loads: &mut [u64; SLOTS], from: u16, to: u16)
-    requires from { from < RELAYS }
-    requires to { to < RELAYS }
-    requires gap { slice_index loads.old to + 2 ≤ slice_index loads.old from }
-    ensures moved { (r : ℕ) → slice_index loads.new r + cond (from == r) 1 0 ≡ slice_index loads.old r + cond (to == r) 1 0 }
-    ensures smaller { squares loads.new < squares loads.old }
-{
-    loads[usize::from(from)] -= 1;
-    loads[usize::from(to)] += 1;
-}
-
-/// Moves shares along one chain from a busiest relay to one with at least two fewer. Where there is none, it marks the relays that chains reach, and answers true.
+/// Moves so many ids along one chain from a busiest relay to one with fewer by at least twice as many. Where
+/// there is none, it marks the relays that chains reach, and answers true.
 fn settle_once(
     alloc: Global,
-    shares: &mut [Share],
+    level: &Level,
+    groups: &mut [Group],
     loads: &mut [u64; SLOTS],
     marked: &mut [bool; SLOTS],
 ) -> Result<bool, AllocError>
-    requires loads { AreLoads shares.old loads.old }
-    requires offered { AreOffered shares.old }
+    requires some { 0 < level.now.some }
+    requires loads { AreLoadsOf groups.old loads.old }
+    requires given { AreGiven groups.old }
+    requires large { AreLarge level.now.some groups.old level.now.places.items }
     requires unmarked { (r : ℕ) → is_marked marked.old r ≡ false }
-    requires some { 0 < length shares.old }
-    ensures loads { OnOk result (AreLoads shares.new loads.new) }
-    ensures offered { OnOk result (AreOffered shares.new) }
-    ensures offers { OnOk result (offers_of shares.new ≡ offers_of shares.old) }
+    ensures loads { OnOk result (AreLoadsOf groups.new loads.new) }
+    ensures given { OnOk result (AreGiven groups.new) }
+    ensures same { OnOk result (AreSame groups.old groups.new) }
     ensures smaller { IfOk result (λ done. done ≡ false → squares loads.new < squares loads.old) }
-    ensures settled { IfOk result (λ done. done ≡ true → (most : ℕ) × (0 < most) × IsSettled shares.new most marked.new) }
+    ensures settled { IfOk result (λ done. done ≡ true → (most : ℕ) × AreSettled level.now.some groups.new most marked.new) }
 {
     let most = greatest(loads);
     let mut steps = first_steps(alloc, loads, most, marked)?;
-    match search(shares, loads, most, &mut steps, marked)? {
+    match search(level, groups, loads, most, &mut steps, marked)? {
         None => Ok(true),
         Some(end) => {
             let to = steps[end].relay;
-            let from = walk(shares, &steps, end);
-            shift_load(loads, from, to);
+            let from = walk(level.some, groups, &steps, end);
+            shift(loads, from, to, level.some);
             Ok(false)
         }
     }
 }
 
-/// Moves shares along chains until none leads from a busiest relay to one with at least two fewer. It answers which relays chains reach then.
-pub(crate) fn settle(
+/// Moves so many ids at once along chains until none leads from a busiest relay to one with fewer by at least
+/// twice as many. It answers which relays chains reach then.
+fn settle_by(
     alloc: Global,
-    shares: &mut [Share],
+    level: &Level,
+    groups: &mut [Group],
     loads: &mut [u64; SLOTS],
 ) -> Result<[bool; SLOTS], AllocError>
-    requires loads { AreLoads shares.old loads.old }
-    requires offered { AreOffered shares.old }
-    requires some { 0 < length shares.old }
-    ensures loads { OnOk result (AreLoads shares.new loads.new) }
-    ensures offered { OnOk result (AreOffered shares.new) }
-    ensures offers { OnOk result (offers_of shares.new ≡ offers_of shares.old) }
-    ensures settled { IfOk result (λ marked. (most : ℕ) × (0 < most) × IsSettled shares.new most marked) }
+    requires some { 0 < level.now.some }
+    requires loads { AreLoadsOf groups.old loads.old }
+    requires given { AreGiven groups.old }
+    requires large { AreLarge level.now.some groups.old level.now.places.items }
+    ensures loads { OnOk result (AreLoadsOf groups.new loads.new) }
+    ensures given { OnOk result (AreGiven groups.new) }
+    ensures same { OnOk result (AreSame groups.old groups.new) }
+    ensures settled { IfOk result (λ marked. (most : ℕ) × AreSettled level.now.some groups.new most marked) }
 {
     'chains: loop {
         let mut marked = [false; SLOTS];
-        if settle_once(alloc, shares, loads, &mut marked)? {
+        if settle_once(alloc, level, groups, loads, &mut marked)? {
             return Ok(marked);
         }
     }
+}
+
+/// The number of a group's ids.
+fn count_of(group: &Group) -> u64
+    requires { sum group.now.given ≤ MOST_IDS }
+    ensures { result ≡ sum group.now.given }
+{
+    let mut count = 0;
+    for given in &group.given {
+        count += *given;
+    }
+    count
+}
+
+/// The number of each group's ids.
+fn counts_of(alloc: Global, groups: &[Group]) -> Result<Vec<u64>, AllocError>
+    requires { (k : ℕ) → k < length groups.now → total groups.now k ≤ MOST_IDS }
+    ensures { IfOk result (λ counts. AreCounts groups.now counts.items) }
+{
+    let mut counts = Vec::new(alloc);
+    for group in groups {
+        counts.push(count_of(group))?;
+    }
+    Ok(counts)
+}
+
+/// Where so many ids move at once.
+fn level_of(alloc: Global, counts: &[u64], some: u64) -> Result<Level, AllocError>
+    ensures some { IfOk result (λ level. level.some ≡ some) }
+    ensures large { IfOk result (λ level. (groups : List Group) → AreCounts groups counts.now → AreLarge some groups level.places.items) }
+{
+    let mut places = Vec::new(alloc);
+    for (place, count) in counts.iter().enumerate() {
+        if *count >= some {
+            places.push(place)?;
+        }
+    }
+    Ok(Level { some, places })
+}
+
+/// The greatest number.
+fn most_of(counts: &[u64]) -> u64
+    ensures { (k : ℕ) → k < length counts.now → slice_index counts.now k ≤ result }
+{
+    let mut most = 0;
+    for count in counts {
+        if *count > most {
+            most = *count;
+        }
+    }
+    most
+}
+
+/// Moves ids along chains, many at once and then fewer, until no single id can move along a chain from a
+/// busiest relay to one with at least two fewer. It answers which relays chains reach then.
+pub(crate) fn settle(
+    alloc: Global,
+    groups: &mut [Group],
+    loads: &mut [u64; SLOTS],
+) -> Result<[bool; SLOTS], AllocError>
+    requires loads { AreLoadsOf groups.old loads.old }
+    requires given { AreGiven groups.old }
+    ensures loads { OnOk result (AreLoadsOf groups.new loads.new) }
+    ensures given { OnOk result (AreGiven groups.new) }
+    ensures same { OnOk result (AreSame groups.old groups.new) }
+    ensures settled { IfOk result (λ marked. (most : ℕ) × AreSettled 1 groups.new most marked) }
+{
+    let counts = counts_of(alloc, groups)?;
+    let mut some = most_of(&counts);
+    while some > 1 {
+        settle_by(alloc, &level_of(alloc, &counts, some)?, groups, loads)?;
+        some /= 2;
+    }
+    settle_by(alloc, &level_of(alloc, &counts, 1)?, groups, loads)
 }

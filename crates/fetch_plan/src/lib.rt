@@ -1,23 +1,29 @@
 //! Sharing the offered ids out among the relays, so that the busiest relay has as few as possible.
 #![tactic(auto)]
 
-ghost use Rattle.std.specs.Prelude.{◌≡◌, ℕ, IfOk};
+ghost use Rattle.std.specs.Prelude.{◌≡◌, ◌<◌, ◌≤◌, ℕ, length, slice_index, IfOk};
+ghost use Rattle.std.specs.List.{All};
+ghost use Rattle.sharing.specs.declared.TheConstants.{MOST_IDS};
 ghost use Rattle.sharing.specs.Sharing.{is_among, NoneSmaller};
 ghost use Rattle.sharing.specs.Offers.{AreRelays};
-ghost use Rattle.fetch_plan.specs.Trail.{is_marked};
+ghost use Rattle.offer_table.specs.Table.{IsTable};
+ghost use Rattle.fetch_plan.specs.Shares.{is_marked, offers_of, AreOffered, AreLoads, IsSettled};
+ghost use Rattle.fetch_plan.specs.Groups.{AreGroups, AreEmpty, offers_for};
 ghost use Rattle.fetch_plan.specs.Plan.{IsPlanOf};
 
 mod cell;
 mod chains;
+mod groups;
+mod hand_out;
 mod outcome;
-mod start;
 
 pub use cell::Cell;
 use chains::{greatest, settle};
+use groups::{Group, Seat, give_all, seat_all};
+use hand_out::{Share, hand_out};
 use offer_table::{OfferTable, RelaySet};
 pub use outcome::Plan;
 use sharing::{RELAYS, SLOTS};
-use start::share_out;
 use std::alloc::{AllocError, Global};
 
 /// The relays that are marked.
@@ -34,14 +40,56 @@ fn set_of(marked: &[bool; SLOTS]) -> RelaySet
     relays
 }
 
-/// Shares the ids out, so that the busiest relay has as few as possible, by chains of single moves from a
-/// busiest relay to one with at least two fewer. The group is the set of the relays that such chains reach.
+/// Shares the seated ids out. It answers to which relays, and which ones chains of moves reach.
+fn share_seats(
+    alloc: Global,
+    seats: &[Seat],
+    groups: &mut [Group],
+    loads: &mut [u64; SLOTS],
+) -> Result<(Vec<Share>, [bool; SLOTS]), AllocError>
+    requires groups { AreGroups groups.old }
+    requires empty { AreEmpty groups.old }
+    requires placed { All (λ s. s.group < length groups.old) seats.now }
+    requires few { length seats.now ≤ MOST_IDS }
+    requires loads { (r : ℕ) → slice_index loads.old r ≡ 0 }
+    ensures offers { IfOk result (λ out. offers_of out.0.items ≡ offers_for groups.old seats.now) }
+    ensures offered { IfOk result (λ out. AreOffered out.0.items) }
+    ensures loads { IfOk result (λ out. AreLoads out.0.items loads.new) }
+    ensures settled { IfOk result (λ out. (most : ℕ) × IsSettled out.0.items most out.1) }
+{
+    give_all(seats, groups, loads);
+    let marked = settle(alloc, groups, loads)?;
+    let shares = hand_out(alloc, seats, groups)?;
+    Ok((shares, marked))
+}
+
+/// Shares the ids out. It answers to which relays, and which ones chains of moves reach.
+fn share_out(
+    alloc: Global,
+    table: &OfferTable,
+    loads: &mut [u64; SLOTS],
+) -> Result<(Vec<Share>, [bool; SLOTS]), AllocError>
+    requires { (r : ℕ) → slice_index loads.old r ≡ 0 }
+    ensures offers { IfOk result (λ out. offers_of out.0.items ≡ table.now.offers) }
+    ensures offered { IfOk result (λ out. AreOffered out.0.items) }
+    ensures loads { IfOk result (λ out. AreLoads out.0.items loads.new) }
+    ensures settled { IfOk result (λ out. (most : ℕ) × IsSettled out.0.items most out.1) }
+    ensures table { IsTable table.now }
+{
+    let mut groups = Vec::new(alloc);
+    let seats = seat_all(alloc, table, &mut groups)?;
+    share_seats(alloc, &seats, &mut groups, loads)
+}
+
+/// Shares the ids out, so that the busiest relay has as few as possible, by chains of moves from a busiest
+/// relay to one with at least two fewer. Ids that the same relays offer move many at once. The group that it
+/// answers is the set of the relays that chains of single moves reach.
 pub fn plan(alloc: Global, table: &OfferTable) -> Result<Plan, AllocError>
     ensures planned { IfOk result (IsPlanOf table.now.offers) }
     ensures least { IfOk result (λ plan. NoneSmaller table.now.offers plan.least_max) }
 {
     let mut loads = [0; SLOTS];
-    let mut shares = share_out(alloc, table, &mut loads)?;
+    let (shares, marked) = share_out(alloc, table, &mut loads)?;
     if shares.is_empty() {
         return Ok(Plan {
             shares,
@@ -50,7 +98,6 @@ pub fn plan(alloc: Global, table: &OfferTable) -> Result<Plan, AllocError>
             group: RelaySet::empty(),
         });
     }
-    let marked = settle(alloc, &mut shares, &mut loads)?;
     let least_max = greatest(&loads);
     let group = set_of(&marked);
     Ok(Plan {

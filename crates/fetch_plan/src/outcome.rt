@@ -5,7 +5,7 @@ ghost use Rattle.std.specs.List.{slice_get};
 ghost use Rattle.sharing.specs.Offers.{beside};
 ghost use Rattle.fetch_plan.specs.Plan.{IsPlan, given_load};
 
-use crate::chains::Share;
+use crate::hand_out::Share;
 use neg_codec::Id;
 use offer_table::RelaySet;
 use sharing::{RELAYS, SLOTS};
@@ -25,7 +25,7 @@ pub struct Plan {
 impl Model for Plan {
     ghost use Rattle.std.specs.Prelude.{map};
     ghost use Rattle.fetch_plan.specs.Plan.{Planned, IsPlan};
-    ghost use Rattle.fetch_plan.specs.Trail.{gives_of, AreLoads};
+    ghost use Rattle.fetch_plan.specs.Shares.{gives_of, AreLoads};
 
     ghost Value = { Planned };
 

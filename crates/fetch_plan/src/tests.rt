@@ -1,4 +1,4 @@
-//! Plans of a few offers, and how long plans of many take.
+//! Plans of a few offers, and of some thousands in several shapes.
 
 use crate::plan;
 use neg_codec::Id;
@@ -88,6 +88,30 @@ fn one_id_goes_to_one_of_three(rt: HostRuntime) -> Result<(), Fail> {
     Ok(())
 }
 
+/// The ids with these numbers.
+fn numbered(alloc: Global, from: u32, to: u32) -> Result<BTreeSet<Id>, AllocError> {
+    let mut ids = BTreeSet::new(alloc);
+    for number in from..to {
+        ids.insert(spread(number))?;
+    }
+    Ok(ids)
+}
+
+// 1,000 ids on relays 0 and 1, 500 on 1 and 2, 300 on 2 alone: 1,800 are more than 3 * 599.
+#[test]
+fn three_large_groups(rt: HostRuntime) -> Result<(), Fail> {
+    let first = table_of(rt.alloc(), 0, &numbered(rt.alloc(), 0, 1_000)?)?;
+    let second = table_of(rt.alloc(), 1, &numbered(rt.alloc(), 0, 1_500)?)?;
+    let third = table_of(rt.alloc(), 2, &numbered(rt.alloc(), 1_000, 1_800)?)?;
+    let made = plan(rt.alloc(), &merged(merged(first, second)?, third)?)?;
+    assert_eq!(rt; (made.len(), made.least_max()), (1_800, 600));
+    assert_eq!(rt; [made.load(0), made.load(1), made.load(2)], [600, 600, 600]);
+    for relay in 0u16..4 {
+        assert_eq!(rt; made.group().has(relay), relay < 3, "relay {relay}");
+    }
+    Ok(())
+}
+
 #[test]
 fn a_plan_tells_its_gives(rt: HostRuntime) -> Result<(), Fail> {
     let made = plan(
@@ -157,30 +181,30 @@ fn report(alloc: Global, shape: u8, count: u32, relay: u16) -> Result<BTreeSet<I
 }
 
 fn shares_evenly(rt: &(impl AllocGlobal + Abort), shape: u8, least: u64) -> Result<(), Fail> {
-    let table = large_table(rt.alloc(), shape, 200_000)?;
+    let table = large_table(rt.alloc(), shape, 2_048)?;
     let made = plan(rt.alloc(), &table)?;
-    assert_eq!(rt; made.len(), 200_000, "shape {shape}");
+    assert_eq!(rt; made.len(), 2_048, "shape {shape}");
     assert!(rt; made.least_max() >= least, "shape {shape}");
     Ok(())
 }
 
-// 200,000 ids over 64 relays are 3,125 for each, and over 8 relays 25,000.
+// 2,048 ids over 64 relays are 32 for each, and over 8 relays 256.
 #[test]
 fn many_random_ids(rt: HostRuntime) -> Result<(), Fail> {
-    shares_evenly(&rt, 0, 3_125)
+    shares_evenly(&rt, 0, 32)
 }
 
 #[test]
 fn many_ids_on_few_relays(rt: HostRuntime) -> Result<(), Fail> {
-    shares_evenly(&rt, 1, 25_000)
+    shares_evenly(&rt, 1, 256)
 }
 
 #[test]
 fn many_ids_on_one_relay_each(rt: HostRuntime) -> Result<(), Fail> {
-    shares_evenly(&rt, 2, 3_125)
+    shares_evenly(&rt, 2, 32)
 }
 
 #[test]
 fn many_skewed_ids(rt: HostRuntime) -> Result<(), Fail> {
-    shares_evenly(&rt, 3, 3_125)
+    shares_evenly(&rt, 3, 32)
 }

@@ -4,6 +4,7 @@ ghost use Rattle.std.specs.Prelude.{◌≡◌, ◌<◌, ◌==◌, ◌||◌, ◌&
 ghost use Rattle.std.specs.List.{list_any};
 ghost use Rattle.sharing.specs.Sharing.{is_among};
 ghost use Rattle.sharing.specs.Offers.{AreRelays};
+ghost use Rattle.offer_table.specs.Relays.{members, bits_of};
 
 use sharing::RELAYS;
 use std::marker::Model;
@@ -80,6 +81,14 @@ impl RelaySet {
         } else {
             self
         }
+    }
+
+    /// The number in which relay r counts 2^r.
+    pub fn number(self) -> u64
+        ensures value { result ≡ bits_of self }
+        ensures members { members result ≡ self }
+    {
+        self.bits
     }
 
     /// Whether the set has no member.

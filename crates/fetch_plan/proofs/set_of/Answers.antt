@@ -1,9 +1,9 @@
-use Rattle.std.proofs.Common.{◌≡◌, ◌<◌, ◌≤◌, ◌+◌, ◌==◌, ◌||◌, ℕ, List, [], Bool, true, false, sym, ◌∙◌, ap, inl, inr, arith, get_or, refl, length}
+use Rattle.std.proofs.Common.{◌≡◌, ◌<◌, ◌≤◌, ◌==◌, ◌||◌, ℕ, List, [], Bool, false, sym, ◌∙◌, ap, inl, inr, arith, get_or, refl, length}
 use Rattle.sharing.specs.declared.TheConstants.{RELAYS}
 use Rattle.std.proofs.lemmas.Bool.{cases_eq, cases_lt, eq-eqb, ne_eqb, or_left, or_from}
 use Rattle.std.proofs.lemmas.List.{get_or_past}
 use Rattle.sharing.specs.Sharing.{is_among}
-use Rattle.fetch_plan.specs.Trail.{is_marked}
+use Rattle.fetch_plan.specs.Shares.{is_marked}
 use Rattle.std.specs.Ordering.{nat_cmp}
 use Rattle.std.specs.List.Sorted.{IsStrictlySortedBy}
 use Rattle.std.proofs.lemmas.List.Elements.{All-nil}

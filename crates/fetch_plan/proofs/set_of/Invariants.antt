@@ -1,7 +1,7 @@
 use Rattle.std.proofs.Common.{◌≡◌, ◌<◌, ◌≤◌, ℕ, false}
 use Rattle.sharing.specs.Sharing.{is_among}
 use Rattle.sharing.specs.Offers.{AreRelays}
-use Rattle.fetch_plan.specs.Trail.{is_marked}
+use Rattle.fetch_plan.specs.Shares.{is_marked}
 use Rattle.fetch_plan.proofs.set_of.Given as goal
 
 abbrev pub invariant-loop-relay : goal.invariant-loop-relay

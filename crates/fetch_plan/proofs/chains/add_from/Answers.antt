@@ -1,34 +1,52 @@
-use Rattle.std.proofs.Common.{◌≡◌, ◌<◌, ◌+◌, ℕ, true, false, arith, sym, ap, ◌∙◌, refl, get_or, List, length}
-use Rattle.sharing.specs.Sharing.{is_among}
-use Rattle.fetch_plan.specs.declared.chains.Share.{Share}
-use Rattle.fetch_plan.specs.declared.chains.Step.{Step}
-use Rattle.fetch_plan.specs.Trail.{given, offered, relay_at, is_marked, IsTrail, AreMarked, Extends, StayMarked}
-use Rattle.fetch_plan.proofs.Trails.{Adding_from, from_pass, from_step, relay_kept, given_is, relay_at_is}
+use Rattle.std.proofs.Common.{◌≡◌, ◌<◌, ◌≤◌, ◌+◌, ◌++◌, ◌∷◌, [], ℕ, List, arith, refl, sym, ap, ◌∙◌, get_or, length, take, subst}
+use Rattle.std.specs.List.{All}
+use Rattle.sharing.specs.declared.TheConstants.{RELAYS}
+use Rattle.std.proofs.lemmas.List.{take_more, take_all}
+use Rattle.fetch_plan.specs.declared.groups.Group.{Group}
+use Rattle.fetch_plan.specs.Groups.{amount}
+use Rattle.fetch_plan.specs.Trail.{relay_at}
+use Rattle.fetch_plan.proofs.Trails.{IsClosedOver, from_pass, from_step, closed_large, relay_kept, amount_is, relay_at_is}
 use Rattle.fetch_plan.proofs.chains.add_from.Goals as goal
-use Rattle.fetch_plan.proofs.chains.add_from.Goals.{then-share-relay+in_ok-add_steps, else-share-relay}
+use Rattle.fetch_plan.proofs.chains.add_from.Goals.{then-groups-place+in_ok-add_steps, else-groups-place}
 
--- the step's relay, and the share's, as they were read
-read_relay : (steps : List Step) (next : ℕ) (r : Step) → next < length steps → r ≡ get_or steps next r → relay_at steps next ≡ r.relay
-read_relay steps next r lt e = relay_at_is steps next r r lt e
+-- what was read of a place that is one of the groups
+read : (groups : List Group) (places items : List ℕ) (i r : ℕ) (d : Group) → items ≡ places → All (λ k. k < length groups) places → i < length items → amount groups (get_or items i 0) r ≡ get_or (get_or groups (get_or items i 0) d).given r 0
+read groups places items i r d same within lt = amount_is groups (get_or items i 0) r (get_or groups (get_or items i 0) d) d (subst (λ xs. All (λ k. k < length groups) xs) (sym same) within i 0 lt) refl
 
-read_given : (shares : List Share) (k : ℕ) (s : Share) → k < length shares → given shares k ≡ (get_or shares k s).relay
-read_given shares k s lt = given_is shares k (get_or shares k s) s lt refl
+pub bounds-groups-slot : goal.bounds-groups-slot
+bounds-groups-slot c =
+    let at = relay_at_is c.args.steps.now.items c.args.next c.index.result.now c.index.result.now c.requires.next c.index.ensures in
+    omega (arith, c.requires.trail.small c.args.next c.requires.next, at, c.from-slot.ensures)
 
 pub add_steps-requires-clause-giver : goal.add_steps-requires-clause-giver
 add_steps-requires-clause-giver c =
-    let a = read_given c.args.shares.now c.loop-place.place c.index-shares-place.result c.loop-place-test.true in
-    let b = read_relay c.args.steps.now.items c.args.next c.index.result.now c.requires.next c.index.ensures in
-    let k = relay_kept c.args.steps.now.items c.loop-place.steps.items c.args.next c.loop-place.invariant.extends c.requires.next in
-    cc
+    let at = relay_at_is c.args.steps.now.items c.args.next c.index.result.now c.index.result.now c.requires.next c.index.ensures in
+    let kept = relay_kept c.args.steps.now.items c.loop-place.steps.items c.args.next c.loop-place.invariant.extends c.requires.next in
+    let slot : relay_at c.loop-place.steps.items c.args.next ≡ c.from-slot.result = kept ∙ at ∙ sym c.from-slot.ensures in
+    let here = read c.args.groups.now c.args.level.now.places.items c.deref-place-items.result.now c.loop-place.place-index c.from-slot.result c.index-groups-place.result c.deref-place-items.ensures.value c.requires.large.within c.loop-place-test.true in
+    rw slot (rw here c.if-groups-place.true)
 
 pub loop-place-preserved : goal.loop-place-preserved
 loop-place-preserved c =
-    let a = read_given c.args.shares.now c.loop-place.place c.index-shares-place.result c.loop-place-test.true in
-    let b = read_relay c.args.steps.now.items c.args.next c.index.result.now c.requires.next c.index.ensures in
-    elim c.if-share-relay.branch [
-      | then-share-relay+in_ok-add_steps w ↦
+    let at = relay_at_is c.args.steps.now.items c.args.next c.index.result.now c.index.result.now c.requires.next c.index.ensures in
+    let slot : c.from-slot.result ≡ relay_at c.args.steps.now.items c.args.next = c.from-slot.ensures ∙ sym at in
+    let items : List ℕ = c.deref-place-items.result.now in
+    let place : ℕ = get_or items c.loop-place.place-index 0 in
+    let here : amount c.args.groups.now place c.from-slot.result ≡ get_or (get_or c.args.groups.now place c.index-groups-place.result).given c.from-slot.result 0 =
+    read c.args.groups.now c.args.level.now.places.items items c.loop-place.place-index c.from-slot.result c.index-groups-place.result c.deref-place-items.ensures.value c.requires.large.within c.loop-place-test.true in
+    let more : take (c.loop-place.place-index + 1) c.args.level.now.places.items ≡ take c.loop-place.place-index c.args.level.now.places.items ++ place ∷ [] =
+    ap (take (c.loop-place.place-index + 1)) (sym c.deref-place-items.ensures.value) ∙ take_more items c.loop-place.place-index 0 c.loop-place-test.true ∙ ap (λ xs. take c.loop-place.place-index xs ++ place ∷ []) c.deref-place-items.ensures.value in
+    elim c.if-groups-place.branch [
+      | then-groups-place+in_ok-add_steps w ↦
           (let said = w.in_ok-add_steps.ensures in
-          rw (w.steps-is, w.marked-is) (from_step _ _ _ _ _ _ _ _ c.loop-place.place c.loop-place.invariant said.trail said.marks said.extends said.stay said.reached))
-      | else-share-relay w ↦
-          rw (w.steps-is, w.marked-is) (from_pass _ _ _ _ _ _ c.loop-place.place c.loop-place.invariant (λ e. w.if-share-relay.false (cc)))
+          rw (w.steps-is, w.marked-is, more) (from_step _ _ _ _ _ _ _ _ _ _ place c.loop-place.invariant said.trail said.marks said.extends said.stay said.reached))
+      | else-groups-place w ↦
+          rw (w.steps-is, w.marked-is, more)
+          (from_pass _ _ _ _ _ _ _ _ place c.loop-place.invariant (λ e. omega (arith, w.if-groups-place.false, here, subst (λ r. c.args.level.now.some ≤ amount c.args.groups.now place r) (sym slot) e)))
     ]
+
+pub returns-clause-closed : goal.returns-clause-closed
+returns-clause-closed c =
+    let all : take c.loop-place.place-index c.args.level.now.places.items ≡ c.args.level.now.places.items = take_all c.loop-place.place-index c.args.level.now.places.items (subst (λ xs. length xs ≤ c.loop-place.place-index) c.deref-place-items.ensures.value c.loop-place-test.false) in
+    closed_large _ _ c.args.level.now.places.items _ _ c.requires.groups c.requires.large (c.requires.trail.small c.args.next c.requires.next)
+    (subst (λ xs. IsClosedOver c.args.level.now.some c.args.groups.now xs (relay_at c.args.steps.now.items c.args.next) c.loop-place.marked) all c.loop-place.invariant.closed)

@@ -1,6 +1,7 @@
+use Rattle.std.proofs.Common.{take}
 use Rattle.fetch_plan.specs.Trail.{relay_at}
 use Rattle.fetch_plan.proofs.Trails.{Adding_from}
 use Rattle.fetch_plan.proofs.chains.add_from.Given as goal
 
 abbrev pub invariant-loop-place : goal.invariant-loop-place
-invariant-loop-place l = Adding_from l.shares (relay_at l.initial.steps.items l.next) l.initial.steps.items l.initial.marked l.steps.items l.marked l.place
+invariant-loop-place l = Adding_from l.level.some l.groups (relay_at l.initial.steps.items l.next) l.initial.steps.items l.initial.marked l.steps.items l.marked (take l.place-index l.level.places.items)

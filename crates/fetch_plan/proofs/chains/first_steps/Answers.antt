@@ -1,7 +1,6 @@
-use Rattle.std.proofs.Common.{◌≡◌, ◌≢◌, ◌<◌, ◌+◌, ℕ, true, false, arith, sym, ap, ◌∙◌, refl, get_or, List, [], length, subst}
+use Rattle.std.proofs.Common.{◌≡◌, ◌≢◌, ◌<◌, sym, ap, ◌∙◌, get_or}
 use Rattle.sharing.specs.declared.TheConstants.{RELAYS}
-use Rattle.fetch_plan.specs.declared.chains.Step.{Step}
-use Rattle.fetch_plan.proofs.Trails.{Starting, starting_none, starting_pass, starting_step, get_or_any}
+use Rattle.fetch_plan.proofs.Trails.{starting_none, starting_pass, starting_step}
 use Rattle.fetch_plan.proofs.chains.first_steps.Goals as goal
 use Rattle.fetch_plan.proofs.chains.first_steps.Goals.{then-loads-slot+in_ok-push, else-loads-slot}
 

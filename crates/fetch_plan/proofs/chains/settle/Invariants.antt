@@ -1,13 +1,12 @@
-use Rattle.std.proofs.Common.{◌≡◌}
-use Rattle.fetch_plan.specs.Trail.{AreLoads, AreOffered, offers_of, squares}
+use Rattle.fetch_plan.specs.Groups.{AreLoadsOf, AreGiven, AreSame}
 use Rattle.fetch_plan.proofs.chains.settle.Given as goal
 
-abbrev pub invariant-chains : goal.invariant-chains
-invariant-chains l = record {
-  loads : AreLoads l.shares l.loads;
-  offered : AreOffered l.shares;
-  offers : offers_of l.shares ≡ offers_of l.initial.shares;
+abbrev pub invariant-loop-some : goal.invariant-loop-some
+invariant-loop-some l = record {
+  loads : AreLoadsOf l.groups l.loads;
+  given : AreGiven l.groups;
+  same : AreSame l.initial.groups l.groups;
 }
 
-abbrev pub decreases-chains : goal.decreases-chains
-decreases-chains l = squares l.loads
+abbrev pub decreases-loop-some : goal.decreases-loop-some
+decreases-loop-some l = l.some

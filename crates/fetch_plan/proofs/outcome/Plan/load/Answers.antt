@@ -1,6 +1,6 @@
 use Rattle.std.proofs.Common.{ap, ◌∙◌}
 use Rattle.fetch_plan.specs.Plan.{Planned, given_load}
-use Rattle.fetch_plan.specs.Trail.{gives_of}
+use Rattle.fetch_plan.specs.Shares.{gives_of}
 use Rattle.fetch_plan.proofs.Planned.{none_given}
 use Rattle.fetch_plan.proofs.outcome.Plan.load.Goals as goal
 

@@ -1,12 +1,10 @@
-use Rattle.std.proofs.Common.{◌≡◌, ◌<◌, ◌≤◌, ◌+◌, ◌-◌, ◌/◌, ℕ, length, get_or, sym, ap, ◌∙◌, refl, arith, Some}
-use Rattle.std.specs.declared.cmp.Ordering.{Ordering}
-use Rattle.std.specs.declared.cmp.Ordering.TheVariants.{Less, Equal, Greater}
+use Rattle.std.proofs.Common.{◌≡◌, ◌<◌, ◌+◌, ◌-◌, ◌/◌, ℕ, length, sym, ap, ◌∙◌, arith, Some}
 use Rattle.std.proofs.lemmas.List.{length-map}
 use Rattle.neg_codec.specs.declared.Id.{Id}
 use Rattle.sharing.specs.Offers.{id_cmp, beside}
-use Rattle.fetch_plan.specs.declared.chains.Share.{Share}
-use Rattle.fetch_plan.specs.Trail.{gives_of}
-use Rattle.fetch_plan.proofs.Searched.{IsBetween, between_all, go_down, go_up, found_share, not_found, id_at_share}
+use Rattle.fetch_plan.specs.declared.hand_out.Share.{Share}
+use Rattle.fetch_plan.specs.Shares.{gives_of}
+use Rattle.fetch_plan.proofs.Searched.{go_down, go_up, found_share, not_found, id_at_share}
 use Rattle.fetch_plan.proofs.Trails.{get_or_any}
 use Rattle.fetch_plan.proofs.outcome.Plan.relay_of.Goals as goal
 

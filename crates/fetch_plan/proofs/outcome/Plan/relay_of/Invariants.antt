@@ -1,5 +1,5 @@
 use Rattle.std.proofs.Common.{◌-◌}
-use Rattle.fetch_plan.specs.Trail.{gives_of}
+use Rattle.fetch_plan.specs.Shares.{gives_of}
 use Rattle.fetch_plan.proofs.Searched.{IsBetween}
 use Rattle.fetch_plan.proofs.outcome.Plan.relay_of.Given as goal
 

@@ -1,7 +1,7 @@
-use Rattle.std.proofs.Common.{◌≡◌, ◌<◌, ◌≤◌, ℕ, ◌⊎◌, true, false}
+use Rattle.std.proofs.Common.{◌≡◌, ◌<◌, ℕ, ◌⊎◌, true, false}
 use Rattle.sharing.specs.declared.TheConstants.{RELAYS}
 use Rattle.sharing.specs.Sharing.{is_among}
-use Rattle.fetch_plan.proofs.start.least_loaded.Given as goal
+use Rattle.fetch_plan.proofs.groups.least_loaded.Given as goal
 
 abbrev pub invariant-loop-relay : goal.invariant-loop-relay
 invariant-loop-relay l = record {

@@ -2,8 +2,8 @@ use Rattle.std.proofs.Common.{◌≡◌, ℕ, false, inl, inr, arith, replicate}
 use Rattle.sharing.specs.declared.TheConstants.{RELAYS}
 use Rattle.std.proofs.lemmas.Bool.{cases_lt}
 use Rattle.std.proofs.lemmas.List.{get_or-replicate, get_or_past, length-replicate}
-use Rattle.fetch_plan.specs.Trail.{is_marked}
-use Rattle.fetch_plan.proofs.chains.settle.Goals as goal
+use Rattle.fetch_plan.specs.Shares.{is_marked}
+use Rattle.fetch_plan.proofs.chains.settle_by.Goals as goal
 
 unmarked : (n r : ℕ) → is_marked (replicate n false) r ≡ false
 unfolding is_marked

@@ -1,9 +1,9 @@
-use Rattle.std.proofs.Common.{◌≡◌, ◌<◌, ℕ, true, false, sym, ◌∙◌, inl, inr, arith}
+use Rattle.std.proofs.Common.{◌<◌, sym, ◌∙◌, inl, inr, arith}
 use Rattle.std.proofs.lemmas.Bool.{false≢true}
 use Rattle.sharing.specs.declared.TheConstants.{RELAYS}
 use Rattle.sharing.proofs.Looks.{among_each}
-use Rattle.fetch_plan.proofs.Pushes.{first_member}
-use Rattle.fetch_plan.proofs.start.least_loaded.Goals as goal
+use Rattle.fetch_plan.proofs.Seats.{first_member}
+use Rattle.fetch_plan.proofs.groups.least_loaded.Goals as goal
 
 pub returns-clause-small : goal.returns-clause-small
 returns-clause-small c =

@@ -1,0 +1,91 @@
+-- Ids in groups that the same relays offer: how many of each group are given to each relay.
+use Rattle.std.specs.Prelude.{◌≡◌, ℕ, ◌+◌, ◌<◌, ◌≤◌, ◌==◌, true, List, [], length, slice_index_or, count_by, cond, sum_by, map, Option, Some}
+use Rattle.std.specs.List.{sum, All}
+use Rattle.sharing.specs.declared.TheConstants.{RELAYS, MOST_IDS}
+use Rattle.sharing.specs.Sharing.{is_among}
+use Rattle.sharing.specs.Offers.{AreRelays}
+use Rattle.offer_table.specs.Relays.{members}
+use Rattle.neg_codec.specs.declared.Id.{Id}
+use Rattle.fetch_plan.specs.declared.groups.Group.{Group}
+use Rattle.fetch_plan.specs.declared.groups.Seat.{Seat}
+
+abbrev pub no_group : Group
+no_group = record { relays = []; given = [] }
+
+-- the relays that offer the ids of group k
+unfoldable pub shared_by : List Group → ℕ → List ℕ
+shared_by groups k = (slice_index_or groups k no_group).relays
+
+-- how many ids of group k are given to relay r
+unfoldable pub amount : List Group → ℕ → ℕ → ℕ
+amount groups k r = slice_index_or (slice_index_or groups k no_group).given r 0
+
+-- how many ids of group k are given to relays
+unfoldable pub total : List Group → ℕ → ℕ
+total groups k = sum (slice_index_or groups k no_group).given
+
+-- the number of ids that are given to relay r
+abbrev pub load_of : List Group → ℕ → ℕ
+load_of groups r = sum_by (λ g. slice_index_or g.given r 0) groups
+
+-- the table of loads
+abbrev pub AreLoadsOf : List Group → List ℕ → Type 0
+AreLoadsOf groups loads = (r : ℕ) → r < RELAYS → slice_index_or loads r 0 ≡ load_of groups r
+
+-- each group is offered by some relays, and has a count for each relay
+pub record AreGroups (groups : List Group) : Type 0 where
+  pub some : (k : ℕ) → k < length groups → 0 < length (shared_by groups k)
+  pub relays : (k : ℕ) → k < length groups → AreRelays (shared_by groups k)
+  pub wide : (k : ℕ) → k < length groups → length (slice_index_or groups k no_group).given ≡ RELAYS
+
+-- no more ids than a table has, each given to a relay that offers it
+pub record AreGiven (groups : List Group) : Type 0 where
+  pub groups_ok : AreGroups groups
+  pub few : (k : ℕ) → k < length groups → total groups k ≤ MOST_IDS
+  pub offer : (k r : ℕ) → k < length groups → 0 < amount groups k r → is_among (shared_by groups k) r ≡ true
+
+-- the number of each group's ids
+pub record AreCounts (groups : List Group) (counts : List ℕ) : Type 0 where
+  pub long : length counts ≡ length groups
+  pub totals : (k : ℕ) → k < length groups → slice_index_or counts k 0 ≡ total groups k
+
+-- these places are those of all groups that have enough ids
+pub record AreLarge (enough : ℕ) (groups : List Group) (places : List ℕ) : Type 0 where
+  pub within : All (λ k. k < length groups) places
+  pub all : (k : ℕ) → k < length groups → enough ≤ total groups k → is_among places k ≡ true
+
+-- the same groups, with as many ids in each
+pub record AreSame (old new : List Group) : Type 0 where
+  pub long : length new ≡ length old
+  pub relays : (k : ℕ) → shared_by new k ≡ shared_by old k
+  pub totals : (k : ℕ) → total new k ≡ total old k
+
+-- so many fewer for the relay from, and more for the relay to
+abbrev pub IsMoved : List Group → List Group → ℕ → ℕ → ℕ → Type 0
+IsMoved old new from to some = (r : ℕ) → load_of new r + cond (from == r) some 0 ≡ load_of old r + cond (to == r) some 0
+
+-- the number of ids of group k among these
+abbrev pub seated : List Seat → ℕ → ℕ
+seated seats k = count_by (λ s. s.group == k) seats
+
+-- the ids with the relays that offer their groups
+abbrev pub offers_for : List Group → List Seat → List (Id × List ℕ)
+offers_for groups seats = map (λ s. (s.id, shared_by groups s.group)) seats
+
+-- no id is given to a relay
+abbrev pub AreEmpty : List Group → Type 0
+AreEmpty groups = (k r : ℕ) → amount groups k r ≡ 0
+
+-- the earlier groups are still there
+pub record Keeps (old new : List Group) : Type 0 where
+  pub longer : length old ≤ length new
+  pub relays : (k : ℕ) → k < length old → shared_by new k ≡ shared_by old k
+
+-- these relays offer group k
+pub record IsPlaced (groups : List Group) (relays : List ℕ) (k : ℕ) : Type 0 where
+  pub within : k < length groups
+  pub relays_ok : shared_by groups k ≡ relays
+
+-- where a set of relays stands, by its number
+abbrev pub ArePlaces : List Group → (ℕ → Option ℕ) → Type 0
+ArePlaces groups places = (n k : ℕ) → places n ≡ Some k → IsPlaced groups (members n) k
