@@ -1,3 +1,6 @@
 pub mod Members
 pub mod Tables
 mod Offered
+pub mod Cuts
+pub mod IdRows
+pub mod RowEdits

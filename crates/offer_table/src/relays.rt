@@ -4,6 +4,7 @@ ghost use Rattle.std.specs.Prelude.{◌≡◌, ◌<◌, ◌==◌, ◌||◌, ◌&
 ghost use Rattle.std.specs.List.{list_any};
 ghost use Rattle.sharing.specs.Sharing.{is_among};
 ghost use Rattle.sharing.specs.Offers.{AreRelays};
+ghost use Rattle.offer_table.specs.Relays.{bits_of};
 
 use sharing::RELAYS;
 use std::marker::Model;
@@ -80,6 +81,22 @@ impl RelaySet {
         } else {
             self
         }
+    }
+
+    /// The number in which each member r counts 2^r.
+    pub(crate) fn number(self) -> u64
+        ensures value { result ≡ bits_of self }
+        ensures relays { AreRelays self }
+    {
+        self.bits
+    }
+
+    /// The set with this number.
+    pub(crate) fn of_number(number: u64) -> RelaySet
+        ensures value { bits_of result ≡ number }
+        ensures relays { AreRelays result }
+    {
+        RelaySet { bits: number }
     }
 
     /// Whether the set has no member.
