@@ -28,7 +28,7 @@ module _ {K : Type 0} (P : K → Type 0) where
   All-mid (u ∷ us) vs x h = All-mid us vs x (All-tail P u (us ++ x ∷ vs) h)
 
 module _ {K : Type 0} (c : K → K → Ordering) where
-  sorted_cons : (x : K) (xs : List K) → All (λ y. c x y ≡ Less) xs → IsStrictlySortedBy c xs → IsStrictlySortedBy c (x ∷ xs)
+  pub sorted_cons : (x : K) (xs : List K) → All (λ y. c x y ≡ Less) xs → IsStrictlySortedBy c xs → IsStrictlySortedBy c (x ∷ xs)
   unfolding IsStrictlySortedBy
   sorted_cons x xs h s = (recursion_from_All (λ y. c x y ≡ Less) xs h, s)
 

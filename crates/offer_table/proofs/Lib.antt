@@ -4,3 +4,4 @@ mod Offered
 pub mod Cuts
 pub mod IdRows
 pub mod RowEdits
+pub mod Gathered

@@ -1,10 +1,10 @@
 //! Sets of relays.
 
-ghost use Rattle.std.specs.Prelude.{◌≡◌, ◌<◌, ◌==◌, ◌||◌, ◌&&◌, ◌↔◌, IsTrue, not, true, ℕ, List, [], ◌∷◌};
+ghost use Rattle.std.specs.Prelude.{◌≡◌, ◌<◌, ◌^◌, ◌==◌, ◌||◌, ◌&&◌, ◌↔◌, IsTrue, not, true, ℕ, List, [], ◌∷◌};
 ghost use Rattle.std.specs.List.{list_any};
 ghost use Rattle.sharing.specs.Sharing.{is_among};
 ghost use Rattle.sharing.specs.Offers.{AreRelays};
-ghost use Rattle.offer_table.specs.Relays.{bits_of};
+ghost use Rattle.offer_table.specs.Relays.{bits_of, members};
 
 use sharing::RELAYS;
 use std::marker::Model;
@@ -86,6 +86,7 @@ impl RelaySet {
     /// The number in which each member r counts 2^r.
     pub(crate) fn number(self) -> u64
         ensures value { result ≡ bits_of self }
+        ensures small { result < 2 ^ 64 }
         ensures relays { AreRelays self }
     {
         self.bits
@@ -93,8 +94,7 @@ impl RelaySet {
 
     /// The set with this number.
     pub(crate) fn of_number(number: u64) -> RelaySet
-        ensures value { bits_of result ≡ number }
-        ensures relays { AreRelays result }
+        ensures { result ≡ members number }
     {
         RelaySet { bits: number }
     }
