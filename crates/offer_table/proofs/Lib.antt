@@ -5,3 +5,5 @@ pub mod Cuts
 pub mod IdRows
 pub mod RowEdits
 pub mod Gathered
+pub mod Numbers
+pub mod Struck

@@ -174,11 +174,12 @@ impl OfferTable {
         let rest = relays.without(relay);
         if rest.is_empty() {
             self.offers.remove(id);
+            self.groups.take(relays, id);
         } else {
             self.groups.put(self.alloc, rest, *id)?;
+            self.groups.take(relays, id);
             self.offers.insert(*id, rest)?;
         }
-        self.groups.take(relays, id);
         Ok(true)
     }
 
