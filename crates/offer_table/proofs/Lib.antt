@@ -7,3 +7,4 @@ pub mod RowEdits
 pub mod Gathered
 pub mod Numbers
 pub mod Struck
+pub mod Grouped
