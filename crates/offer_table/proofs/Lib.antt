@@ -8,3 +8,4 @@ pub mod Gathered
 pub mod Numbers
 pub mod Struck
 pub mod Grouped
+pub mod Partition

@@ -32,13 +32,13 @@ pub struct OfferTable {
 
 impl Model for OfferTable {
     ghost use Rattle.offer_table.specs.Table.{Table, IsTable};
-    ghost use Rattle.offer_table.specs.Rows.{IsGrouped};
+    ghost use Rattle.offer_table.specs.Rows.{AreRows, IsGrouped};
 
     ghost Value = { Table };
 
     ghost view = { λ t. record { reported = t.reported; offers = t.offers.entries } };
 
-    ghost invariant = { λ t. record { table : IsTable (record { reported = t.reported; offers = t.offers.entries }); grouped : IsGrouped t.offers.entries t.groups } };
+    ghost invariant = { λ t. record { table : IsTable (record { reported = t.reported; offers = t.offers.entries }); grouped : IsGrouped t.offers.entries t.groups; rows : AreRows t.groups } };
 }
 
 /// Adds what these offer to all, which then has that many ids.

@@ -13,6 +13,7 @@ none_table reported offers e = subst (λ (es : List (Id × List ℕ)). IsTable (
 pub invariant_of-result : goal.invariant_of-result
 invariant_of-result c = record {
   table = none_table c.empty.result c.new.result.entries c.new.ensures.empty;
+  rows = c.new-2.ensures.rows;
   grouped = λ n. ap (λ (xs : Rows). ids_at xs n) c.new-2.ensures.none ∙ sym (ap (ids_numbered n) c.new.ensures.empty);
 }
 

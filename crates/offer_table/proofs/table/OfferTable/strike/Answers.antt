@@ -62,6 +62,7 @@ invariant_of-self c =
     let ok = c.self.invariant.table in
     record {
       table = removed c.self.inside.reported old c.remove.new.self.entries (is_id k) ok.offers_ok ok.few n.entries n.ordered (omega (arith, n.len));
+      rows = c.take.ensures.rows;
       grouped = struck_last old k (around old k is) ok.offers_ok.ascend (ids_at c.self.inside.groups) (ids_at c.take.new.self) c.self.invariant.grouped c.remove.new.self.entries n.entries
           (λ m. c.take.ensures.ids m ∙ ap (λ rs. cond (m == bits_of rs) (without_id k (ids_at c.self.inside.groups m)) (ids_at c.self.inside.groups m)) was);
     }
@@ -83,6 +84,7 @@ invariant_of-self-in_ok-insert c =
       table = put_back c.self.inside.reported old c.insert.new.self.entries k c.without-rest.result ok.offers_ok ok.few n.entries n.ordered
           (no_longer (length old) (length c.insert.new.self.entries) (is_some c.in_ok-insert.field-0) (ap is_some n.old ∙ is) n.len)
           c.without-rest.ensures.relays (some_left c.without-rest.result some);
+      rows = c.take-else-is_empty.ensures.rows;
       grouped = struck_one old k (around old k is) ok.offers_ok.ascend (ids_at c.self.inside.groups) (ids_at c.take-else-is_empty.new.self) c.self.invariant.grouped c.without-rest.result c.insert.new.self.entries (ids_at c.put.new.self) differ n.entries
           c.in_ok-put.ensures.ids
           (λ m. c.take-else-is_empty.ensures.ids m ∙ ap (λ rs. cond (m == bits_of rs) (without_id k (ids_at c.put.new.self m)) (ids_at c.put.new.self m)) was);
