@@ -1,3 +1,11 @@
 pub mod Members
 pub mod Tables
 mod Offered
+pub mod Cuts
+pub mod IdRows
+pub mod RowEdits
+pub mod Gathered
+pub mod Numbers
+pub mod Struck
+pub mod Grouped
+pub mod Partition

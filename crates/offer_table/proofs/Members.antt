@@ -154,7 +154,7 @@ those_last : (b : Bool) (xs : List ℕ) (n : ℕ) → AreBelow xs n → AreBelow
 those_last true xs n h = (sorted_push nat_cmp xs n h.0 (All-weaker (λ x. x < n) (λ x. nat_cmp x n ≡ Less) (λ x lt. less_from x n lt) xs h.1), All-push (λ x. x < suc n) xs n (All-weaker (λ x. x < n) (λ x. x < suc n) (λ x lt. omega arith) xs h.1) (omega arith))
 those_last false xs n h = subst (λ ys. AreBelow ys (suc n)) (sym (append-nil xs)) (h.0, All-weaker (λ x. x < n) (λ x. x < suc n) (λ x lt. omega arith) xs h.1)
 
-below_those : (p : ℕ → Bool) (n : ℕ) → AreBelow (those p n) n
+pub below_those : (p : ℕ → Bool) (n : ℕ) → AreBelow (those p n) n
 unfolding those
 below_those p zero = (sorted_none nat_cmp, All-nil (λ x. x < zero))
 below_those p (suc n) = those_last (p n) (those p n) n (below_those p n)

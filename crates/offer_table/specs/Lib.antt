@@ -2,3 +2,6 @@ pub mod Relays
 pub mod RelayBits
 pub mod Table
 pub mod Faults
+pub mod Groups
+pub mod Rows
+pub mod Places

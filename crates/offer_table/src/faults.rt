@@ -2,7 +2,7 @@
 
 use crate::RelaySet;
 use neg_codec::Id;
-use std::alloc::AllocFailed;
+use std::alloc::{AllocError, AllocFailed};
 
 /// Why a table wasn't made.
 #[derive(Clone, Copy, Debug, PartialEq, Eq)]
@@ -23,6 +23,17 @@ impl From<AllocFailed<(Id, RelaySet)>> for OfferFault {
     ghost from_gives = { λ _ e. e ≡ Memory };
 
     fn from(_e: AllocFailed<(Id, RelaySet)>) -> OfferFault {
+        OfferFault::Memory
+    }
+}
+
+impl From<AllocError> for OfferFault {
+    ghost use Rattle.std.specs.Prelude.{◌≡◌};
+    ghost use Rattle.offer_table.specs.declared.faults.OfferFault.TheVariants.{Memory};
+
+    ghost from_gives = { λ _ e. e ≡ Memory };
+
+    fn from(_e: AllocError) -> OfferFault {
         OfferFault::Memory
     }
 }

@@ -2,8 +2,10 @@
 #![tactic(auto)]
 
 mod faults;
+mod groups;
 mod offers;
 mod relays;
+mod row;
 mod table;
 
 pub use faults::OfferFault;

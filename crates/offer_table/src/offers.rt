@@ -46,6 +46,6 @@ impl OfferTable {
             reported = reported.union(relays);
             entries.insert(offer.0, relays)?;
         }
-        Ok(OfferTable::of_map(alloc, reported, entries))
+        Ok(OfferTable::of_map(alloc, reported, entries)?)
     }
 }

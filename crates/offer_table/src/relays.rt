@@ -1,10 +1,10 @@
 //! Sets of relays.
 
-ghost use Rattle.std.specs.Prelude.{◌≡◌, ◌<◌, ◌==◌, ◌||◌, ◌&&◌, ◌↔◌, IsTrue, not, true, ℕ, List, [], ◌∷◌};
+ghost use Rattle.std.specs.Prelude.{◌≡◌, ◌<◌, ◌^◌, ◌==◌, ◌||◌, ◌&&◌, ◌↔◌, IsTrue, not, true, ℕ, List, [], ◌∷◌};
 ghost use Rattle.std.specs.List.{list_any};
 ghost use Rattle.sharing.specs.Sharing.{is_among};
 ghost use Rattle.sharing.specs.Offers.{AreRelays};
-ghost use Rattle.offer_table.specs.Relays.{members, bits_of};
+ghost use Rattle.offer_table.specs.Relays.{bits_of, members};
 
 use sharing::RELAYS;
 use std::marker::Model;
@@ -83,12 +83,21 @@ impl RelaySet {
         }
     }
 
-    /// The number in which relay r counts 2^r.
+    /// The number in which each member r counts 2^r.
     pub fn number(self) -> u64
         ensures value { result ≡ bits_of self }
         ensures members { members result ≡ self }
+        ensures small { result < 2 ^ 64 }
+        ensures relays { AreRelays self }
     {
         self.bits
+    }
+
+    /// The set with this number.
+    pub(crate) fn of_number(number: u64) -> RelaySet
+        ensures { result ≡ members number }
+    {
+        RelaySet { bits: number }
     }
 
     /// Whether the set has no member.

@@ -1,15 +1,17 @@
 //! Tables of offers.
 
-ghost use Rattle.std.specs.Prelude.{◌≡◌, ◌≤◌, ◌+◌, ◌<◌, ◌==◌, ◌||◌, ◌&&◌, not, ℕ, true, List, [], ◌∷◌, length, map, OnOk, IfOk, OnErr, IfErr, MatchOption, IsOkUnless, is_some};
+ghost use Rattle.std.specs.Prelude.{◌≡◌, ◌≤◌, ◌+◌, ◌<◌, ◌==◌, ◌||◌, ◌&&◌, not, ℕ, true, List, [], ◌∷◌, length, map, Some, slice_get, OnOk, IfOk, OnErr, IfErr, MatchOption, IsOkUnless, is_some};
 ghost use Rattle.std.specs.List.{All};
 ghost use Rattle.std.specs.Map.Iter.{deref, ShowsInOrder};
 ghost use Rattle.neg_codec.specs.declared.Id.{Id};
 ghost use Rattle.sharing.specs.Sharing.{is_among};
 ghost use Rattle.sharing.specs.Offers.{AreRelays, Ascend, relays_of, beside, is_id};
 ghost use Rattle.offer_table.specs.Table.{IsTable, new_in};
+ghost use Rattle.offer_table.specs.Groups.{groups_of, AreGroups};
 ghost use Rattle.offer_table.specs.Faults.{report_fault, merge_fault};
 ghost use Rattle.offer_table.specs.declared.faults.OfferFault.TheVariants.{Memory};
 
+use crate::groups::Groups;
 use crate::{OfferFault, RelaySet};
 use neg_codec::Id;
 use sharing::{MOST_IDS, RELAYS};
@@ -18,22 +20,25 @@ use std::collections::btree_map::Keys;
 use std::collections::{BTreeMap, BTreeSet};
 use std::marker::Model;
 
-/// Which relays reported what they offer, and for each offered id the relays that offer it.
+/// Which relays reported what they offer, and for each offered id the relays that offer it. Beside that the
+/// table keeps the ids in groups of equal relay sets.
 #[derive(Drop)]
 pub struct OfferTable {
     reported: RelaySet,
     offers: BTreeMap<Id, RelaySet>,
+    groups: Groups,
     alloc: Global,
 }
 
 impl Model for OfferTable {
     ghost use Rattle.offer_table.specs.Table.{Table, IsTable};
+    ghost use Rattle.offer_table.specs.Rows.{AreRows, IsGrouped};
 
     ghost Value = { Table };
 
     ghost view = { λ t. record { reported = t.reported; offers = t.offers.entries } };
 
-    ghost invariant = { λ t. IsTable (record { reported = t.reported; offers = t.offers.entries }) };
+    ghost invariant = { λ t. record { table : IsTable (record { reported = t.reported; offers = t.offers.entries }); grouped : IsGrouped t.offers.entries t.groups; rows : AreRows t.groups } };
 }
 
 /// Adds what these offer to all, which then has that many ids.
@@ -78,15 +83,17 @@ impl OfferTable {
         alloc: Global,
         reported: RelaySet,
         offers: BTreeMap<Id, RelaySet>,
-    ) -> OfferTable
+    ) -> Result<OfferTable, AllocError>
         requires { IsTable (record { reported = reported; offers = offers.entries }) }
-        ensures { result ≡ record { reported = reported; offers = offers.entries } }
+        ensures { IfOk result (λ t. t ≡ record { reported = reported; offers = offers.entries }) }
     {
-        OfferTable {
+        let groups = Groups::of(alloc, &offers)?;
+        Ok(OfferTable {
             reported,
             offers,
+            groups,
             alloc,
-        }
+        })
     }
 
     /// The table to which no relay has reported.
@@ -97,6 +104,7 @@ impl OfferTable {
         OfferTable {
             reported: RelaySet::empty(),
             offers: BTreeMap::new(alloc),
+            groups: Groups::new(alloc),
             alloc,
         }
     }
@@ -123,11 +131,7 @@ impl OfferTable {
         for id in need {
             offers.insert(*id, relays)?;
         }
-        Ok(OfferTable {
-            reported: relays,
-            offers,
-            alloc,
-        })
+        Ok(OfferTable::of_map(alloc, relays, offers)?)
     }
 
     /// The offers of both tables. After a fault both come back unchanged.
@@ -148,12 +152,9 @@ impl OfferTable {
         if self.reported.meets(other.reported) {
             return Err((OfferFault::Double, self, other));
         }
-        match united(self.alloc, &self.offers, &other.offers) {
-            Ok(offers) => Ok(OfferTable {
-                reported: self.reported.union(other.reported),
-                offers,
-                alloc: self.alloc,
-            }),
+        let reported = self.reported.union(other.reported);
+        match joined(self.alloc, reported, &self.offers, &other.offers) {
+            Ok(both) => Ok(both),
             Err(_) => Err((OfferFault::Memory, self, other)),
         }
     }
@@ -173,7 +174,10 @@ impl OfferTable {
         let rest = relays.without(relay);
         if rest.is_empty() {
             self.offers.remove(id);
+            self.groups.take(relays, id);
         } else {
+            self.groups.put(self.alloc, rest, *id)?;
+            self.groups.take(relays, id);
             self.offers.insert(*id, rest)?;
         }
         Ok(true)
@@ -199,12 +203,50 @@ impl OfferTable {
         self.offers.keys()
     }
 
+    /// How many distinct sets of relays the offered ids have.
+    pub fn groups(&self) -> usize
+        ensures count { result ≡ length (groups_of self.now.offers) }
+        ensures groups { AreGroups self.now.offers (groups_of self.now.offers) }
+        ensures table { IsTable self.now }
+    {
+        self.groups.len()
+    }
+
+    /// A set of relays, and the ids that just these relays offer, ascending. The sets ascend as numbers in
+    /// which relay r counts 2^r.
+    pub fn group_at(&self, k: usize) -> (RelaySet, &[Id])
+        requires { k < length (groups_of self.now.offers) }
+        ensures value { slice_get (groups_of self.now.offers) k ≡ Some (result.0, result.1.now) }
+        ensures groups { AreGroups self.now.offers (groups_of self.now.offers) }
+        ensures table { IsTable self.now }
+    {
+        self.groups.at(k)
+    }
+
     /// The relays that reported.
     pub fn reported(&self) -> RelaySet
         ensures { result ≡ self.now.reported }
     {
         self.reported
     }
+}
+
+/// The table of these relays that reported, and the offers of both.
+fn joined(
+    alloc: Global,
+    reported: RelaySet,
+    mine: &BTreeMap<Id, RelaySet>,
+    theirs: &BTreeMap<Id, RelaySet>,
+) -> Result<OfferTable, AllocError>
+    requires mine { All (λ p. AreRelays p.1) mine.now.entries × All (λ p. 0 < length p.1) mine.now.entries }
+    requires theirs { All (λ p. AreRelays p.1) theirs.now.entries × All (λ p. 0 < length p.1) theirs.now.entries }
+    requires few { length mine.now.entries + new_in mine.now.entries theirs.now.entries ≤ MOST_IDS }
+    ensures reported { IfOk result (λ t. t.reported ≡ reported) }
+    ensures offers { IfOk result (λ t. (i : Id) (r : ℕ) → is_among (relays_of t.offers i) r ≡ (is_among (relays_of mine.now.entries i) r || is_among (relays_of theirs.now.entries i) r)) }
+    ensures table { IfOk result IsTable }
+{
+    let offers = united(alloc, mine, theirs)?;
+    OfferTable::of_map(alloc, reported, offers)
 }
 
 /// The offers of both.

@@ -193,3 +193,40 @@ fn offers_of_too_many_ids(rt: HostRuntime) -> Result<(), Fail> {
     }
     Ok(())
 }
+
+/// The relays and the ids of each group, by the numbers of the ids.
+fn is_group(table: &OfferTable, k: usize, relays: &[u16], numbers: &[u32]) -> bool {
+    let (set, ids) = table.group_at(k);
+    if ids.len() != numbers.len() {
+        return false;
+    }
+    for relay in 0..66u16 {
+        if set.has(relay) != relays.contains(&relay) {
+            return false;
+        }
+    }
+    for (id, number) in ids.iter().zip(numbers) {
+        if *id != numbered(*number) {
+            return false;
+        }
+    }
+    true
+}
+
+/// Ids 0 to 9 on relays 0 and 1, 10 to 14 on 1 and 2, and 15 to 17 on 2 alone.
+fn three_groups(alloc: Global) -> Result<OfferTable, Fail> {
+    let a = report(alloc, 0, &[0, 1, 2, 3, 4, 5, 6, 7, 8, 9])?;
+    let b = report(alloc, 1, &[0, 1, 2, 3, 4, 5, 6, 7, 8, 9, 10, 11, 12, 13, 14])?;
+    let c = report(alloc, 2, &[10, 11, 12, 13, 14, 15, 16, 17])?;
+    merged(merged(c, a)?, b)
+}
+
+#[test]
+fn ids_stand_in_groups_of_equal_relays(rt: HostRuntime) -> Result<(), Fail> {
+    let table = three_groups(rt.alloc())?;
+    assert_eq!(rt; table.groups(), 3);
+    assert!(rt; is_group(&table, 0, &[0, 1], &[0, 1, 2, 3, 4, 5, 6, 7, 8, 9]));
+    assert!(rt; is_group(&table, 1, &[2], &[15, 16, 17]));
+    assert!(rt; is_group(&table, 2, &[1, 2], &[10, 11, 12, 13, 14]));
+    Ok(())
+}

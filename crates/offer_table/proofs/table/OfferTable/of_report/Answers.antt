@@ -37,26 +37,24 @@ whole relays relay ids offers ordered one ascend few e =
       few = omega (arith, length-each_with relays ids);
     })
 
-only : (c : goal.In-None) → c.with-relays.result ≡ c.args.relay ∷ []
-only c = just_one c.with-relays.result c.args.relay c.with-relays.ensures.relays (λ r. c.with-relays.ensures.member r ∙ ap (λ s. (r == c.args.relay) || is_among s r) c.empty.ensures)
+only : (relay : ℕ) (none relays : List ℕ) → none ≡ [] → AreRelays relays → ((r : ℕ) → is_among relays r ≡ ((r == relay) || is_among none r)) → relays ≡ relay ∷ []
+only relay none relays e ordered member = just_one relays relay ordered (λ r. member r ∙ ap (λ s. (r == relay) || is_among s r) e)
 
-all : (c : goal.In-None) → c.loop-id.offers.entries ≡ each_with c.with-relays.result c.args.need.now.keys
-all c =
+pub of_map-requires : goal.of_map-requires
+of_map-requires c =
     let start = c.into_iter-id-iterator.ensures.into_iter_gives in
     let end = iter_end deref c.args.need.now.keys c.loop-id.yielded c.into_iter-id-iterator.result c.loop-id.id-iterator c.next.new.self c.next.result start.0 c.loop-id.yielded_by c.in-None.is c.next.ensures.steps in
-    c.loop-id.invariant ∙ ap (each_with c.with-relays.result) end.0
-
-pub invariant_of-result : goal.invariant_of-result
-invariant_of-result c =
-    let start = c.into_iter-id-iterator.ensures.into_iter_gives in
-    whole c.with-relays.result c.args.relay c.args.need.now.keys c.loop-id.offers.entries c.with-relays.ensures.relays (only c)
-    start.4 (omega (arith, c.if-len-gt-MOST_IDS.false, c.len.ensures.len)) (all c)
+    whole c.with-relays.result c.args.relay c.args.need.now.keys c.loop-id.offers.entries c.with-relays.ensures.relays (only c.args.relay c.empty.result c.with-relays.result c.empty.ensures c.with-relays.ensures.relays c.with-relays.ensures.member)
+    start.4 (omega (arith, c.if-len-gt-MOST_IDS.false, c.len.ensures.len)) (c.loop-id.invariant ∙ ap (each_with c.with-relays.result) end.0)
 
 pub returns-clause-reported : goal.returns-clause-reported
-returns-clause-reported c = only c
+returns-clause-reported c =
+    ap (λ (t : Table). t.reported) c.in_ok-of_map.ensures ∙ only c.args.relay c.empty.result c.with-relays.result c.empty.ensures c.with-relays.ensures.relays c.with-relays.ensures.member
 
 pub returns-clause-offers : goal.returns-clause-offers
-returns-clause-offers c = all c ∙ ap (λ rs. each_with rs c.args.need.now.keys) (only c)
-
-pub returns-clause-table : goal.returns-clause-table
-returns-clause-table c = invariant_of-result c
+returns-clause-offers c =
+    let start = c.into_iter-id-iterator.ensures.into_iter_gives in
+    let end = iter_end deref c.args.need.now.keys c.loop-id.yielded c.into_iter-id-iterator.result c.loop-id.id-iterator c.next.new.self c.next.result start.0 c.loop-id.yielded_by c.in-None.is c.next.ensures.steps in
+    ap (λ (t : Table). t.offers) c.in_ok-of_map.ensures
+    ∙ c.loop-id.invariant ∙ ap (each_with c.with-relays.result) end.0
+    ∙ ap (λ rs. each_with rs c.args.need.now.keys) (only c.args.relay c.empty.result c.with-relays.result c.empty.ensures c.with-relays.ensures.relays c.with-relays.ensures.member)

@@ -1,4 +1,4 @@
-use Rattle.std.proofs.Common.{◌≡◌, ◌+◌, ◌<◌, Bool, ◌≤◌, ◌==◌, ◌&&◌, not, true, false, ℕ, List, [], length, refl, sym, ap, ◌∙◌, subst, arith, Some, None, map, cond}
+use Rattle.std.proofs.Common.{◌≡◌, ◌≢◌, ◌+◌, ◌<◌, Bool, ◌≤◌, ◌==◌, ◌&&◌, not, true, false, ℕ, List, [], length, refl, sym, ap, ◌∙◌, subst, arith, Some, None, map, cond}
 use Rattle.std.specs.Prelude.{is_some, unwrap_or}
 use Rattle.std.specs.List.{All}
 use Rattle.neg_codec.specs.declared.Id.{Id}
@@ -9,6 +9,9 @@ use Rattle.std.specs.Map.{remove_entry}
 use Rattle.std.proofs.lemmas.Bool.{false≢true}
 use Rattle.sharing.specs.declared.TheConstants.{MOST_IDS}
 use Rattle.offer_table.specs.Table.{Table, IsTable}
+use Rattle.offer_table.specs.Relays.{bits_of}
+use Rattle.offer_table.specs.Rows.{ids_at, without_id}
+use Rattle.offer_table.proofs.Struck.{around, struck_last, struck_one, lesser}
 use Rattle.offer_table.proofs.Tables.{strike_none, strike_step, offered_there, All-removed, All-inserted, some_left}
 use Rattle.offer_table.proofs.table.OfferTable.strike.Goals as goal
 
@@ -37,11 +40,6 @@ put_back reported old new k rest ok few e ascend same relays some = record {
   few = omega arith;
 }
 
-pub invariant_of-self : goal.invariant_of-self
-invariant_of-self c =
-    let n = c.remove.ensures in
-    removed c.self.inside.reported c.self.inside.offers.entries c.remove.new.self.entries (is_id c.args.id.now) c.self.invariant.offers_ok c.self.invariant.few n.entries n.ordered (omega (arith, n.len))
-
 -- the id is in the table
 there : (table : Table) (inside : Table) (k : Id) (relay : ℕ) (b : Bool) (relays : List ℕ) → inside ≡ table → b ≡ is_among relays relay → relays ≡ relays_of table.offers k → b ≡ true → is_some (beside inside.offers k) ≡ true
 there table inside k relay b relays e v o t = ap (λ (u : Table). is_some (beside u.offers k)) e ∙ offered_there table.offers k relay (ap (λ rs. is_among rs relay) (sym o) ∙ sym v ∙ t)
@@ -49,19 +47,57 @@ there table inside k relay b relays e v o t = ap (λ (u : Table). is_some (besid
 no_longer : (old new : ℕ) (o : Bool) → o ≡ true → new ≡ old + cond o 0 1 → new ≡ old
 no_longer old new o t e = omega (arith, ap {B = ℕ} (λ b. old + cond b 0 1) t)
 
+-- the relays that were read are those of the table within
+read : (table inside : Table) (k : Id) (relays : List ℕ) → inside ≡ table → relays ≡ relays_of table.offers k → relays ≡ relays_of inside.offers k
+read table inside k relays e o = o ∙ ap (λ (t : Table). relays_of t.offers k) (sym e)
+
+pub invariant_of-self : goal.invariant_of-self
+invariant_of-self c =
+    let n = c.remove.ensures in
+    let k : Id = c.args.id.now in
+    let old : List (Id × List ℕ) = c.self.inside.offers.entries in
+    let inside : Table = record { reported = c.self.inside.reported; offers = old } in
+    let is : is_some (beside old k) ≡ true = there c.args.self.now inside k c.args.relay c.has.result c.offers-relays.result c.self.view_is c.has.ensures.value c.offers-relays.ensures.value c.if-not-has.false in
+    let was : c.offers-relays.result ≡ relays_of old k = read c.args.self.now inside k c.offers-relays.result c.self.view_is c.offers-relays.ensures.value in
+    let ok = c.self.invariant.table in
+    record {
+      table = removed c.self.inside.reported old c.remove.new.self.entries (is_id k) ok.offers_ok ok.few n.entries n.ordered (omega (arith, n.len));
+      rows = c.take.ensures.rows;
+      grouped = struck_last old k (around old k is) ok.offers_ok.ascend (ids_at c.self.inside.groups) (ids_at c.take.new.self) c.self.invariant.grouped c.remove.new.self.entries n.entries
+          (λ m. c.take.ensures.ids m ∙ ap (λ rs. cond (m == bits_of rs) (without_id k (ids_at c.self.inside.groups m)) (ids_at c.self.inside.groups m)) was);
+    }
+
 pub invariant_of-self-in_ok-insert : goal.invariant_of-self-in_ok-insert
 invariant_of-self-in_ok-insert c =
     let n = c.in_ok-insert.ensures in
     let k : Id = c.args.id.now in
     let old : List (Id × List ℕ) = c.self.inside.offers.entries in
-    let is : is_some (beside old k) ≡ true = there c.args.self.now (record { reported = c.self.inside.reported; offers = old }) k c.args.relay c.has.result c.offers-relays.result c.self.view_is c.has.ensures.value c.offers-relays.ensures.value c.if-not-has.false in
+    let inside : Table = record { reported = c.self.inside.reported; offers = old } in
+    let is : is_some (beside old k) ≡ true = there c.args.self.now inside k c.args.relay c.has.result c.offers-relays.result c.self.view_is c.has.ensures.value c.offers-relays.ensures.value c.if-not-has.false in
+    let was : c.offers-relays.result ≡ relays_of old k = read c.args.self.now inside k c.offers-relays.result c.self.view_is c.offers-relays.ensures.value in
     let some : c.without-rest.result ≡ [] → ⊥ = λ e. absurd (false≢true (sym c.if-is_empty.false ∙ c.is_empty.ensures.1 e)) in
-    put_back c.self.inside.reported old c.insert.new.self.entries k c.without-rest.result c.self.invariant.offers_ok c.self.invariant.few n.entries n.ordered
-    (no_longer (length old) (length c.insert.new.self.entries) (is_some c.in_ok-insert.field-0) (ap is_some n.old ∙ is) n.len)
-    c.without-rest.ensures.relays (some_left c.without-rest.result some)
+    let ok = c.self.invariant.table in
+    let differ : bits_of (relays_of old k) ≢ bits_of c.without-rest.result = lesser (relays_of old k) c.without-rest.result c.args.relay (subst AreRelays was c.has.ensures.relays) c.without-rest.ensures.relays
+        (ap (λ rs. is_among rs c.args.relay) (sym was) ∙ sym c.has.ensures.value ∙ c.if-not-has.false)
+        (λ r. c.without-rest.ensures.member r ∙ ap (λ rs. is_among rs r && not (r == c.args.relay)) was) in
+    record {
+      table = put_back c.self.inside.reported old c.insert.new.self.entries k c.without-rest.result ok.offers_ok ok.few n.entries n.ordered
+          (no_longer (length old) (length c.insert.new.self.entries) (is_some c.in_ok-insert.field-0) (ap is_some n.old ∙ is) n.len)
+          c.without-rest.ensures.relays (some_left c.without-rest.result some);
+      rows = c.take-else-is_empty.ensures.rows;
+      grouped = struck_one old k (around old k is) ok.offers_ok.ascend (ids_at c.self.inside.groups) (ids_at c.take-else-is_empty.new.self) c.self.invariant.grouped c.without-rest.result c.insert.new.self.entries (ids_at c.put.new.self) differ n.entries
+          c.in_ok-put.ensures.ids
+          (λ m. c.take-else-is_empty.ensures.ids m ∙ ap (λ rs. cond (m == bits_of rs) (without_id k (ids_at c.put.new.self m)) (ids_at c.put.new.self m)) was);
+    }
+
+-- no memory is asked for, since the id is in the table
+pub invariant_of-self-in_err-insert : goal.invariant_of-self-in_err-insert
+invariant_of-self-in_err-insert c =
+    let is : is_some (beside c.self.inside.offers.entries c.args.id.now) ≡ true = there c.args.self.now (record { reported = c.self.inside.reported; offers = c.self.inside.offers.entries }) c.args.id.now c.args.relay c.has.result c.offers-relays.result c.self.view_is c.has.ensures.value c.offers-relays.ensures.value c.if-not-has.false in
+    absurd (false≢true (sym (ap is_some c.in_err-insert.ensures.absent) ∙ is))
 
 pub returns-then-is_empty-clause-table : goal.returns-then-is_empty-clause-table
-returns-then-is_empty-clause-table c = invariant_of-self c
+returns-then-is_empty-clause-table c = (invariant_of-self c).table
 
 pub returns-then-is_empty-clause-offers : goal.returns-then-is_empty-clause-offers
 returns-then-is_empty-clause-offers c i r =
@@ -81,4 +117,4 @@ returns-in_ok-insert-clause-offers c i r =
     ∙ ap (λ (t : Table). is_among (relays_of t.offers i) r && not (is_id k i && (r == c.args.relay))) c.self.view_is
 
 pub returns-in_ok-insert-clause-table : goal.returns-in_ok-insert-clause-table
-returns-in_ok-insert-clause-table c = invariant_of-self-in_ok-insert c
+returns-in_ok-insert-clause-table c = (invariant_of-self-in_ok-insert c).table

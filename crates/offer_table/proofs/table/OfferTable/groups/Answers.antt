@@ -1,0 +1,16 @@
+use Rattle.std.proofs.Common.{◌≡◌, ℕ, List, length, sym, ap, ◌∙◌, subst}
+use Rattle.offer_table.specs.Table.{Table}
+use Rattle.offer_table.specs.Groups.{groups_of}
+use Rattle.offer_table.proofs.RowEdits.{Rows}
+use Rattle.sharing.specs.Offers.{IsOffers}
+use Rattle.offer_table.proofs.Grouped.{rows_are_groups}
+use Rattle.offer_table.proofs.Partition.{are_groups}
+use Rattle.offer_table.proofs.table.OfferTable.groups.Goals as goal
+
+pub returns-clause-count : goal.returns-clause-count
+returns-clause-count c =
+    let are : c.self.inside.groups ≡ groups_of c.self.inside.offers.entries = rows_are_groups c.self.inside.offers.entries c.self.inside.groups c.self.invariant.table.offers_ok.relays c.self.invariant.rows c.self.invariant.grouped in
+    c.len.ensures.count ∙ ap length are ∙ ap (λ (t : Table). length (groups_of t.offers)) c.self.view_is
+
+pub returns-clause-groups : goal.returns-clause-groups
+returns-clause-groups c = are_groups c.args.self.now.offers (subst (λ (t : Table). IsOffers t.offers) c.self.view_is c.self.invariant.table.offers_ok)
