@@ -146,54 +146,6 @@ fn the_last_offer_takes_the_id_away(rt: HostRuntime) -> Result<(), Fail> {
     Ok(())
 }
 
-/// Offers of this many numbered ids, each by two relays.
-fn offers_of(alloc: Global, count: u32) -> Result<Vec<(Id, Vec<u16>)>, AllocError> {
-    let mut offers = Vec::new(alloc);
-    for number in 0..count {
-        let first = (number % 32) as u16;
-        let relays = vec![in alloc; first, first + 32]?;
-        offers.push((numbered(number), relays))?;
-    }
-    Ok(offers)
-}
-
-#[test]
-fn known_offers_make_a_table(rt: HostRuntime) -> Result<(), Fail> {
-    let offers = offers_of(rt.alloc(), 3)?;
-    let table = OfferTable::of_offers(rt.alloc(), &offers)
-        .ok()
-        .ok_or("no table of offers")?;
-    let listed = table.ids().copied().collect::<Vec<Id>>(rt.alloc())?;
-    assert!(rt; listed.as_slice() == [numbered(0), numbered(1), numbered(2)].as_slice());
-    for number in 0..3u16 {
-        let relays = table.offers(&numbered(u32::from(number)));
-        for relay in 0..66u16 {
-            let there = relay == number || relay == number + 32;
-            assert_eq!(rt; relays.has(relay), there, "relay {relay} of {number}");
-        }
-    }
-    for relay in 0..66u16 {
-        let there = relay < 3 || (32..35).contains(&relay);
-        assert_eq!(rt; table.reported().has(relay), there, "relay {relay}");
-    }
-    Ok(())
-}
-
-#[test]
-fn offers_of_too_many_ids(rt: HostRuntime) -> Result<(), Fail> {
-    let mut offers = offers_of(rt.alloc(), 200_001)?;
-    match OfferTable::of_offers(rt.alloc(), &offers) {
-        Ok(_) => Err("a table of 200,001 ids")?,
-        Err(fault) => assert_eq!(rt; fault, OfferFault::TableFull),
-    }
-    offers.pop();
-    match OfferTable::of_offers(rt.alloc(), &offers) {
-        Ok(table) => assert_eq!(rt; table.ids().count(), 200_000),
-        Err(_) => Err("no table of 200,000 ids")?,
-    }
-    Ok(())
-}
-
 /// The relays and the ids of each group, by the numbers of the ids.
 fn is_group(table: &OfferTable, k: usize, relays: &[u16], numbers: &[u32]) -> bool {
     let (set, ids) = table.group_at(k);

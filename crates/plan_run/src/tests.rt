@@ -2,6 +2,8 @@
 
 use crate::{plan_file, read_file, run_check, run_plan};
 use mirror_run::Refusal;
+use neg_codec::Id;
+use offer_table::OfferTable;
 use plan_check::check;
 use std::alloc::Global;
 use std::io;
@@ -279,6 +281,31 @@ fn a_file_is_read_and_planned(rt: HostRuntime) -> Result<(), Fail> {
     assert_eq!(rt; (made.offers().len(), made.gives().len()), (2, 2));
     assert!(rt; made.gives()[0].1 == 1 && made.gives()[1].1 == 0);
     assert!(rt; made.group() == [0u16, 1].as_slice());
+    Ok(())
+}
+
+#[test]
+fn the_offers_of_a_file_make_a_table(rt: HostRuntime) -> Result<(), Fail> {
+    let alloc = rt.alloc();
+    let text = plan_text(alloc, &["offer a 0 33", "offer b 33 63", "group"])?;
+    let file = read_file(alloc, &mut text.as_str().as_bytes())
+        .ok()
+        .ok_or("not read")?;
+    let table = OfferTable::of_offers(alloc, file.offers())
+        .ok()
+        .ok_or("no table")?;
+    assert_eq!(rt; table.ids().count(), 2);
+    for (byte, relays) in [(0x0a, [0, 33]), (0x0b, [33, 63])] {
+        let offered = table.offers(&Id([byte; 32]));
+        for relay in 0..66u16 {
+            let there = relay == relays[0] || relay == relays[1];
+            assert_eq!(rt; offered.has(relay), there, "relay {relay} of {byte}");
+        }
+    }
+    for relay in 0..66u16 {
+        let there = relay == 0 || relay == 33 || relay == 63;
+        assert_eq!(rt; table.reported().has(relay), there, "relay {relay}");
+    }
     Ok(())
 }
 

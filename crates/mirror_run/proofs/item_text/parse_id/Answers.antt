@@ -1,4 +1,4 @@
-use Rattle.std.proofs.Common.{rules, ◌≡◌, ℕ, length, ◌+◌, ◌*◌, ◌/◌, ◌%◌, ◌<◌, ◌≤◌, ap, sym, ◌∙◌, arith, get_or, slice_index, take, take_all, refl}
+use Rattle.std.proofs.Common.{rules, ◌≡◌, length, ◌*◌, ◌<◌, ap, sym, ◌∙◌, arith, slice_index, take, take_all, refl}
 use Rattle.std.proofs.lemmas.List.Elements.{All-push, All-nil}
 use Rattle.std.proofs.lemmas.List.{take_more_set}
 use Rattle.hex.specs.Hex.{encode_lower, encode_with, lower_digits}
