@@ -178,7 +178,7 @@ module _ (args : List Text) where
       elim (pick (λ s. answers_to p.0 (label_of s)) (sub_at 0) (sub_at 1) (sub_at 2) (sub_at 3) (flipped p.0 (codes "help") apart)) [
         | inl none ↦ absurd (has_one _ _ (found_none p.1 found none) f)
         | inr some ↦ elim some [
-          | inl first ↦ (Recon, name ∙ first)
+          | inl first ↦ (Recon 60000, name ∙ first)
           | inr others ↦ elim others [ inl second ↦ (Plan, name ∙ second) | inr third ↦ (Check, name ∙ third) ]
         ]
       ]

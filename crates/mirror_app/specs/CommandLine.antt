@@ -1,13 +1,18 @@
 -- The words that the program takes.
-use Rattle.std.specs.Prelude.{◌≡◌, ◌≢◌, true, List, ℕ, [], codes, Option, Some, option_map}
-use Rattle.clap.specs.Words.{App, Text, new_app, with_subcommand, subcommand_of, fault_of}
+use Rattle.std.specs.Prelude.{◌≡◌, ◌≢◌, ◌≤◌, true, List, ℕ, [], codes, Option, Some, option_map}
+use Rattle.clap.specs.Words.{App, Rule, Text, new_app, new_rule, with_rule, with_subcommand, subcommand_of, fault_of}
+use Rattle.clap.specs.declared.builder.value_parser.ValueParser.TheVariants as parser
 use Rattle.mirror_app.specs.declared.words.Words.{Words}
 use Rattle.mirror_app.specs.declared.words.Words.TheVariants.{Recon, Plan, Check}
 use Rattle.mirror_app.specs.declared.words.WordsFault.{WordsFault}
 use Rattle.mirror_app.specs.declared.words.WordsFault.TheVariants.{Usage, Memory}
 
+-- `--limit N`, a number from 4,096 to 1,048,576
+abbrev pub limit_rule : Rule
+limit_rule = record (new_rule (codes "limit")) { long = Some (codes "limit"); value_names = 1; parser = Some (parser.Unsigned 4096 1048576) }
+
 abbrev pub recon : App
-recon = new_app (codes "recon")
+recon = with_rule (new_app (codes "recon")) limit_rule
 
 abbrev pub plan : App
 plan = new_app (codes "plan")
@@ -28,9 +33,14 @@ nostr_mirror = with_subcommand (with_subcommand (with_subcommand program recon.t
 
 -- the name of the subcommand
 abbrev pub name_of : Words → Text
-name_of Recon = codes "recon"
+name_of (Recon limit) = codes "recon"
 name_of Plan = codes "plan"
 name_of Check = codes "check"
+
+-- the limit of a session's messages is in its range
+abbrev pub IsWithin : Words → Type 0
+IsWithin (Recon limit) = (4096 ≤ limit) × (limit ≤ 1048576)
+IsWithin job = Unit {0}
 
 -- the name of a job
 abbrev pub IsJob : Option Text → Type 0

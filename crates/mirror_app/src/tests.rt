@@ -17,7 +17,9 @@ fn named(alloc: Global, line: &str) -> Result<Vec<String>, Fail> {
 fn words_that_name_a_job_and_others(rt: HostRuntime) -> Result<(), Fail> {
     let alloc = rt.alloc();
     for (line, job) in [
-        ("recon", Words::Recon),
+        ("recon", Words::Recon(60_000)),
+        ("recon --limit 4096", Words::Recon(4_096)),
+        ("recon --limit=1048576", Words::Recon(1_048_576)),
         ("plan", Words::Plan),
         ("check", Words::Check),
     ] {
@@ -34,7 +36,14 @@ fn words_that_name_a_job_and_others(rt: HostRuntime) -> Result<(), Fail> {
         "help",
         "recon --help",
         "recon more",
-        "recon --limit 5000",
+        "--limit 5000 recon",
+        "recon --limit",
+        "recon --limit 4095",
+        "recon --limit 1048577",
+        "recon --limit -5000",
+        "recon --limit 5000x",
+        "recon --limit 5000 --limit 5000",
+        "plan --limit 5000",
         "plan more",
         "plan --help",
         "plan check",

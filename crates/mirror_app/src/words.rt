@@ -1,20 +1,30 @@
 //! The job that the program's words name.
 
-ghost use Rattle.std.specs.Prelude.{◌≡◌, ◌≢◌, false, map, Some, IfOk, OnOk, IfErr, string_bytes};
-ghost use Rattle.clap.specs.Words.{app_of, kind_of, shape_of, subcommand_name_of};
+ghost use Rattle.std.specs.Prelude.{◌≡◌, ◌≢◌, ◌≤◌, false, map, Some, IfOk, OnOk, IfErr, string_bytes};
+ghost use Rattle.clap.specs.Words.{app_of, kind_of, rule_of, shape_of, subcommand_name_of};
 ghost use Rattle.clap.specs.declared.builder.command.Command.TheViews.{out-Command as fields_of};
 ghost use Rattle.clap.specs.Simple.{new_shape};
-ghost use Rattle.mirror_app.specs.CommandLine.{nostr_mirror, program as the_program, name_of, IsJob, IsNamed, IsAccepted, IsUsage, IsDue};
+ghost use Rattle.mirror_app.specs.CommandLine.{nostr_mirror, program as the_program, recon as the_recon, limit_rule, name_of, IsJob, IsWithin, IsNamed, IsAccepted, IsUsage, IsDue};
 
 use clap::error::ErrorKind;
-use clap::{ArgMatches, Command, Error};
+use clap::{Arg, ArgMatches, Command, Error, value_parser};
 use std::alloc::{AllocError, Global};
+
+/// How many bytes a message may have at least.
+const LEAST_LIMIT: usize = 4_096;
+
+/// How many it may have at most.
+const MOST_LIMIT: usize = 1_048_576;
+
+/// How many it may have where no limit is named.
+const DEFAULT_LIMIT: usize = 60_000;
 
 /// What the program is to do.
 #[derive(Clone, Copy, Debug, PartialEq, Eq)]
 pub enum Words {
-    /// Compare two lists of items, read from standard input.
-    Recon,
+    /// Compare two lists of items, read from standard input, by messages of at most so many bytes, 4,096 to
+    /// 1,048,576.
+    Recon(usize),
     /// Share out the offers of a plan text, read from standard input.
     Plan,
     /// Tell the busiest load of a plan text, read from standard input, where no sharing has less.
@@ -49,6 +59,31 @@ fn bare<'a>(alloc: Global, name: &'a str, about: &'a str) -> Command<'a>
     Command::new(alloc, name).about(about)
 }
 
+/// The option for the bytes that a message may have.
+fn limit_option<'a>(alloc: Global) -> Arg<'a>
+    ensures rule { rule_of result ≡ limit_rule }
+    ensures local { result.global ≡ false }
+{
+    Arg::new(alloc, "limit")
+        .long("limit")
+        .value_name("N")
+        .help("How many bytes a message may have, 4096 to 1048576 [default: 60000]")
+        .value_parser(value_parser!(usize).range(4096..=1_048_576))
+}
+
+/// The subcommand that compares two lists.
+fn recon<'a>(alloc: Global) -> Result<Command<'a>, AllocError>
+    ensures shape { IfOk result (λ c. shape_of c ≡ the_recon.top) }
+    ensures local { IfOk result (λ c. (fields_of c).has_globals ≡ false) }
+{
+    bare(
+        alloc,
+        "recon",
+        "Compares two lists of items, read from standard input, and prints the messages",
+    )
+    .arg(limit_option(alloc))
+}
+
 /// The program without its subcommands.
 fn program<'a>(alloc: Global) -> Result<Command<'a>, AllocError>
     ensures { IfOk result (λ c. app_of c ≡ the_program) }
@@ -64,11 +99,7 @@ fn program<'a>(alloc: Global) -> Result<Command<'a>, AllocError>
 fn command<'a>(alloc: Global) -> Result<Command<'a>, AllocError>
     ensures { IfOk result (λ c. app_of c ≡ nostr_mirror) }
 {
-    let recon = bare(
-        alloc,
-        "recon",
-        "Compares two lists of items, read from standard input, and prints the messages",
-    );
+    let recon = recon(alloc)?;
     let plan = bare(
         alloc,
         "plan",
@@ -85,17 +116,31 @@ fn command<'a>(alloc: Global) -> Result<Command<'a>, AllocError>
         .subcommand(check)
 }
 
+/// The limit that the words name, or the default.
+fn limit_of(matches: &ArgMatches) -> usize
+    ensures { (4096 ≤ result) × (result ≤ 1048576) }
+{
+    let Some(recon) = matches.subcommand_matches("recon") else {
+        return DEFAULT_LIMIT;
+    };
+    match recon.get_one::<usize>("limit") {
+        Some(limit) if LEAST_LIMIT <= limit && limit <= MOST_LIMIT => limit,
+        _ => DEFAULT_LIMIT,
+    }
+}
+
 /// The job of the subcommand that was met.
 fn job_of(matches: &ArgMatches) -> Words
     requires { IsJob (subcommand_name_of matches.now) }
-    ensures { subcommand_name_of matches.now ≡ Some (name_of result) }
+    ensures name { subcommand_name_of matches.now ≡ Some (name_of result) }
+    ensures limit { IsWithin result }
 {
     if matches.subcommand_matches("plan").is_some() {
         Words::Plan
     } else if matches.subcommand_matches("check").is_some() {
         Words::Check
     } else {
-        Words::Recon
+        Words::Recon(limit_of(matches))
     }
 }
 
@@ -116,6 +161,7 @@ fn fault_of(alloc: Global, error: Error) -> WordsFault
 pub fn read_words(alloc: Global, words: &[String]) -> Result<Words, WordsFault>
     ensures accepted { OnOk result (IsAccepted (map string_bytes words.now)) }
     ensures named { IfOk result (IsNamed (map string_bytes words.now)) }
+    ensures limit { IfOk result IsWithin }
     ensures refused { IfErr result (IsDue (map string_bytes words.now)) }
 {
     let command = command(alloc)?;

@@ -61,4 +61,4 @@ returns-in-Ok-clause-named c =
     let app = c.in_ok-command.ensures in
     let words : List Text = map string_bytes c.args.words.now in
     let taken = ap (λ (a : App). fault_of a words) (sym app) ∙ c.in-Ok.ensures.kinds (ap is_simple_and_free app ∙ is_plain) in
-    sym (same_name (app_of c.in_ok-command.command) words c.in-Ok.matches app taken c.in-Ok.ensures.matches) ∙ c.job_of.ensures
+    sym (same_name (app_of c.in_ok-command.command) words c.in-Ok.matches app taken c.in-Ok.ensures.matches) ∙ c.job_of.ensures.name
