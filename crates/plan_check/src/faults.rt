@@ -7,7 +7,7 @@ use std::alloc::{AllocError, AllocFailed};
 
 #[derive(Clone, Copy, Debug, PartialEq, Eq)]
 pub enum PlanFault {
-    /// The line with this number is not of the form, is out of place or is missing.
+    /// The line with this number, counted from 1, is not of the form, is out of place or is missing.
     Line(usize),
     /// The id of the line with this number is not above that of the line before with the same word, or its relays do
     /// not ascend.
