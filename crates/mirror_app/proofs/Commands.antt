@@ -1,5 +1,5 @@
 -- Commands made of subcommands.
-use Rattle.std.proofs.Common.{◌≡◌, false, Result, Ok, Err, refl, sym, ap, ◌∙◌}
+use Rattle.std.proofs.Common.{◌≡◌, false, Result, Ok, Err, ap, ◌∙◌}
 use Rattle.std.specs.Prelude.{IfOk}
 use Rattle.std.specs.declared.alloc.AllocError.{AllocError}
 use Rattle.clap.specs.Words.{App, Shape, app_of, shape_of, with_subcommand, AddsSubcommand}

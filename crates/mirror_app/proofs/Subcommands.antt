@@ -1,11 +1,11 @@
 -- Which subcommand is found in words that clap takes.
 use Rattle.std.proofs.Common.{◌≡◌, ℕ, get_or, ◌⊎◌, inl, inr, Bool, true, false, not, ◌&&◌, ◌||◌, cond, List, [], ◌∷◌, ◌++◌, Option, None, Some, refl, sym, ap, ◌∙◌, subst}
-use Rattle.std.specs.Prelude.{codes, fold, find, is_some, option_map, if◌then◌else◌}
+use Rattle.std.specs.Prelude.{codes, fold, find, is_some, option_map}
 use Rattle.std.specs.Str.{bytes_eq}
 use Rattle.std.proofs.lemmas.Bool.{cases_Bool, false≢true}
 use Rattle.std.proofs.lemmas.Slice.Eq.{bytes_eq-Decides}
 use Rattle.clap.specs.Lexer.{long_of, short_of}
-use Rattle.clap.specs.Walk.{Held, Names, Outcome, Rule, Step, Text, Waiting, Walk, walked, subcommand_or_other, long_or_other, short_or_plain, after_flag, plain_word, after_step, to_positional, arg_by_index, subcommand_met, word_met}
+use Rattle.clap.specs.Walk.{Held, Names, Outcome, Rule, Step, Text, Waiting, Walk, walked, subcommand_or_other, long_or_other, short_or_plain, after_flag, plain_word, after_step, to_positional, arg_by_index, subcommand_met}
 use Rattle.clap.specs.Walk.{answers_to, finished, nothing_held, walk, walk_from}
 use Rattle.clap.specs.Walk.{done, waits, plain, refused, idle, option, positional, next, trailing, subcommand, value}
 use Rattle.clap.specs.Simple.{App, Shape, argument_words, built, entered, label_of, names_of, rows_at, subcommand_of}

@@ -46,3 +46,7 @@ abbrev pub RoundTrip : Type 0
 RoundTrip =
     (text : List ℕ) (file : File) (result : Result File PlanFault)
     → IsTextOf text file → Reads text result → (result ≡ Ok file) ⊎ (result ≡ Err Memory)
+
+-- a text is refused by one fault at most, memory aside
+abbrev pub OneFault : Type 0
+OneFault = (text : List ℕ) (f g : PlanFault) → IsReadFault text f → IsReadFault text g → (f ≡ g) ⊎ ((f ≡ Memory) ⊎ (g ≡ Memory))

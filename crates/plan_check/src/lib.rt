@@ -14,7 +14,7 @@ mod writing;
 
 pub use faults::PlanFault;
 pub use file::PlanFile;
-pub use laws::{one_answer, one_file, round_trip};
+pub use laws::{one_answer, one_fault, one_file, round_trip};
 pub use reading::read_plan;
 pub use verdict::check;
 pub use writing::write_plan;

@@ -1,3 +1,4 @@
 pub mod Gathered
 pub mod Done
 pub mod Passing
+pub mod Failing

@@ -1,9 +1,17 @@
 //! Laws of the jobs.
 
-ghost use Rattle.plan_run.specs.Laws.{LeastTextsPass, FaultyTextsFail, PlannedTextsPass};
+ghost use Rattle.plan_run.specs.Laws.{FaultyLinesFail, LeastTextsPass, FaultyTextsFail, PlannedTextsPass};
 
-use plan_check::{one_answer, round_trip};
+use plan_check::{one_answer, one_fault, round_trip};
 use sharing::pigeonhole;
+
+/// The jobs refuse a text by its first line that is wrong, or by the first that is out of order.
+pub fn faulty_lines_fail()
+    ensures { FaultyLinesFail }
+{
+    one_fault();
+    round_trip();
+}
 
 /// The job `check` tells the load of a plan text whose gives are a sharing that the group shows to be least.
 pub fn least_texts_pass()

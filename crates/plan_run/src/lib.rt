@@ -9,7 +9,7 @@ mod reading;
 mod writing;
 
 pub use checking::run_check;
-pub use laws::{faulty_texts_fail, least_texts_pass, planned_texts_pass};
+pub use laws::{faulty_lines_fail, faulty_texts_fail, least_texts_pass, planned_texts_pass};
 pub use planning::{plan_file, run_plan};
 pub use reading::read_file;
 

@@ -4,7 +4,7 @@ use Rattle.clap.specs.Words.{App, app_of, is_simple_and_free, fault_of}
 use Rattle.std.specs.Prelude.{option_map, Box}
 use Rattle.std.specs.Box.{box_value}
 use Rattle.std.proofs.Common.{Option, None, Some}
-use Rattle.clap.specs.Simple.{subcommand_rows, subcommand_rows_of}
+use Rattle.clap.specs.Simple.{subcommand_rows}
 use Rattle.clap.specs.Words.{subcommand_name_of, subcommand_of, HasMatchesOf, Text, is_simple}
 use Rattle.clap.specs.declared.parser.matches.ArgMatches.{ArgMatches}
 use Rattle.clap.specs.declared.parser.matches.ArgMatches.TheViews.{out-ArgMatches, out-SubCommand}
