@@ -88,7 +88,8 @@ impl RelaySet {
         ensures value { result ≡ bits_of self }
         ensures members { members result ≡ self }
     {
-        self.bits
+        let RelaySet { bits } = self;
+        bits
     }
 
     /// Whether the set has no member.

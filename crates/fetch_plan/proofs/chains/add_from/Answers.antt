@@ -1,6 +1,5 @@
 use Rattle.std.proofs.Common.{◌≡◌, ◌<◌, ◌≤◌, ◌+◌, ◌++◌, ◌∷◌, [], false, ℕ, List, arith, refl, sym, ap, ◌∙◌, get_or, length, take, subst}
 use Rattle.std.specs.List.{All, list_any}
-use Rattle.sharing.specs.declared.TheConstants.{RELAYS}
 use Rattle.std.proofs.lemmas.List.{take_more, take_all}
 use Rattle.fetch_plan.specs.declared.groups.Group.{Group}
 use Rattle.sharing.specs.Sharing.{is_among}

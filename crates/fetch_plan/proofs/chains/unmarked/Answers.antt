@@ -1,4 +1,4 @@
-use Rattle.std.proofs.Common.{◌≡◌, ◌<◌, ◌+◌, ◌==◌, ◌||◌, ℕ, Bool, true, false, sym, ◌∙◌, ap, inl, inr, arith, get_or}
+use Rattle.std.proofs.Common.{◌==◌, false, sym, ◌∙◌, ap, inl, inr, arith, get_or}
 use Rattle.std.proofs.lemmas.Bool.{cases_eq, eq-eqb, or_left, or_right, false≢true}
 use Rattle.sharing.specs.Sharing.{is_among}
 use Rattle.fetch_plan.specs.Shares.{is_marked}
