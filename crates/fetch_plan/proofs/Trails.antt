@@ -2,13 +2,14 @@
 use Rattle.std.proofs.Common.{◌≡◌, ◌≢◌, ℕ, zero, suc, ◌+◌, ◌*◌, ◌<◌, ◌≤◌, Bool, true, false, cond, not, List, [], ◌∷◌, ◌++◌, length, get_or, set, refl, sym, ap, ◌∙◌, subst, arith, inl, inr, Some, None, ◌==◌, ◌⊎◌}
 use Rattle.sharing.specs.declared.TheConstants.{RELAYS}
 use Rattle.std.specs.Option.{is_some}
-use Rattle.std.specs.List.{count_by, sum}
-use Rattle.std.proofs.lemmas.Bool.{false≢true, cases_lt, cases_eq, cases_Bool, or_cases, eqb-true}
+use Rattle.std.specs.List.{count_by, sum, list_any}
+use Rattle.std.proofs.lemmas.Bool.{false≢true, cases_lt, cases_eq, cases_Bool, or_cases, eqb-true, or_left, or_right}
 use Rattle.std.proofs.lemmas.List.{get_or_push, length_push, get_or-set_same, get_or-set_other, length-set}
 use Rattle.std.proofs.Math.ListN.{get_or-append}
 use Rattle.std.proofs.lemmas.List.Folds.{list_any-append}
 use Rattle.std.proofs.lemmas.List.Sums.{sum_by-set, sum_by-cons, get_or-le-sum_by}
 use Rattle.sharing.specs.Sharing.{is_among}
+use Rattle.sharing.specs.Offers.{AreRelays}
 use Rattle.sharing.proofs.Looks.{among_each}
 use Rattle.fetch_plan.specs.Shares.{is_marked}
 use Rattle.fetch_plan.specs.Groups.{amount, shared_by, total, no_group, AreGroups, AreLarge}
@@ -459,3 +460,21 @@ all_marked steps marked h all r lt =
 pub all_closed : (enough : ℕ) (groups : List Group) (n relay : ℕ) (steps : List Step) (marked : List Bool) → AreGroups groups → n ≤ length groups → AreMarked steps marked → RELAYS ≤ length steps → IsClosedAt enough groups n relay marked
 all_closed enough groups n relay steps marked ok le h all k r lt some among =
     all_marked steps marked h all r (among_each (λ r. r < RELAYS) (shared_by groups k) r (ok.relays k (omega arith)).small among)
+
+-- a test that a member passes
+any_member : (test : ℕ → Bool) (xs : List ℕ) (r : ℕ) → is_among xs r ≡ true → test r ≡ true → list_any test xs ≡ true
+any_member test [] r h passes = absurd (false≢true h)
+any_member test (x ∷ xs) r h passes =
+    elim (or_cases (r == x) (is_among xs r) h) [
+      | inl e ↦ or_left (test x) (list_any test xs) (ap test (sym (eqb-true r x e)) ∙ passes)
+      | inr e ↦ or_right (test x) (list_any test xs) (any_member test xs r e passes)
+    ]
+
+-- relays of which none is left are marked
+pub none_left : (others relays : List ℕ) (marked : List Bool) → list_any (is_among others) relays ≡ false → ((r : ℕ) → r < RELAYS → is_marked marked r ≡ false → is_among others r ≡ true) → AreRelays relays →
+    (r : ℕ) → is_among relays r ≡ true → is_marked marked r ≡ true
+none_left others relays marked none left ok r among =
+    elim (cases_Bool (is_marked marked r)) [
+      | inl t ↦ t
+      | inr f ↦ absurd (false≢true (sym none ∙ any_member (is_among others) relays r among (left r (among_each (λ r. r < RELAYS) relays r ok.small among) f)))
+    ]

@@ -49,6 +49,11 @@ pub record AreCounts (groups : List Group) (counts : List ℕ) : Type 0 where
   pub long : length counts ≡ length groups
   pub totals : (k : ℕ) → k < length groups → slice_index_or counts k 0 ≡ total groups k
 
+-- the relays that offer each group
+pub record AreSets (groups : List Group) (sets : List (List ℕ)) : Type 0 where
+  pub long : length sets ≡ length groups
+  pub relays : (k : ℕ) → k < length groups → slice_index_or sets k [] ≡ shared_by groups k
+
 -- these places are those of all groups that have enough ids
 pub record AreLarge (enough : ℕ) (groups : List Group) (places : List ℕ) : Type 0 where
   pub within : All (λ k. k < length groups) places

@@ -8,10 +8,11 @@ ghost use Rattle.sharing.specs.declared.TheConstants.{MOST_IDS};
 ghost use Rattle.sharing.specs.Sharing.{is_among};
 ghost use Rattle.fetch_plan.specs.declared.groups.Group.{Group};
 ghost use Rattle.fetch_plan.specs.Shares.{is_marked};
-ghost use Rattle.fetch_plan.specs.Groups.{amount, shared_by, total, AreGroups, AreCounts, AreLarge, AreGiven, AreSame, AreLoadsOf, IsMoved};
+ghost use Rattle.fetch_plan.specs.Groups.{amount, shared_by, total, AreGroups, AreCounts, AreSets, AreLarge, AreGiven, AreSame, AreLoadsOf, IsMoved};
 ghost use Rattle.fetch_plan.specs.Trail.{relay_at, IsTrail, AreMarked, Extends, StayMarked, IsClosedAt, PassesOn, AreStarts, from_at, squares, AreSettled};
 
 use crate::groups::Group;
+use offer_table::RelaySet;
 use sharing::{RELAYS, SLOTS};
 use std::alloc::{AllocError, Global};
 
@@ -69,9 +70,23 @@ fn add_steps(
     Ok(())
 }
 
+/// The relays that are not marked.
+fn unmarked(marked: &[bool; SLOTS]) -> RelaySet
+    ensures { (r : ℕ) → r < RELAYS → is_marked marked.now r ≡ false → is_among result r ≡ true }
+{
+    let mut relays = RelaySet::empty();
+    for relay in 0..RELAYS {
+        if !marked[usize::from(relay)] {
+            relays = relays.with(relay);
+        }
+    }
+    relays
+}
+
 /// Adds all relays that offer a group of which enough ids are given to the relay of the step at `next`.
 fn add_from(
     level: &Level,
+    sets: &[RelaySet],
     groups: &[Group],
     next: usize,
     steps: &mut Vec<Step>,
@@ -79,6 +94,7 @@ fn add_from(
 ) -> Result<(), AllocError>
     requires groups { AreGroups groups.now }
     requires large { AreLarge level.now.some groups.now level.now.places.items }
+    requires sets { AreSets groups.now sets.now }
     requires next { next < length steps.old.items }
     requires trail { IsTrail level.now.some groups.now steps.old.items }
     requires marks { AreMarked steps.old.items marked.old }
@@ -89,13 +105,15 @@ fn add_from(
     ensures closed { OnOk result (IsClosedAt level.now.some groups.now (length groups.now) (relay_at steps.old.items next) marked.new) }
 {
     let slot = usize::from(steps[next].relay);
+    let mut others = unmarked(marked);
     for place in &level.places {
-        if groups[*place].given[slot] >= level.some {
+        if sets[*place].meets(others) && groups[*place].given[slot] >= level.some {
             let link = Link {
                 parent: next,
                 place: *place,
             };
             add_steps(level.some, groups, link, steps, marked)?;
+            others = unmarked(marked);
         }
     }
     Ok(())
@@ -145,6 +163,7 @@ fn low_step(some: u64, loads: &[u64; SLOTS], most: u64, steps: &[Step]) -> Optio
 /// nowhere else.
 fn search(
     level: &Level,
+    sets: &[RelaySet],
     groups: &[Group],
     loads: &[u64; SLOTS],
     most: u64,
@@ -153,6 +172,7 @@ fn search(
 ) -> Result<Option<usize>, AllocError>
     requires groups { AreGroups groups.now }
     requires large { AreLarge level.now.some groups.now level.now.places.items }
+    requires sets { AreSets groups.now sets.now }
     requires bound { (r : ℕ) → r < RELAYS → slice_index loads.now r ≤ most }
     requires trail { IsTrail level.now.some groups.now steps.old.items }
     requires marks { AreMarked steps.old.items marked.old }
@@ -171,7 +191,7 @@ fn search(
             return Ok(Some(end));
         }
         if steps.len() < SLOTS {
-            add_from(level, groups, next, steps, marked)?;
+            add_from(level, sets, groups, next, steps, marked)?;
         }
         next += 1;
     }
@@ -237,6 +257,7 @@ pub(crate) fn greatest(loads: &[u64; SLOTS]) -> u64
 fn settle_once(
     alloc: Global,
     level: &Level,
+    sets: &[RelaySet],
     groups: &mut [Group],
     loads: &mut [u64; SLOTS],
     marked: &mut [bool; SLOTS],
@@ -244,6 +265,7 @@ fn settle_once(
     requires some { 0 < level.now.some }
     requires loads { AreLoadsOf groups.old loads.old }
     requires given { AreGiven groups.old }
+    requires sets { AreSets groups.old sets.now }
     requires large { AreLarge level.now.some groups.old level.now.places.items }
     requires unmarked { (r : ℕ) → is_marked marked.old r ≡ false }
     ensures loads { OnOk result (AreLoadsOf groups.new loads.new) }
@@ -254,7 +276,7 @@ fn settle_once(
 {
     let most = greatest(loads);
     let mut steps = first_steps(alloc, loads, most, marked)?;
-    match search(level, groups, loads, most, &mut steps, marked)? {
+    match search(level, sets, groups, loads, most, &mut steps, marked)? {
         None => Ok(true),
         Some(end) => {
             let to = steps[end].relay;
@@ -270,12 +292,14 @@ fn settle_once(
 fn settle_by(
     alloc: Global,
     level: &Level,
+    sets: &[RelaySet],
     groups: &mut [Group],
     loads: &mut [u64; SLOTS],
 ) -> Result<[bool; SLOTS], AllocError>
     requires some { 0 < level.now.some }
     requires loads { AreLoadsOf groups.old loads.old }
     requires given { AreGiven groups.old }
+    requires sets { AreSets groups.old sets.now }
     requires large { AreLarge level.now.some groups.old level.now.places.items }
     ensures loads { OnOk result (AreLoadsOf groups.new loads.new) }
     ensures given { OnOk result (AreGiven groups.new) }
@@ -284,7 +308,7 @@ fn settle_by(
 {
     'chains: loop {
         let mut marked = [false; SLOTS];
-        if settle_once(alloc, level, groups, loads, &mut marked)? {
+        if settle_once(alloc, level, sets, groups, loads, &mut marked)? {
             return Ok(marked);
         }
     }
@@ -312,6 +336,17 @@ fn counts_of(alloc: Global, groups: &[Group]) -> Result<Vec<u64>, AllocError>
         counts.push(count_of(group))?;
     }
     Ok(counts)
+}
+
+/// The relays that offer each group.
+fn sets_of(alloc: Global, groups: &[Group]) -> Result<Vec<RelaySet>, AllocError>
+    ensures { IfOk result (λ sets. AreSets groups.now sets.items) }
+{
+    let mut sets = Vec::new(alloc);
+    for group in groups {
+        sets.push(group.relays)?;
+    }
+    Ok(sets)
 }
 
 /// Where so many ids move at once.
@@ -356,10 +391,17 @@ pub(crate) fn settle(
     ensures settled { IfOk result (λ marked. (most : ℕ) × AreSettled 1 groups.new most marked) }
 {
     let counts = counts_of(alloc, groups)?;
+    let sets = sets_of(alloc, groups)?;
     let mut some = most_of(&counts);
     while some > 1 {
-        settle_by(alloc, &level_of(alloc, &counts, some)?, groups, loads)?;
+        settle_by(
+            alloc,
+            &level_of(alloc, &counts, some)?,
+            &sets,
+            groups,
+            loads,
+        )?;
         some /= 2;
     }
-    settle_by(alloc, &level_of(alloc, &counts, 1)?, groups, loads)
+    settle_by(alloc, &level_of(alloc, &counts, 1)?, &sets, groups, loads)
 }

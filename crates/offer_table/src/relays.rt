@@ -90,7 +90,8 @@ impl RelaySet {
         ensures small { result < 2 ^ 64 }
         ensures relays { AreRelays self }
     {
-        self.bits
+        let RelaySet { bits } = self;
+        bits
     }
 
     /// The set with this number.

@@ -1,4 +1,4 @@
-use Rattle.std.proofs.Common.{◌≡◌, ◌<◌, ◌≤◌, ◌+◌, ◌*◌, ℕ, get_or, ap, sym, arith, below_more}
+use Rattle.std.proofs.Common.{arith, below_more}
 use Rattle.fetch_plan.specs.Trail.{relay_at}
 use Rattle.fetch_plan.proofs.chains.low_step.Goals as goal
 
