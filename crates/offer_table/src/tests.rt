@@ -130,6 +130,7 @@ fn large_tables_are_merged_and_struck(rt: HostRuntime) -> Result<(), Fail> {
             assert!(rt; both.strike(id, relay)?);
         }
         assert_eq!(rt; both.ids().count(), left, "after relay {relay}");
+        assert_eq!(rt; both.groups(), left.min(1), "after relay {relay}");
     }
     Ok(())
 }
@@ -146,56 +147,11 @@ fn the_last_offer_takes_the_id_away(rt: HostRuntime) -> Result<(), Fail> {
     Ok(())
 }
 
-/// Offers of this many numbered ids, each by two relays.
-fn offers_of(alloc: Global, count: u32) -> Result<Vec<(Id, Vec<u16>)>, AllocError> {
-    let mut offers = Vec::new(alloc);
-    for number in 0..count {
-        let first = (number % 32) as u16;
-        let relays = vec![in alloc; first, first + 32]?;
-        offers.push((numbered(number), relays))?;
-    }
-    Ok(offers)
-}
-
-#[test]
-fn known_offers_make_a_table(rt: HostRuntime) -> Result<(), Fail> {
-    let offers = offers_of(rt.alloc(), 3)?;
-    let table = OfferTable::of_offers(rt.alloc(), &offers)
-        .ok()
-        .ok_or("no table of offers")?;
-    let listed = table.ids().copied().collect::<Vec<Id>>(rt.alloc())?;
-    assert!(rt; listed.as_slice() == [numbered(0), numbered(1), numbered(2)].as_slice());
-    for number in 0..3u16 {
-        let relays = table.offers(&numbered(u32::from(number)));
-        for relay in 0..66u16 {
-            let there = relay == number || relay == number + 32;
-            assert_eq!(rt; relays.has(relay), there, "relay {relay} of {number}");
-        }
-    }
-    for relay in 0..66u16 {
-        let there = relay < 3 || (32..35).contains(&relay);
-        assert_eq!(rt; table.reported().has(relay), there, "relay {relay}");
-    }
-    Ok(())
-}
-
-#[test]
-fn offers_of_too_many_ids(rt: HostRuntime) -> Result<(), Fail> {
-    let mut offers = offers_of(rt.alloc(), 200_001)?;
-    match OfferTable::of_offers(rt.alloc(), &offers) {
-        Ok(_) => Err("a table of 200,001 ids")?,
-        Err(fault) => assert_eq!(rt; fault, OfferFault::TableFull),
-    }
-    offers.pop();
-    match OfferTable::of_offers(rt.alloc(), &offers) {
-        Ok(table) => assert_eq!(rt; table.ids().count(), 200_000),
-        Err(_) => Err("no table of 200,000 ids")?,
-    }
-    Ok(())
-}
-
 /// The relays and the ids of each group, by the numbers of the ids.
 fn is_group(table: &OfferTable, k: usize, relays: &[u16], numbers: &[u32]) -> bool {
+    if k >= table.groups() {
+        return false;
+    }
     let (set, ids) = table.group_at(k);
     if ids.len() != numbers.len() {
         return false;
@@ -228,5 +184,39 @@ fn ids_stand_in_groups_of_equal_relays(rt: HostRuntime) -> Result<(), Fail> {
     assert!(rt; is_group(&table, 0, &[0, 1], &[0, 1, 2, 3, 4, 5, 6, 7, 8, 9]));
     assert!(rt; is_group(&table, 1, &[2], &[15, 16, 17]));
     assert!(rt; is_group(&table, 2, &[1, 2], &[10, 11, 12, 13, 14]));
+    Ok(())
+}
+
+#[test]
+fn strikes_move_ids_between_groups(rt: HostRuntime) -> Result<(), Fail> {
+    let mut table = three_groups(rt.alloc())?;
+    assert!(rt; table.strike(&numbered(12), 1)?);
+    assert_eq!(rt; table.groups(), 3);
+    assert!(rt; is_group(&table, 1, &[2], &[12, 15, 16, 17]));
+    assert!(rt; is_group(&table, 2, &[1, 2], &[10, 11, 13, 14]));
+    assert!(rt; table.strike(&numbered(4), 1)?);
+    assert_eq!(rt; table.groups(), 4);
+    assert!(rt; is_group(&table, 0, &[0], &[4]));
+    assert!(rt; is_group(&table, 1, &[0, 1], &[0, 1, 2, 3, 5, 6, 7, 8, 9]));
+    assert!(rt; table.strike(&numbered(4), 0)?);
+    assert_eq!(rt; table.groups(), 3);
+    assert!(rt; is_group(&table, 0, &[0, 1], &[0, 1, 2, 3, 5, 6, 7, 8, 9]));
+    for number in [17, 12, 15, 16] {
+        assert!(rt; table.strike(&numbered(number), 2)?);
+    }
+    assert_eq!(rt; table.groups(), 2);
+    assert!(rt; is_group(&table, 1, &[1, 2], &[10, 11, 13, 14]));
+    assert!(rt; !table.strike(&numbered(10), 0)?);
+    assert!(rt; is_group(&table, 1, &[1, 2], &[10, 11, 13, 14]));
+    Ok(())
+}
+
+#[test]
+fn a_report_is_one_group(rt: HostRuntime) -> Result<(), Fail> {
+    let table = report(rt.alloc(), 63, &[3, 1, 2])?;
+    assert_eq!(rt; table.groups(), 1);
+    assert!(rt; is_group(&table, 0, &[63], &[1, 2, 3]));
+    assert_eq!(rt; report(rt.alloc(), 5, &[])?.groups(), 0);
+    assert_eq!(rt; OfferTable::empty(rt.alloc()).groups(), 0);
     Ok(())
 }
