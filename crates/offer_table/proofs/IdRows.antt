@@ -1,10 +1,12 @@
 -- Rows of ids in order, cut at a place.
-use Rattle.std.proofs.Common.{◌≡◌, ℕ, suc, ◌<◌, ◌≤◌, Bool, true, false, cond, not, List, [], ◌∷◌, ◌++◌, length, get_or, take, drop, refl, sym, ap, ◌∙◌, subst, arith, take-append-drop}
+use Rattle.std.proofs.Common.{◌≡◌, ℕ, suc, ◌+◌, ◌-◌, ◌<◌, ◌≤◌, Bool, true, false, cond, not, List, [], ◌∷◌, ◌++◌, length, get_or, take, drop, refl, sym, ap, ◌∙◌, subst, arith, take-append-drop}
 use Rattle.std.specs.declared.cmp.Ordering.TheVariants.{Less, Equal, Greater}
 use Rattle.std.specs.Ordering.{ordering_reverse, match_ordering, is_eq}
 use Rattle.std.specs.List.{All, insert, remove}
 use Rattle.std.specs.List.Sorted.{IsStrictlySortedBy}
 use Rattle.std.proofs.lemmas.Cmp.{tied_itself}
+use Rattle.std.proofs.lemmas.List.{length-take-le, drop_at, drop-drop}
+use Rattle.std.proofs.lemmas.List.Edits.{remove-append_right, insert-append_right}
 use Rattle.std.proofs.lemmas.List.Elements.{All-head, All-tail}
 use Rattle.neg_codec.specs.declared.Id.{Id}
 use Rattle.sharing.specs.Offers.{id_cmp, is_id, Ascend}
@@ -85,3 +87,22 @@ module _ (xs : List Id) (k : Id) (i : ℕ) where
 pub none_ascends : Ascend []
 unfolding IsStrictlySortedBy
 none_ascends = tt
+
+-- ids of which some have left at the front
+module _ (xs : List Id) (gone at : ℕ) (le : gone ≤ length xs) where
+  pub gone_remove : drop gone (remove xs (gone + at)) ≡ remove (drop gone xs) at
+  gone_remove =
+      ap (λ (l : List Id). drop gone (remove l (gone + at))) (sym (take-append-drop gone xs))
+      ∙ ap (drop gone) (remove-append_right (take gone xs) (drop gone xs) gone (gone + at) (length-take-le gone xs le) (omega arith))
+      ∙ drop_at (take gone xs) (remove (drop gone xs) (gone + at - gone)) gone (length-take-le gone xs le)
+      ∙ (let same : gone + at - gone ≡ at = omega arith in ap (remove (drop gone xs)) same)
+
+  pub gone_insert : (k : Id) → drop gone (insert xs (gone + at) k) ≡ insert (drop gone xs) at k
+  gone_insert k =
+      ap (λ (l : List Id). drop gone (insert l (gone + at) k)) (sym (take-append-drop gone xs))
+      ∙ ap (drop gone) (insert-append_right (take gone xs) (drop gone xs) gone (gone + at) k (length-take-le gone xs le) (omega arith))
+      ∙ drop_at (take gone xs) (insert (drop gone xs) (gone + at - gone) k) gone (length-take-le gone xs le)
+      ∙ (let same : gone + at - gone ≡ at = omega arith in ap (λ i. insert (drop gone xs) i k) same)
+
+pub gone_first : (xs : List Id) (gone at : ℕ) → at ≡ 0 → drop (gone + 1) xs ≡ remove (drop gone xs) at
+gone_first xs gone at e = sym (drop-drop 1 gone xs) ∙ ap (remove (drop gone xs)) (sym e)

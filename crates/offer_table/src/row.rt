@@ -9,22 +9,24 @@ use neg_codec::Id;
 use std::alloc::{AllocError, Global};
 use std::marker::Model;
 
-/// Ids in order.
+/// Ids in order. The first of them leaves in constant time; another one moves what stands behind it.
 #[derive(Drop)]
 pub(crate) struct Row {
     ids: Vec<Id>,
+    /// How many of `ids` have left at the front.
+    gone: usize,
 }
 
 impl Model for Row {
-    ghost use Rattle.std.specs.Prelude.{List};
+    ghost use Rattle.std.specs.Prelude.{List, length, drop, ◌≤◌};
     ghost use Rattle.neg_codec.specs.declared.Id.{Id};
     ghost use Rattle.sharing.specs.Offers.{Ascend};
 
     ghost Value = { List Id };
 
-    ghost view = { λ r. r.ids.items };
+    ghost view = { λ r. drop r.gone r.ids.items };
 
-    ghost invariant = { λ r. Ascend r.ids.items };
+    ghost invariant = { λ r. record { within : r.gone ≤ length r.ids.items; ascend : Ascend (drop r.gone r.ids.items) } };
 }
 
 impl Row {
@@ -34,6 +36,7 @@ impl Row {
     {
         Row {
             ids: Vec::new(alloc),
+            gone: 0,
         }
     }
 
@@ -41,13 +44,13 @@ impl Row {
         ensures ids { result.now ≡ self.now }
         ensures ascend { Ascend self.now }
     {
-        &self.ids
+        &self.ids[self.gone..]
     }
 
     pub(crate) fn is_empty(&self) -> bool
         ensures { IsTrue result ↔ (self.now ≡ []) }
     {
-        self.ids.is_empty()
+        self.as_slice().is_empty()
     }
 
     /// Where an id is, or where it would go.
@@ -55,7 +58,7 @@ impl Row {
         ensures found { IfOk result (IsHit (λ i. i) id_cmp self.now id.now) }
         ensures absent { IfErr result (IsMiss (λ i. i) id_cmp self.now id.now) }
     {
-        self.ids.binary_search(id)
+        self.as_slice().binary_search(id)
     }
 
     /// Puts an id in its place, where it is not there yet.
@@ -65,7 +68,7 @@ impl Row {
     {
         match self.place(&id) {
             Ok(_) => Ok(()),
-            Err(at) => Ok(self.ids.insert(at, id)?),
+            Err(at) => Ok(self.ids.insert(self.gone + at, id)?),
         }
     }
 
@@ -75,7 +78,11 @@ impl Row {
     {
         match self.place(id) {
             Ok(at) => {
-                self.ids.remove(at);
+                if at == 0 {
+                    self.gone += 1;
+                } else {
+                    self.ids.remove(self.gone + at);
+                }
             }
             Err(_) => {}
         }

@@ -130,6 +130,7 @@ fn large_tables_are_merged_and_struck(rt: HostRuntime) -> Result<(), Fail> {
             assert!(rt; both.strike(id, relay)?);
         }
         assert_eq!(rt; both.ids().count(), left, "after relay {relay}");
+        assert_eq!(rt; both.groups(), left.min(1), "after relay {relay}");
     }
     Ok(())
 }
@@ -148,6 +149,9 @@ fn the_last_offer_takes_the_id_away(rt: HostRuntime) -> Result<(), Fail> {
 
 /// The relays and the ids of each group, by the numbers of the ids.
 fn is_group(table: &OfferTable, k: usize, relays: &[u16], numbers: &[u32]) -> bool {
+    if k >= table.groups() {
+        return false;
+    }
     let (set, ids) = table.group_at(k);
     if ids.len() != numbers.len() {
         return false;
@@ -180,5 +184,39 @@ fn ids_stand_in_groups_of_equal_relays(rt: HostRuntime) -> Result<(), Fail> {
     assert!(rt; is_group(&table, 0, &[0, 1], &[0, 1, 2, 3, 4, 5, 6, 7, 8, 9]));
     assert!(rt; is_group(&table, 1, &[2], &[15, 16, 17]));
     assert!(rt; is_group(&table, 2, &[1, 2], &[10, 11, 12, 13, 14]));
+    Ok(())
+}
+
+#[test]
+fn strikes_move_ids_between_groups(rt: HostRuntime) -> Result<(), Fail> {
+    let mut table = three_groups(rt.alloc())?;
+    assert!(rt; table.strike(&numbered(12), 1)?);
+    assert_eq!(rt; table.groups(), 3);
+    assert!(rt; is_group(&table, 1, &[2], &[12, 15, 16, 17]));
+    assert!(rt; is_group(&table, 2, &[1, 2], &[10, 11, 13, 14]));
+    assert!(rt; table.strike(&numbered(4), 1)?);
+    assert_eq!(rt; table.groups(), 4);
+    assert!(rt; is_group(&table, 0, &[0], &[4]));
+    assert!(rt; is_group(&table, 1, &[0, 1], &[0, 1, 2, 3, 5, 6, 7, 8, 9]));
+    assert!(rt; table.strike(&numbered(4), 0)?);
+    assert_eq!(rt; table.groups(), 3);
+    assert!(rt; is_group(&table, 0, &[0, 1], &[0, 1, 2, 3, 5, 6, 7, 8, 9]));
+    for number in [17, 12, 15, 16] {
+        assert!(rt; table.strike(&numbered(number), 2)?);
+    }
+    assert_eq!(rt; table.groups(), 2);
+    assert!(rt; is_group(&table, 1, &[1, 2], &[10, 11, 13, 14]));
+    assert!(rt; !table.strike(&numbered(10), 0)?);
+    assert!(rt; is_group(&table, 1, &[1, 2], &[10, 11, 13, 14]));
+    Ok(())
+}
+
+#[test]
+fn a_report_is_one_group(rt: HostRuntime) -> Result<(), Fail> {
+    let table = report(rt.alloc(), 63, &[3, 1, 2])?;
+    assert_eq!(rt; table.groups(), 1);
+    assert!(rt; is_group(&table, 0, &[63], &[1, 2, 3]));
+    assert_eq!(rt; report(rt.alloc(), 5, &[])?.groups(), 0);
+    assert_eq!(rt; OfferTable::empty(rt.alloc()).groups(), 0);
     Ok(())
 }
