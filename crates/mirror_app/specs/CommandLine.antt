@@ -1,11 +1,18 @@
 -- The words that the program takes.
-use Rattle.std.specs.Prelude.{◌≡◌, ◌≢◌, true, List, ℕ, [], codes}
-use Rattle.clap.specs.Words.{App, Text, new_app, with_subcommand, fault_of}
+use Rattle.std.specs.Prelude.{◌≡◌, ◌≢◌, ◌≤◌, true, List, ℕ, [], Some, codes}
+use Rattle.clap.specs.Words.{App, Rule, Text, new_app, new_rule, with_rule, with_subcommand, fault_of}
+use Rattle.clap.specs.declared.builder.value_parser.ValueParser.TheVariants as vp
+use Rattle.mirror_app.specs.declared.words.Words.{Words}
+use Rattle.mirror_app.specs.declared.words.Words.TheVariants.{Recon}
 use Rattle.mirror_app.specs.declared.words.WordsFault.{WordsFault}
 use Rattle.mirror_app.specs.declared.words.WordsFault.TheVariants.{Usage, Memory}
 
+-- `--limit N`, a number from 4,096 to 1,048,576
+abbrev pub limit_rule : Rule
+limit_rule = record (new_rule (codes "limit")) { long = Some (codes "limit"); value_names = 1; parser = Some (vp.Unsigned 4096 1048576) }
+
 abbrev pub recon : App
-recon = new_app (codes "recon")
+recon = with_rule (new_app (codes "recon")) limit_rule
 
 abbrev pub wants_subcommand : App → App
 wants_subcommand a = record a { top = record a.top { subcommand_required = true } }
@@ -13,6 +20,10 @@ wants_subcommand a = record a { top = record a.top { subcommand_required = true 
 -- one of the subcommands has to be named, and no other word
 abbrev pub nostr_mirror : App
 nostr_mirror = with_subcommand (wants_subcommand (new_app (codes "nostr-mirror"))) recon.top
+
+-- the job, and a limit in its range
+abbrev pub IsJob : Words → Type 0
+IsJob (Recon limit) = (4096 ≤ limit) × (limit ≤ 1048576)
 
 abbrev pub IsUsage : WordsFault → Type 0
 IsUsage (Usage text) = Unit {0}

@@ -10,9 +10,6 @@ use std::process::ExitCode;
 use std::{env, io};
 use words::{Words, WordsFault, read_words};
 
-/// The bytes that a message may have, where no other limit is named.
-const DEFAULT_LIMIT: usize = 60_000;
-
 const REFUSED: u8 = 1;
 
 const USAGE: u8 = 2;
@@ -32,7 +29,7 @@ fn main(rt: HostRuntime) -> io::Result<ExitCode> {
         }
     };
     let done = match words {
-        Words::Recon => run_recon(alloc, &mut rt.stdin(), &mut rt.stdout(), DEFAULT_LIMIT),
+        Words::Recon(limit) => run_recon(alloc, &mut rt.stdin(), &mut rt.stdout(), limit),
     };
     match done {
         Ok(()) => Ok(ExitCode::SUCCESS),

@@ -16,9 +16,15 @@ fn named(alloc: Global, line: &str) -> Result<Vec<String>, Fail> {
 #[test]
 fn words_that_name_a_job_and_others(rt: HostRuntime) -> Result<(), Fail> {
     let alloc = rt.alloc();
-    let words = named(alloc, "recon")?;
-    let read = read_words(alloc, words.as_slice());
-    assert!(rt; matches!(&read, Ok(Words::Recon)));
+    for (line, limit) in [
+        ("recon", 60_000),
+        ("recon --limit 4096", 4_096),
+        ("recon --limit=1048576", 1_048_576),
+    ] {
+        let words = named(alloc, line)?;
+        let read = read_words(alloc, words.as_slice());
+        assert!(rt; matches!(&read, Ok(Words::Recon(n)) if *n == limit), "{line}");
+    }
     for line in [
         "",
         "--help",
@@ -26,7 +32,13 @@ fn words_that_name_a_job_and_others(rt: HostRuntime) -> Result<(), Fail> {
         "help",
         "recon --help",
         "recon more",
-        "recon --limit 5000",
+        "--limit 5000 recon",
+        "recon --limit",
+        "recon --limit 4095",
+        "recon --limit 1048577",
+        "recon --limit -5000",
+        "recon --limit 5000x",
+        "recon --limit 5000 --limit 5000",
         "plan",
         "Recon",
         "--version",
