@@ -141,3 +141,93 @@ fn skipped_fingerprints_are_trusted(rt: HostRuntime) -> Result<(), Fail> {
     assert_eq!(rt; outcome.trusted.len(), 16);
     Ok(())
 }
+
+/// 400 items of distinct ids at the times from 0 on.
+fn many(alloc: Global) -> Result<Roll, Fail> {
+    let mut items = Vec::new(alloc);
+    for time in 0..400 {
+        let mut id = [7; 32];
+        id[0] = (time % 256) as u8;
+        id[1] = (time / 256) as u8;
+        items.push(Item { time, id: Id(id) })?;
+    }
+    Ok(Roll::from_items(alloc, &items)?)
+}
+
+/// The first part of a long list of ids, as another side answers that keeps within 4,096 bytes.
+fn first_part(alloc: Global) -> Result<Vec<u8>, AllocError> {
+    let mut bytes = b"\x61\x7d\x00\x02\x7c".to_vec(alloc)?;
+    for byte in 0..124 {
+        bytes.extend_from_slice(&[byte; 32])?;
+    }
+    bytes.extend_from_slice(b"\x00\x00\x01")?;
+    bytes.extend_from_slice(&[0x77; 16])?;
+    Ok(bytes)
+}
+
+#[test]
+fn asks_within_the_limit(rt: HostRuntime) -> Result<(), Fail> {
+    let alloc = rt.alloc();
+    let roll = many(alloc)?;
+    let (mut session, ask) = Initiator::start(alloc, &roll, 4_096, 1_000)?;
+    assert_eq!(rt; ask.len(), 305);
+    // Each of 400 stretches of one item is asked again: the ask is cut.
+    let mut reply = b"\x61".to_vec(alloc)?;
+    for _ in 0..400 {
+        reply.extend_from_slice(b"\x02\x00\x01")?;
+        reply.extend_from_slice(&[0x77; 16])?;
+    }
+    let Next::Ask(next) = session.take(&reply)? else {
+        return Err(Fail::from("done"));
+    };
+    assert!(rt; next.len() <= 4_096 && next.len() > 3_840);
+    assert!(rt; neg_codec::decode(alloc, &next).is_ok());
+    Ok(())
+}
+
+#[test]
+fn a_list_that_goes_on(rt: HostRuntime) -> Result<(), Fail> {
+    let alloc = rt.alloc();
+    let roll = Roll::from_items(alloc, &[])?;
+    let (mut session, _) = Initiator::start(alloc, &roll, 4_096, 1_000)?;
+    let Next::Ask(next) = session.take(&first_part(alloc)?)? else {
+        return Err(Fail::from("done"));
+    };
+    assert_eq!(rt;
+        next.as_slice(),
+        b"\x61\x7d\x00\x00\x00\x00\x02\x00".as_slice()
+    );
+    Ok(())
+}
+
+#[test]
+fn replies_that_are_cut_off(rt: HostRuntime) -> Result<(), Fail> {
+    let alloc = rt.alloc();
+    let roll = Roll::from_items(alloc, &[])?;
+    let whole = first_part(alloc)?;
+    let others: [&[u8]; 4] = [
+        b"\x61\x00\x00\x00\x00",
+        b"\x61\x06\x01\x02\x00\x01\x01\x01\x00",
+        b"\x61\x06\x01\x02\x00\x01\x01\x02\x00",
+        b"\x61\x00\x01\xff\x00",
+    ];
+    let mut replies = Vec::new(alloc);
+    for (len, _) in whole.iter().enumerate() {
+        replies.push(&whole[..len])?;
+    }
+    for other in others {
+        replies.push(other)?;
+    }
+    for reply in replies.as_slice() {
+        let (mut session, _) = Initiator::start(alloc, &roll, 4_096, 1_000)?;
+        let given = session.take(reply);
+        match neg_codec::decode(alloc, reply) {
+            Ok(_) => assert!(rt; given.is_ok()),
+            Err(fault) => {
+                assert!(rt; given.err() == Some(InitFault::Bad(fault)));
+                assert!(rt; matches!(session.take(b"\x61"), Err(InitFault::Spent)));
+            }
+        }
+    }
+    Ok(())
+}

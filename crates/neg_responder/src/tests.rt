@@ -2,7 +2,7 @@ ghost use Rattle.std.specs.Prelude.{◌<◌};
 
 use super::*;
 use item_roll::Roll;
-use neg_codec::{CodecFault, Id, Item};
+use neg_codec::{CodecFault, Id, Item, decode};
 use std::alloc::{AllocError, Global};
 use std::process::Abort;
 use std::test::*;
@@ -297,5 +297,64 @@ fn the_longest_query(rt: HostRuntime) -> Result<(), Fail> {
     );
     let longest = vec![in alloc; 0x62; 1_048_576]?;
     assert!(rt; answer(alloc, &roll, &longest, 4_096)?.as_slice() == b"\x61".as_slice());
+    Ok(())
+}
+
+/// 400 items of distinct ids at the times from 0 on.
+fn many(alloc: Global) -> Result<Roll, Fail> {
+    let mut items = Vec::new(alloc);
+    for time in 0..400 {
+        let mut id = [7; 32];
+        id[0] = (time % 256) as u8;
+        id[1] = (time / 256) as u8;
+        items.push(Item { time, id: Id(id) })?;
+    }
+    Ok(Roll::from_items(alloc, &items)?)
+}
+
+#[test]
+fn answers_within_the_limit(rt: HostRuntime) -> Result<(), Fail> {
+    let alloc = rt.alloc();
+    let roll = many(alloc)?;
+    // (the query, how long the answer is, how it begins)
+    let cases = [
+        ("6100000200", 3_992, "617d00027c"),
+        ("617d000000000200", 3_931, "617d00007b00027a"),
+        ("618177000000000200", 3_932, "61817700007b00027a"),
+        ("618271000000000200", 1_033, "618271000000000220"),
+    ];
+    for (query, len, front) in cases {
+        let given = answer(alloc, &roll, &bytes_of(alloc, query)?, 4_096)?;
+        assert!(rt; given.len() == len, "{query}");
+        assert!(rt; given.starts_with(&bytes_of(alloc, front)?), "{query}");
+    }
+    Ok(())
+}
+
+#[test]
+fn an_answer_as_a_query(rt: HostRuntime) -> Result<(), Fail> {
+    let alloc = rt.alloc();
+    let roll = many(alloc)?;
+    let whole = answer(alloc, &roll, &bytes_of(alloc, "6100000200")?, 4_096)?;
+    for (len, _) in whole.iter().enumerate() {
+        let given = answer(alloc, &roll, &whole[..len], 4_096);
+        match decode(alloc, &whole[..len]) {
+            Ok(_) => assert!(rt; given.is_ok(), "at {len}"),
+            Err(fault) => assert!(rt; given.err() == Some(AnswerFault::Bad(fault)), "at {len}"),
+        }
+    }
+    Ok(())
+}
+
+#[test]
+fn bounds_at_the_edge(rt: HostRuntime) -> Result<(), Fail> {
+    let alloc = rt.alloc();
+    let roll = numbered(alloc, 2)?;
+    for query in ["610601020001010200", "610001ff00"] {
+        assert!(rt;
+            answer(alloc, &roll, &bytes_of(alloc, query)?, 4_096).is_ok(),
+            "{query}"
+        );
+    }
     Ok(())
 }
