@@ -9,7 +9,6 @@ use crate::writing::len_kept;
 use crate::{Bound, Key, Payload, Range};
 use neg_varint::spell;
 
-
 /// How many bytes a bound takes that isn't infinite, above the time before.
 fn key_len(before: u64, key: &Key) -> usize
     requires { before ≤ key.now.time }

@@ -67,8 +67,15 @@ told_len d upper r draft edge = go (ltb (place (end_of least d.spans)) (place d.
     go : (b : Bool) → ltb (place (end_of least d.spans)) (place d.end) ≡ b
         → length (text_of (d.spans ++ (cond b (due d.end ∷ []) [] ++ r ∷ []))) ≤ length (text_of d.spans) + cond b 44 0 + (length (bound_text d.end.time r.upper) + length (claim_text r.claim))
     go true e =
-        omega (arith, text-more d.spans (due d.end ∷ r ∷ []), one_more (end_of least d.spans).time (due d.end) (r ∷ []), one_more d.end.time r [], no_more r.upper.time,
-        bound_most (end_of least d.spans).time d.end edge, skip_len)
+        omega (
+          arith,
+          text-more d.spans (due d.end ∷ r ∷ []),
+          one_more (end_of least d.spans).time (due d.end) (r ∷ []),
+          one_more d.end.time r [],
+          no_more r.upper.time,
+          bound_most (end_of least d.spans).time d.end edge,
+          skip_len,
+        )
     go false e = elim draft.within [
       | inl same ↦
           omega (arith, text-more d.spans (r ∷ []), one_more (end_of least d.spans).time r [], no_more r.upper.time, ap (λ (x : Item). length (bound_text x.time r.upper)) same)

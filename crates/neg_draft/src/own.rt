@@ -134,12 +134,7 @@ impl Draft {
 
     /// Tells fingerprints of the roll up to a bound. Where one doesn't fit, one of all that is left ends
     /// the message.
-    fn tell_prints(
-        self,
-        roll: &Roll,
-        prints: &[Range],
-        upper: &Bound,
-    ) -> Result<Draft, AllocError>
+    fn tell_prints(self, roll: &Roll, prints: &[Range], upper: &Bound) -> Result<Draft, AllocError>
         requires finite { place self.end < place infinity }
         requires tells { Tells self.end (edge_of upper.now) (map span_of prints.now) }
         requires holds { All (IsTrueOf roll.now) (closed_from self.end (map span_of prints.now)) }

@@ -114,12 +114,20 @@ fn a_message_that_is_cut(rt: HostRuntime) -> Result<(), Fail> {
     ];
     for (from, to, expected, count) in cases {
         let draft = Draft::new(alloc, 4096);
-        let draft = if from > 0 { skip_to(&rt, draft, at(from)) } else { draft };
+        let draft = if from > 0 {
+            skip_to(&rt, draft, at(from))
+        } else {
+            draft
+        };
         let draft = own_ids_to(&rt, draft, &roll, at(to))?;
         let message = draft.into_message();
         assert!(rt; message.ranges().len() == expected.len(), "{from} {to}");
         for (range, (time, mode)) in message.ranges().iter().zip(expected) {
-            let upper = if *time == u32::MAX { Bound::Infinite } else { at(*time) };
+            let upper = if *time == u32::MAX {
+                Bound::Infinite
+            } else {
+                at(*time)
+            };
             assert!(rt; range.upper == upper, "{from} {to}");
             let told = match &range.payload {
                 Payload::Skip => 0,

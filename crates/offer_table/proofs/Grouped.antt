@@ -164,7 +164,7 @@ groups_rows offers h = record {
 none_below : (g : List ℕ × List Id) (gs : Rows) (n : ℕ) → n < number_of g → IsStrictlySortedBy row_cmp (g ∷ gs) → ids_at (g ∷ gs) n ≡ []
 none_below g gs n lt s =
     none_above (g ∷ gs) n (All-cons (λ v. nat_cmp n (number_of v) ≡ Less) g gs (less_from n (number_of g) lt)
-        (All-weaker (λ v. row_cmp g v ≡ Less) (λ v. nat_cmp n (number_of v) ≡ Less) (λ v e. less_from n (number_of v) (let more : number_of g < number_of v = lt_from_less (number_of g) (number_of v) e in omega arith)) gs (head_sorted row_cmp g gs s)))
+    (All-weaker (λ v. row_cmp g v ≡ Less) (λ v. nat_cmp n (number_of v) ≡ Less) (λ v e. less_from n (number_of v) (let more : number_of g < number_of v = lt_from_less (number_of g) (number_of v) e in omega arith)) gs (head_sorted row_cmp g gs s)))
 
 ids_first : (g : List ℕ × List Id) (gs : Rows) → ids_at (g ∷ gs) (number_of g) ≡ g.1
 ids_first g gs = ap (λ b. cond b g.1 (ids_at gs (number_of g))) (eq-eqb (number_of g) (number_of g) refl)

@@ -23,8 +23,10 @@ insert-requires c = omega (arith, c.in-Some.ensures.place.within, c.deref.ensure
 
 pub invariant_of-self : goal.invariant_of-self
 invariant_of-self c = elim c.match-insert.branch [
-  | in-Ok w ↦ rw w.in-Ok.ensures.items (inserted_roll c.self.inside.items.items c.in-Some.at c.args.item c.self.invariant.0 (key c) (gap c),
-      omega (arith, length-insert c.self.inside.items.items c.in-Some.at c.args.item (gap c).within, c.len.ensures, c.if-len-ge-MOST_ITEMS.false))
+  | in-Ok w ↦ rw w.in-Ok.ensures.items (
+    inserted_roll c.self.inside.items.items c.in-Some.at c.args.item c.self.invariant.0 (key c) (gap c),
+    omega (arith, length-insert c.self.inside.items.items c.in-Some.at c.args.item (gap c).within, c.len.ensures, c.if-len-ge-MOST_ITEMS.false),
+  )
   | in-Err w ↦ rw w.in-Err.ensures.items c.self.invariant
 ]
 

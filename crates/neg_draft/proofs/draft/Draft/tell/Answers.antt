@@ -41,11 +41,11 @@ new_draft d e limit upper r new same draft lim low tells fits room is =
 
 pub invariant_of-result : goal.invariant_of-result
 invariant_of-result c = (
-    new_draft (record { limit = c.self.inside.limit; spans = c.self.inside.ranges; end = edge_of c.self.inside.end }) c.args.self c.self.inside.limit (edge_of c.args.range.upper) (span_of c.args.range) c.push.new.self
-    c.self.view_is c.self.invariant.0 refl (edge_low (edge_of c.args.range.upper) c.edge.ensures.edge) c.requires.tells c.requires.fits c.requires.room
-    (told (record { limit = c.self.inside.limit; spans = c.self.inside.ranges; end = edge_of c.self.inside.end }) c.args.self c.fill.new.self c.push.new.self (edge_of c.args.range.upper) (span_of c.args.range)
-    c.self.view_is c.in_ok-fill.ensures c.in_ok-push.ensures),
-    c.self.invariant.1,
+  new_draft (record { limit = c.self.inside.limit; spans = c.self.inside.ranges; end = edge_of c.self.inside.end }) c.args.self c.self.inside.limit (edge_of c.args.range.upper) (span_of c.args.range) c.push.new.self
+      c.self.view_is c.self.invariant.0 refl (edge_low (edge_of c.args.range.upper) c.edge.ensures.edge) c.requires.tells c.requires.fits c.requires.room
+      (told (record { limit = c.self.inside.limit; spans = c.self.inside.ranges; end = edge_of c.self.inside.end }) c.args.self c.fill.new.self c.push.new.self (edge_of c.args.range.upper) (span_of c.args.range)
+      c.self.view_is c.in_ok-fill.ensures c.in_ok-push.ensures),
+  c.self.invariant.1,
 )
 
 pub returns : goal.returns
