@@ -23,7 +23,10 @@ fn words_that_name_a_job_and_others(rt: HostRuntime) -> Result<(), Fail> {
     ] {
         let words = named(alloc, line)?;
         let read = read_words(alloc, words.as_slice());
-        assert!(rt; matches!(&read, Ok(Words::Recon(n)) if *n == limit), "{line}");
+        assert!(rt;
+            matches!(&read, Ok(Words::Recon(n)) if *n == limit),
+            "{line}"
+        );
     }
     for line in [
         "",

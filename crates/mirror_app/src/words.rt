@@ -1,8 +1,9 @@
 //! The job that the program's words name.
 
-ghost use Rattle.std.specs.Prelude.{◌≡◌, ◌≢◌, ◌≤◌, map, IfOk, OnOk, IfErr, string_bytes};
-ghost use Rattle.clap.specs.Words.{app_of, kind_of};
-ghost use Rattle.mirror_app.specs.CommandLine.{nostr_mirror, IsAccepted, IsJob, IsUsage, IsDue};
+ghost use Rattle.std.specs.Prelude.{◌≡◌, ◌≢◌, ◌≤◌, false, map, IfOk, OnOk, IfErr, string_bytes};
+ghost use Rattle.clap.specs.Words.{app_of, kind_of, rule_of};
+ghost use Rattle.clap.specs.declared.builder.command.Command.TheViews.{out-Command};
+ghost use Rattle.mirror_app.specs.CommandLine.{limit_rule, recon, nostr_mirror, IsAccepted, IsJob, IsUsage, IsDue};
 
 use clap::error::ErrorKind;
 use clap::{Arg, ArgMatches, Command, Error, value_parser};
@@ -45,18 +46,33 @@ impl From<AllocError> for WordsFault {
     }
 }
 
+/// The word for the limit.
+fn limit_word<'a>(alloc: Global) -> Arg<'a>
+    ensures rule { rule_of result ≡ limit_rule }
+    ensures own { result.global ≡ false }
+{
+    Arg::new(alloc, "limit")
+        .long("limit")
+        .value_name("N")
+        .help("How many bytes a message may have, 4096 to 1048576 [default: 60000]")
+        .value_parser(value_parser!(usize).range(4096..=1_048_576))
+}
+
+/// The words of the job that compares two lists.
+fn recon<'a>(alloc: Global) -> Result<Command<'a>, AllocError>
+    ensures app { IfOk result (λ c. app_of c ≡ recon) }
+    ensures own { IfOk result (λ c. (out-Command c).has_globals ≡ false) }
+{
+    Command::new(alloc, "recon")
+        .about("Compares two lists of items, read from standard input, and prints the messages")
+        .arg(limit_word(alloc))
+}
+
 /// The words that the program takes.
 fn command<'a>(alloc: Global) -> Result<Command<'a>, AllocError>
     ensures { IfOk result (λ c. app_of c ≡ nostr_mirror) }
 {
-    let limit = Arg::new(alloc, "limit")
-        .long("limit")
-        .value_name("N")
-        .help("How many bytes a message may have, 4096 to 1048576 [default: 60000]")
-        .value_parser(value_parser!(usize).range(4096..=1_048_576));
-    let recon = Command::new(alloc, "recon")
-        .about("Compares two lists of items, read from standard input, and prints the messages")
-        .arg(limit)?;
+    let recon = recon(alloc)?;
     Command::new(alloc, "nostr-mirror")
         .bin_name("nostr-mirror")?
         .about("A proved mirror relay for Nostr")
