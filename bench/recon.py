@@ -1,12 +1,12 @@
 #!/usr/bin/env python3
 """Measures `recon` beside a plain program that takes the same input and prints the same output.
 
-    bench/recon.py --baseline PATH [--mirror PATH] [--items N,N,..] [--ppm P,P,..] [--runs R]
+    bench/recon.py --baseline PATH [--mirror PATH] [--items N,N,..] [--ppm P,P,..] [--limit LIMIT] [--runs R]
 
 The baseline also makes the inputs (`BASELINE gen items --n N --ppm P`): N items, of which P in a
-million differ between the sides. The baseline is told to keep messages whole, up to 1,048,576 bytes,
-as `nostr-mirror` does. Both programs run in turn, R times each; the least wall time, the
-least processor time and the greatest peak of resident memory are compared. Outputs are compared too.
+million differ between the sides. Both programs keep messages within LIMIT bytes, and run in turn, R
+times each; the least wall time, the least processor time and the greatest peak of resident memory are
+compared. Outputs are compared too.
 """
 import argparse
 import os
@@ -24,6 +24,7 @@ def main():
     parser.add_argument("--mirror", default=os.path.join(root, "crates", "mirror_app", "out", "mirror_app"))
     parser.add_argument("--items", type=numbers, default=[1000, 100000, 400000])
     parser.add_argument("--ppm", type=numbers, default=[0, 100, 10000])
+    parser.add_argument("--limit", type=int, default=1048576)
     parser.add_argument("--runs", type=int, default=5)
     options = parser.parse_args()
     print("%9s %8s | %21s | %21s | %21s | %s" % (
@@ -39,8 +40,9 @@ def main():
                 a, b = [], []
                 try:
                     for _ in range(options.runs):
-                        a.append(once([options.mirror, "recon"], source, ours))
-                        b.append(once([options.baseline, "recon", "--limit", "1048576"], source, theirs))
+                        words = ["recon", "--limit", str(options.limit)]
+                        a.append(once([options.mirror] + words, source, ours))
+                        b.append(once([options.baseline] + words, source, theirs))
                 except Refused as refused:
                     print("%9d %8d | %s" % (items, ppm, refused), flush=True)
                     continue

@@ -1,7 +1,8 @@
 //! Inputs from a table, readers and writers that fail.
 
 use crate::{
-    LineFault, Lists, Refusal, place_items, read_input, read_lists, read_rolls, write_recon,
+    LineFault, Lists, Refusal, place_items, read_input, read_lists, read_rolls, run_recon,
+    write_recon,
 };
 use neg_codec::{Id, Item};
 use neg_session::Pair;
@@ -327,5 +328,39 @@ fn long_messages_and_many_ids(rt: HostRuntime) -> Result<(), Fail> {
     assert_eq!(rt; lines.next().ok_or("no have")?, "have 0");
     assert_eq!(rt; lines.next().ok_or("no trusted")?, "trusted 0");
     assert!(rt; lines.next().is_none());
+    Ok(())
+}
+
+#[test]
+fn messages_within_the_limit(rt: HostRuntime) -> Result<(), Fail> {
+    let alloc = rt.alloc();
+    let mut text = String::from_str(alloc, "mine\ntheirs\n")?;
+    for time in 0..400 {
+        text.push_str(format!(in alloc; "{time} {:064x}\n", time * 7 + 1)?.as_str())?;
+    }
+    let mut taken = Vec::new(alloc);
+    assert!(rt; run_recon(alloc, &mut text.as_str().as_bytes(), &mut taken, 4_096).is_ok());
+    let Ok(printed) = str::from_utf8(&taken) else {
+        return Err(Fail::from("no text"));
+    };
+    // (how a line begins, how many bytes of a message it has)
+    let expected = [
+        ("ask 6100000200", 5),
+        ("reply 617d00027c", 3_992),
+        ("ask 617d000000000200", 8),
+        ("reply 617d00007b00027a", 3_931),
+        ("ask 618177000000000200", 9),
+        ("reply 61817700007b00027a", 3_932),
+        ("ask 618271000000000200", 9),
+        ("reply 618271000000000220", 1_033),
+    ];
+    for (line, (front, len)) in printed.lines().zip(expected) {
+        assert!(rt; line.starts_with(front), "{line}");
+        let Some((_, message)) = line.split_once(' ') else {
+            return Err(Fail::from("no message"));
+        };
+        assert!(rt; message.len() == 2 * len, "{line}");
+    }
+    assert!(rt; printed.lines().nth(8) == Some("need 400"));
     Ok(())
 }
