@@ -4,24 +4,17 @@
 
 ghost use Rattle.std.specs.Prelude.{◌≡◌, ◌≢◌, ◌≤◌, ◌<◌, ◌+◌, ◌*◌, ◌^◌, ◌==◌, true, ℕ, List, length, OnOk, IfOk, IfSome, IfNone, slice_index, false, None, cond};
 ghost use Rattle.std.specs.List.{sum, All};
-ghost use Rattle.sharing.specs.declared.TheConstants.{MOST_IDS};
 ghost use Rattle.sharing.specs.Sharing.{is_among};
 ghost use Rattle.fetch_plan.specs.declared.groups.Group.{Group};
 ghost use Rattle.fetch_plan.specs.Shares.{is_marked};
-ghost use Rattle.fetch_plan.specs.Groups.{amount, shared_by, total, AreGroups, AreCounts, AreSets, AreLarge, AreGiven, AreSame, AreLoadsOf, IsMoved};
+ghost use Rattle.fetch_plan.specs.Groups.{amount, shared_by, AreGroups, AreSets, AreLarge, AreGiven, AreSame, AreLoadsOf, IsMoved};
 ghost use Rattle.fetch_plan.specs.Trail.{relay_at, IsTrail, AreMarked, Extends, StayMarked, IsClosedAt, PassesOn, AreStarts, from_at, squares, AreSettled};
 
 use crate::groups::Group;
+use crate::levels::{Level, counts_of, level_of, most_of, sets_of};
 use offer_table::RelaySet;
 use sharing::{RELAYS, SLOTS};
 use std::alloc::{AllocError, Global};
-
-/// How many ids move at once, and the places of the groups that have as many.
-#[derive(Drop)]
-struct Level {
-    some: u64,
-    places: Vec<usize>,
-}
 
 /// How a step was found: from an earlier step, by the group at a place.
 #[derive(Clone, Copy)]
@@ -312,68 +305,6 @@ fn settle_by(
             return Ok(marked);
         }
     }
-}
-
-/// The number of a group's ids.
-fn count_of(group: &Group) -> u64
-    requires { sum group.now.given ≤ MOST_IDS }
-    ensures { result ≡ sum group.now.given }
-{
-    let mut count = 0;
-    for given in &group.given {
-        count += *given;
-    }
-    count
-}
-
-/// The number of each group's ids.
-fn counts_of(alloc: Global, groups: &[Group]) -> Result<Vec<u64>, AllocError>
-    requires { (k : ℕ) → k < length groups.now → total groups.now k ≤ MOST_IDS }
-    ensures { IfOk result (λ counts. AreCounts groups.now counts.items) }
-{
-    let mut counts = Vec::new(alloc);
-    for group in groups {
-        counts.push(count_of(group))?;
-    }
-    Ok(counts)
-}
-
-/// The relays that offer each group.
-fn sets_of(alloc: Global, groups: &[Group]) -> Result<Vec<RelaySet>, AllocError>
-    ensures { IfOk result (λ sets. AreSets groups.now sets.items) }
-{
-    let mut sets = Vec::new(alloc);
-    for group in groups {
-        sets.push(group.relays)?;
-    }
-    Ok(sets)
-}
-
-/// Where so many ids move at once.
-fn level_of(alloc: Global, counts: &[u64], some: u64) -> Result<Level, AllocError>
-    ensures some { IfOk result (λ level. level.some ≡ some) }
-    ensures large { IfOk result (λ level. (groups : List Group) → AreCounts groups counts.now → AreLarge some groups level.places.items) }
-{
-    let mut places = Vec::new(alloc);
-    for (place, count) in counts.iter().enumerate() {
-        if *count >= some {
-            places.push(place)?;
-        }
-    }
-    Ok(Level { some, places })
-}
-
-/// The greatest number.
-fn most_of(counts: &[u64]) -> u64
-    ensures { (k : ℕ) → k < length counts.now → slice_index counts.now k ≤ result }
-{
-    let mut most = 0;
-    for count in counts {
-        if *count > most {
-            most = *count;
-        }
-    }
-    most
 }
 
 /// Moves ids along chains, many at once and then fewer, until no single id can move along a chain from a

@@ -15,6 +15,7 @@ mod cell;
 mod chains;
 mod groups;
 mod hand_out;
+mod levels;
 mod outcome;
 
 pub use cell::Cell;

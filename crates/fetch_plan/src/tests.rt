@@ -97,15 +97,18 @@ fn numbered(alloc: Global, from: u32, to: u32) -> Result<BTreeSet<Id>, AllocErro
     Ok(ids)
 }
 
-// 1,000 ids on relays 0 and 1, 500 on 1 and 2, 300 on 2 alone: 1,800 are more than 3 * 599.
+// 100,000 ids on relays 0 and 1, 50,000 on 1 and 2, 30,000 on 2 alone: 180,000 are more than 3 * 59,999.
 #[test]
 fn three_large_groups(rt: HostRuntime) -> Result<(), Fail> {
-    let first = table_of(rt.alloc(), 0, &numbered(rt.alloc(), 0, 1_000)?)?;
-    let second = table_of(rt.alloc(), 1, &numbered(rt.alloc(), 0, 1_500)?)?;
-    let third = table_of(rt.alloc(), 2, &numbered(rt.alloc(), 1_000, 1_800)?)?;
+    let first = table_of(rt.alloc(), 0, &numbered(rt.alloc(), 0, 100_000)?)?;
+    let second = table_of(rt.alloc(), 1, &numbered(rt.alloc(), 0, 150_000)?)?;
+    let third = table_of(rt.alloc(), 2, &numbered(rt.alloc(), 100_000, 180_000)?)?;
     let made = plan(rt.alloc(), &merged(merged(first, second)?, third)?)?;
-    assert_eq!(rt; (made.len(), made.least_max()), (1_800, 600));
-    assert_eq!(rt; [made.load(0), made.load(1), made.load(2)], [600, 600, 600]);
+    assert_eq!(rt; (made.len(), made.least_max()), (180_000, 60_000));
+    assert_eq!(rt;
+        [made.load(0), made.load(1), made.load(2)],
+        [60_000, 60_000, 60_000]
+    );
     for relay in 0u16..4 {
         assert_eq!(rt; made.group().has(relay), relay < 3, "relay {relay}");
     }

@@ -1,6 +1,6 @@
 //! Tables of a few reports, and of as many ids as a table takes.
 
-use crate::{OfferFault, OfferTable};
+use crate::{OfferFault, OfferTable, RelaySet};
 use neg_codec::Id;
 use std::alloc::{AllocError, Global};
 use std::collections::BTreeSet;
@@ -70,6 +70,15 @@ fn two_reports_are_put_together(rt: HostRuntime) -> Result<(), Fail> {
         assert!(rt; !relays.has(1) && !relays.has(64), "no other at {number}");
     }
     assert!(rt; both.reported().has(0) && both.reported().has(63) && !both.reported().has(1));
+    Ok(())
+}
+
+#[test]
+fn a_set_has_a_number(rt: HostRuntime) -> Result<(), Fail> {
+    let none = RelaySet::empty();
+    assert_eq!(rt; none.number(), 0);
+    assert_eq!(rt; none.with(0).with(2).number(), 5);
+    assert_eq!(rt; none.with(63).with(1).number(), 0x8000_0000_0000_0002);
     Ok(())
 }
 

@@ -5,7 +5,7 @@ use Rattle.std.proofs.Math.ListN.{get_or-append}
 use Rattle.fetch_plan.specs.declared.groups.Group.{Group}
 use Rattle.fetch_plan.specs.Groups.{shared_by}
 use Rattle.fetch_plan.proofs.Trails.{shared_is}
-use Rattle.fetch_plan.proofs.chains.sets_of.Goals as goal
+use Rattle.fetch_plan.proofs.levels.sets_of.Goals as goal
 
 pub loop-group-preserved : goal.loop-group-preserved
 loop-group-preserved c =

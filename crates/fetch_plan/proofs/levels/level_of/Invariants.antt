@@ -1,7 +1,7 @@
 use Rattle.std.proofs.Common.{◌≡◌, ◌<◌, ◌≤◌, ℕ, true, length, get_or}
 use Rattle.std.specs.List.{All}
 use Rattle.sharing.specs.Sharing.{is_among}
-use Rattle.fetch_plan.proofs.chains.level_of.Given as goal
+use Rattle.fetch_plan.proofs.levels.level_of.Given as goal
 
 abbrev pub invariant-loop-place : goal.invariant-loop-place
 invariant-loop-place l = record {

@@ -4,7 +4,7 @@ use Rattle.std.proofs.lemmas.List.{get_or_push, length_push}
 use Rattle.std.proofs.Math.ListN.{get_or-append}
 use Rattle.fetch_plan.specs.Groups.{total}
 use Rattle.fetch_plan.proofs.Trails.{total_is}
-use Rattle.fetch_plan.proofs.chains.counts_of.Goals as goal
+use Rattle.fetch_plan.proofs.levels.counts_of.Goals as goal
 
 pub count_of-requires : goal.count_of-requires
 count_of-requires c =

@@ -1,6 +1,6 @@
 use Rattle.std.proofs.Common.{◌≡◌, ◌<◌, ℕ, length, get_or}
 use Rattle.fetch_plan.specs.Groups.{total}
-use Rattle.fetch_plan.proofs.chains.counts_of.Given as goal
+use Rattle.fetch_plan.proofs.levels.counts_of.Given as goal
 
 abbrev pub invariant-loop-group : goal.invariant-loop-group
 invariant-loop-group l = record {
