@@ -1,7 +1,6 @@
 -- Sets of relays with equal numbers are equal.
-use Rattle.std.proofs.Common.{◌≡◌, ℕ, zero, suc, ◌+◌, ◌*◌, ◌^◌, ◌<◌, ◌≤◌, ◌==◌, Bool, true, false, cond, List, [], ◌∷◌, ◌++◌, refl, sym, ap, ◌∙◌, subst, arith, inl, inr}
-use Rattle.std.specs.List.{All, sum_by}
-use Rattle.std.proofs.lemmas.Bool.{false≢true, cases_lt, cases_Bool, false_from_ne_true}
+use Rattle.std.proofs.Common.{◌≡◌, ℕ, zero, suc, ◌+◌, ◌^◌, ◌<◌, ◌≤◌, Bool, true, false, cond, List, ◌++◌, refl, sym, ap, ◌∙◌, arith, inl, inr}
+use Rattle.std.proofs.lemmas.Bool.{cases_lt, cases_Bool, false_from_ne_true}
 use Rattle.std.proofs.lemmas.List.Sums.{sum_by-append}
 use Rattle.sharing.specs.declared.TheConstants.{RELAYS}
 use Rattle.sharing.specs.Sharing.{is_among}
@@ -52,10 +51,10 @@ none_large s r h ge = false_from_ne_true (is_among s r) (λ t. let lt : r < RELA
 those_of : (s : List ℕ) → AreRelays s → s ≡ those (is_among s) RELAYS
 those_of s h =
     same_sorted s (those (is_among s) RELAYS) h.ascend (below_those (is_among s) RELAYS).0 (λ r.
-        elim (cases_lt r RELAYS) [
-          | inl lt ↦ sym (among_those_is (is_among s) RELAYS r lt)
-          | inr ge ↦ none_large s r h ge ∙ sym (none_past (is_among s) RELAYS r ge)
-        ])
+    elim (cases_lt r RELAYS) [
+      | inl lt ↦ sym (among_those_is (is_among s) RELAYS r lt)
+      | inr ge ↦ none_large s r h ge ∙ sym (none_past (is_among s) RELAYS r ge)
+    ])
 
 pub same_set : (a b : List ℕ) → AreRelays a → AreRelays b → bits_of a ≡ bits_of b → a ≡ b
 same_set a b h g e =

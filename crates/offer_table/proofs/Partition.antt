@@ -1,5 +1,5 @@
 -- Each offered id stands in one group of its offers.
-use Rattle.std.proofs.Common.{◌≡◌, ℕ, ◌+◌, ◌<◌, ◌≤◌, ◌==◌, ◌||◌, Bool, true, false, cond, List, [], ◌∷◌, ◌++◌, length, map, Some, None, Option, refl, sym, ap, ◌∙◌, subst, arith, inl, inr, ◌⊎◌}
+use Rattle.std.proofs.Common.{◌≡◌, ℕ, ◌+◌, ◌<◌, ◌==◌, ◌||◌, Bool, true, false, cond, List, [], ◌∷◌, length, map, Some, None, Option, refl, sym, ap, ◌∙◌, subst, arith, inl, inr, ◌⊎◌}
 use Rattle.std.specs.Prelude.{unwrap_or, is_some}
 use Rattle.std.specs.Option.{IfSome}
 use Rattle.std.specs.declared.cmp.Ordering.TheVariants.{Less}
@@ -12,11 +12,10 @@ use Rattle.std.proofs.lemmas.List.Elements.{All-head, All-tail, All-cons, All-ni
 use Rattle.std.proofs.lemmas.Map.Entries.{All-lookup}
 use Rattle.neg_codec.specs.declared.Id.{Id}
 use Rattle.sharing.specs.Offers.{AreRelays, IsOffers, Ascend, id_cmp, is_id, beside, relays_of}
-use Rattle.sharing.proofs.Orders.{head_sorted, tail_sorted, same_id, id_itself, id_apart, id_flips, All-unmap, lt_from_less}
+use Rattle.sharing.proofs.Orders.{head_sorted, tail_sorted, same_id, id_apart, id_flips, All-unmap, lt_from_less}
 use Rattle.sharing.proofs.Looks.{map_twice, map_itself}
 use Rattle.offer_table.specs.Relays.{bits_of}
 use Rattle.offer_table.specs.Groups.{set_cmp, sets_of, ids_numbered, groups_of, is_listed, AreGroups}
-use Rattle.offer_table.specs.Rows.{AreRows}
 use Rattle.offer_table.proofs.Cuts.{sorted_cons}
 use Rattle.offer_table.proofs.IdRows.{AllBehind}
 use Rattle.offer_table.proofs.Numbers.{same_set}
@@ -28,7 +27,7 @@ filter_ascends p [] h = h
 filter_ascends p (o ∷ os) h =
     let rest : Ascend (map (λ o. o.0) (filter p os)) = filter_ascends p os (tail_sorted id_cmp o.0 (map (λ o. o.0) os) h) in
     let behind : All (λ i. id_cmp o.0 i ≡ Less) (map (λ (q : Id × List ℕ). q.0) (filter p os)) =
-        All-map (λ i. id_cmp o.0 i ≡ Less) (λ (q : Id × List ℕ). q.0) (filter p os) (All-filter p (λ (q : Id × List ℕ). id_cmp o.0 q.0 ≡ Less) os (All-unmap (λ i. id_cmp o.0 i ≡ Less) (λ (q : Id × List ℕ). q.0) os (head_sorted id_cmp o.0 (map (λ o. o.0) os) h))) in
+    All-map (λ i. id_cmp o.0 i ≡ Less) (λ (q : Id × List ℕ). q.0) (filter p os) (All-filter p (λ (q : Id × List ℕ). id_cmp o.0 q.0 ≡ Less) os (All-unmap (λ i. id_cmp o.0 i ≡ Less) (λ (q : Id × List ℕ). q.0) os (head_sorted id_cmp o.0 (map (λ o. o.0) os) h))) in
     elim (cases_Bool (p o)) [
       | inl t ↦ subst (λ b. Ascend (map (λ (q : Id × List ℕ). q.0) (cond b (o ∷ filter p os) (filter p os)))) (sym t) (sorted_cons id_cmp o.0 (map (λ q. q.0) (filter p os)) behind rest)
       | inr f ↦ subst (λ b. Ascend (map (λ (q : Id × List ℕ). q.0) (cond b (o ∷ filter p os) (filter p os)))) (sym f) rest
@@ -64,8 +63,8 @@ listed_is n (o ∷ os) i h =
       | inl t ↦
           (let behind : All (λ (q : Id × List ℕ). id_cmp o.0 q.0 ≡ Less) os = All-unmap (λ i. id_cmp o.0 i ≡ Less) id_of os (head_sorted id_cmp o.0 (map id_of os) h) in
           let gone : is_listed (ids_numbered n os) i ≡ false =
-              ap (is_listed (ids_numbered n os)) (same_id i o.0 t)
-              ∙ listed_behind (ids_numbered n os) o.0 (All-map (λ i. id_cmp o.0 i ≡ Less) id_of (filter (λ q. n == bits_of q.1) os) (All-filter (λ (q : Id × List ℕ). n == bits_of q.1) (λ (q : Id × List ℕ). id_cmp o.0 q.0 ≡ Less) os behind)) in
+          ap (is_listed (ids_numbered n os)) (same_id i o.0 t)
+          ∙ listed_behind (ids_numbered n os) o.0 (All-map (λ i. id_cmp o.0 i ≡ Less) id_of (filter (λ q. n == bits_of q.1) os) (All-filter (λ (q : Id × List ℕ). n == bits_of q.1) (λ (q : Id × List ℕ). id_cmp o.0 q.0 ≡ Less) os behind)) in
           listed_here o (filter (λ q. n == bits_of q.1) os) i (n == bits_of o.1) t gone ∙ sym (ap (λ b. numbered n (cond b (Some o.1) (beside os i))) t))
       | inr f ↦
           listed_other o (filter (λ q. n == bits_of q.1) os) i (n == bits_of o.1) f ∙ listed_is n os i (tail_sorted id_cmp o.0 (map id_of os) h)
@@ -168,7 +167,7 @@ counted : (test : List ℕ → Bool) (ts : Sets) (os : List (Id × List ℕ)) �
 counted test ts [] h s g there = sym (sum_none (λ t. cond (test t) 0 0) ts (λ t. cond_zero (test t)))
 counted test ts (o ∷ os) h s g there =
     let more : (t : List ℕ) → cond (test t) (length (ids_numbered (bits_of t) (o ∷ os))) 0 ≡ weight test o.1 t + cond (test t) (length (ids_numbered (bits_of t) os)) 0 = λ t.
-        ap {B = ℕ} (λ k. cond (test t) k 0) (length_more (bits_of t == bits_of o.1) o (filter (λ q. bits_of t == bits_of q.1) os)) ∙ cond_more (test t) (cond (bits_of t == bits_of o.1) 1 0) (length (ids_numbered (bits_of t) os)) in
+    ap {B = ℕ} (λ k. cond (test t) k 0) (length_more (bits_of t == bits_of o.1) o (filter (λ q. bits_of t == bits_of q.1) os)) ∙ cond_more (test t) (cond (bits_of t == bits_of o.1) 1 0) (length (ids_numbered (bits_of t) os)) in
     omega (
       arith,
       counted test ts os h s (All-tail (λ o. AreRelays o.1) o os g) (All-tail (λ o. has_number (bits_of o.1) ts ≡ true) o os there),

@@ -1,15 +1,15 @@
 -- One offer struck: what becomes of the ids of each number.
-use Rattle.std.proofs.Common.{◌≡◌, ◌≢◌, ℕ, ◌+◌, ◌<◌, ◌==◌, ◌&&◌, not, Bool, true, false, cond, List, [], ◌∷◌, ◌++◌, length, map, Some, None, refl, sym, ap, ◌∙◌, subst, arith, inl, inr}
+use Rattle.std.proofs.Common.{◌≡◌, ◌≢◌, ℕ, ◌==◌, ◌&&◌, not, Bool, true, false, cond, List, [], ◌∷◌, ◌++◌, map, Some, refl, sym, ap, ◌∙◌, subst, inl, inr}
 use Rattle.std.specs.Prelude.{unwrap_or, is_some}
-use Rattle.std.specs.declared.cmp.Ordering.TheVariants.{Less, Equal, Greater}
-use Rattle.std.specs.Ordering.{is_eq, match_ordering, ordering_reverse}
+use Rattle.std.specs.declared.cmp.Ordering.TheVariants.{Less, Greater}
+use Rattle.std.specs.Ordering.{match_ordering, ordering_reverse}
 use Rattle.std.specs.BTreeMap.{insert_entry}
 use Rattle.std.specs.Map.{remove_entry}
 use Rattle.std.specs.List.{All, filter}
-use Rattle.std.proofs.lemmas.Bool.{false≢true, cases_Bool, eq-eqb, ne_eqb, eqb-true}
+use Rattle.std.proofs.lemmas.Bool.{false≢true, cases_Bool, eq-eqb, eqb-true}
 use Rattle.std.proofs.lemmas.Cmp.{tied_itself}
 use Rattle.std.proofs.lemmas.List.{map-append}
-use Rattle.std.proofs.lemmas.List.Elements.{All-head, All-tail, All-cons, All-nil, All-map, All-filter, filter-append}
+use Rattle.std.proofs.lemmas.List.Elements.{All-head, All-tail, All-map, All-filter, filter-append}
 use Rattle.neg_codec.specs.declared.Id.{Id}
 use Rattle.sharing.specs.Sharing.{is_among}
 use Rattle.sharing.specs.Offers.{AreRelays, Ascend, id_cmp, is_id, beside, relays_of}
@@ -36,10 +36,10 @@ around [] k h = absurd (false≢true h)
 around (e ∷ es) k h =
     elim (cases_Bool (is_id k e.0)) [
       | inl t ↦ record {
-          os = [];
-          ps = es;
-          is = ap (λ (i : Id). (i, e.1) ∷ es) (sym (same_id k e.0 t)) ∙ ap (λ b. (k, unwrap_or (cond b (Some e.1) (beside es k)) []) ∷ es) (sym t);
-        }
+        os = [];
+        ps = es;
+        is = ap (λ (i : Id). (i, e.1) ∷ es) (sym (same_id k e.0 t)) ∙ ap (λ b. (k, unwrap_or (cond b (Some e.1) (beside es k)) []) ∷ es) (sym t);
+      }
       | inr f ↦
           (let rest : Around es k (relays_of es k) = around es k (sym (ap (λ b. is_some (cond b (Some e.1) (beside es k))) f) ∙ h) in
           record {
@@ -125,8 +125,8 @@ module _ (es : Offers) (k : Id) (a : Around es k (relays_of es k)) (ascend : Asc
   struck_one t new mid differ e given left n =
       left n ∙ ap (λ xs. cond (n == bits_of (relays_of es k)) (without_id k xs) xs) (given n ∙ ap (λ xs. cond (n == bits_of t) (with_id k xs) xs) (held n))
       ∙ move_id (n == bits_of (relays_of es k)) (n == bits_of t) (ids_numbered n a.os) (ids_numbered n a.ps) k
-          (λ x y. differ (sym (eqb-true n (bits_of (relays_of es k)) x) ∙ eqb-true n (bits_of t) y))
-          (before_all a.os a.ps k (relays_of es k) n cut) (behind_all a.os a.ps k (relays_of es k) n cut)
+      (λ x y. differ (sym (eqb-true n (bits_of (relays_of es k)) x) ∙ eqb-true n (bits_of t) y))
+      (before_all a.os a.ps k (relays_of es k) n cut) (behind_all a.os a.ps k (relays_of es k) n cut)
       ∙ sym (ap (ids_numbered n) (e ∙ ap (λ xs. insert_entry id_cmp xs k t) a.is ∙ insert_around a.os a.ps k (relays_of es k) t (keys_before a.os a.ps k (relays_of es k) cut)) ∙ ids_cut a.os a.ps k t n)
 
 -- a set without one of its relays has another number

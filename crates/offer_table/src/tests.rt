@@ -172,7 +172,11 @@ fn is_group(table: &OfferTable, k: usize, relays: &[u16], numbers: &[u32]) -> bo
 /// Ids 0 to 9 on relays 0 and 1, 10 to 14 on 1 and 2, and 15 to 17 on 2 alone.
 fn three_groups(alloc: Global) -> Result<OfferTable, Fail> {
     let a = report(alloc, 0, &[0, 1, 2, 3, 4, 5, 6, 7, 8, 9])?;
-    let b = report(alloc, 1, &[0, 1, 2, 3, 4, 5, 6, 7, 8, 9, 10, 11, 12, 13, 14])?;
+    let b = report(
+        alloc,
+        1,
+        &[0, 1, 2, 3, 4, 5, 6, 7, 8, 9, 10, 11, 12, 13, 14],
+    )?;
     let c = report(alloc, 2, &[10, 11, 12, 13, 14, 15, 16, 17])?;
     merged(merged(c, a)?, b)
 }

@@ -1,8 +1,7 @@
 use Rattle.std.proofs.Common.{◌≡◌, ◌+◌, ◌<◌, ◌||◌, ℕ, List, length, get_or, map, take, sym, ap, ◌∙◌, subst}
 use Rattle.std.specs.BTreeMap.{insert_entry}
-use Rattle.std.specs.List.{All, list_any}
+use Rattle.std.specs.List.{list_any}
 use Rattle.std.specs.Global.{Vec}
-use Rattle.std.proofs.lemmas.List.{get_or-map, length-map}
 use Rattle.std.proofs.lemmas.List.Folds.{list_any_more}
 use Rattle.neg_codec.specs.declared.Id.{Id}
 use Rattle.sharing.specs.Sharing.{is_among}

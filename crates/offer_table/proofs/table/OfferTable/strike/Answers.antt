@@ -1,5 +1,5 @@
-use Rattle.std.proofs.Common.{◌≡◌, ◌≢◌, ◌+◌, ◌<◌, Bool, ◌≤◌, ◌==◌, ◌&&◌, not, true, false, ℕ, List, [], length, refl, sym, ap, ◌∙◌, subst, arith, Some, None, map, cond}
-use Rattle.std.specs.Prelude.{is_some, unwrap_or}
+use Rattle.std.proofs.Common.{◌≡◌, ◌≢◌, ◌+◌, ◌<◌, Bool, ◌≤◌, ◌==◌, ◌&&◌, not, true, ℕ, List, [], length, sym, ap, ◌∙◌, subst, arith, Some, None, map, cond}
+use Rattle.std.specs.Prelude.{is_some}
 use Rattle.std.specs.List.{All}
 use Rattle.neg_codec.specs.declared.Id.{Id}
 use Rattle.sharing.specs.Sharing.{is_among}
@@ -78,8 +78,8 @@ invariant_of-self-in_ok-insert c =
     let some : c.without-rest.result ≡ [] → ⊥ = λ e. absurd (false≢true (sym c.if-is_empty.false ∙ c.is_empty.ensures.1 e)) in
     let ok = c.self.invariant.table in
     let differ : bits_of (relays_of old k) ≢ bits_of c.without-rest.result = lesser (relays_of old k) c.without-rest.result c.args.relay (subst AreRelays was c.has.ensures.relays) c.without-rest.ensures.relays
-        (ap (λ rs. is_among rs c.args.relay) (sym was) ∙ sym c.has.ensures.value ∙ c.if-not-has.false)
-        (λ r. c.without-rest.ensures.member r ∙ ap (λ rs. is_among rs r && not (r == c.args.relay)) was) in
+    (ap (λ rs. is_among rs c.args.relay) (sym was) ∙ sym c.has.ensures.value ∙ c.if-not-has.false)
+    (λ r. c.without-rest.ensures.member r ∙ ap (λ rs. is_among rs r && not (r == c.args.relay)) was) in
     record {
       table = put_back c.self.inside.reported old c.insert.new.self.entries k c.without-rest.result ok.offers_ok ok.few n.entries n.ordered
           (no_longer (length old) (length c.insert.new.self.entries) (is_some c.in_ok-insert.field-0) (ap is_some n.old ∙ is) n.len)
