@@ -1,23 +1,22 @@
 -- The groups of offers: what they are, and that rows with the offers' ids are these groups.
-use Rattle.std.proofs.Common.{◌≡◌, ℕ, ◌+◌, ◌<◌, ◌≤◌, ◌==◌, ◌||◌, ◌&&◌, Bool, true, false, cond, List, [], ◌∷◌, ◌++◌, length, map, Some, None, refl, sym, ap, ◌∙◌, subst, arith, inl, inr, ◌⊎◌}
-use Rattle.std.specs.Prelude.{unwrap_or, is_some}
+use Rattle.std.proofs.Common.{◌≡◌, ℕ, ◌<◌, ◌==◌, ◌||◌, Bool, true, false, cond, List, [], ◌∷◌, length, map, refl, sym, ap, ◌∙◌, subst, arith, inl, inr, ◌⊎◌}
 use Rattle.std.specs.declared.cmp.Ordering.{Ordering}
 use Rattle.std.specs.declared.cmp.Ordering.TheVariants.{Less, Equal, Greater}
-use Rattle.std.specs.Ordering.{nat_cmp, is_eq, match_ordering, ordering_reverse}
-use Rattle.std.specs.List.{All, filter, list_any, count_by, sum_by}
+use Rattle.std.specs.Ordering.{nat_cmp, match_ordering, ordering_reverse}
+use Rattle.std.specs.List.{All, filter, list_any}
 use Rattle.std.specs.List.Sorted.{IsStrictlySortedBy}
-use Rattle.std.proofs.lemmas.Bool.{false≢true, cases_Bool, cases_eq, cases_lt, eq-eqb, ne_eqb, eqb-true, or_cases, or_left, or_right}
-use Rattle.std.proofs.lemmas.Cmp.{ranked, nat_cmp_total}
+use Rattle.std.proofs.lemmas.Bool.{false≢true, cases_Bool, cases_lt, eq-eqb, eqb-true, or_left, or_right}
+use Rattle.std.proofs.lemmas.Cmp.{nat_cmp_total}
 use Rattle.std.proofs.lemmas.List.Elements.{All-head, All-tail, All-cons, All-nil, All-map, All-weaker}
 use Rattle.neg_codec.specs.declared.Id.{Id}
-use Rattle.sharing.specs.Offers.{AreRelays, IsOffers, Ascend, id_cmp, is_id, beside, relays_of}
+use Rattle.sharing.specs.Offers.{AreRelays}
 use Rattle.sharing.proofs.Orders.{head_sorted, tail_sorted, less_from, lt_from_less}
 use Rattle.offer_table.specs.Relays.{bits_of}
 use Rattle.offer_table.specs.Groups.{set_cmp, with_set, sets_of, ids_numbered, groups_of}
 use Rattle.offer_table.specs.Rows.{ids_at, row_cmp, AreRows, IsGrouped}
 use Rattle.offer_table.proofs.Cuts.{sorted_cons}
 use Rattle.offer_table.proofs.Numbers.{same_set}
-use Rattle.offer_table.proofs.RowEdits.{Rows, number_of, AllAbove, past_below, past_above, none_above, same_number}
+use Rattle.offer_table.proofs.RowEdits.{Rows, number_of, AllAbove, none_above, same_number}
 
 abbrev pub Sets : Type 0
 Sets = List (List ℕ)

@@ -1,12 +1,10 @@
 -- Membership in a set of relays, by its bits.
-use Rattle.std.proofs.Common.{append-nil, ◌≡◌, ◌≢◌, ℕ, ◌+◌, ◌*◌, ◌/◌, ◌%◌, ◌^◌, ◌<◌, ◌≤◌, ◌==◌, Bool, true, false, ◌||◌, cond, zero, suc, List, [], ◌∷◌, ◌++◌, length, get_or, ◌⊎◌, subst, refl, sym, ap, ◌∙◌, arith, inl, inr, w64, bit_or, bit_and, max, min, not, ◌&&◌}
+use Rattle.std.proofs.Common.{append-nil, ◌≡◌, ℕ, ◌*◌, ◌%◌, ◌^◌, ◌<◌, ◌≤◌, ◌==◌, Bool, true, false, ◌||◌, cond, zero, suc, List, [], ◌∷◌, ◌++◌, length, get_or, ◌⊎◌, subst, refl, sym, ap, ◌∙◌, arith, inl, inr, w64, bit_or, bit_and, max, not, ◌&&◌}
 use Rattle.std.specs.Int.{bit_at, bit_not}
 use Rattle.sharing.specs.declared.TheConstants.{RELAYS}
-use Rattle.std.proofs.lemmas.Bool.{false≢true, cases_lt, cases_eq, cases_Bool, eq-eqb, eqb-true, ne_eqb, false_from_ne_true, or_parts, or_from, or_left, and_left, and_right}
-use Rattle.std.proofs.lemmas.List.Folds.{list_any-append, Any-from_list_any, list_any_at}
-use Rattle.std.proofs.lemmas.Nat.{or_lt}
+use Rattle.std.proofs.lemmas.Bool.{false≢true, cases_lt, cases_eq, cases_Bool, eq-eqb, eqb-true, ne_eqb, false_from_ne_true, or_left, and_left, and_right}
+use Rattle.std.proofs.lemmas.List.Folds.{Any-from_list_any, list_any_at}
 use Rattle.std.proofs.lemmas.Nat.Bits.{bit_at_set_same, bit_at_set_other, bit_at_clear_same, bit_at_clear_other, bit_at_or, bit_at_and, bit_at-lt, bit_at-zero, bit_at_above, same_from_bits}
-use Rattle.std.proofs.Math.Nat.{mod-lt}
 use Rattle.std.specs.declared.cmp.Ordering.{Ordering}
 use Rattle.std.specs.declared.cmp.Ordering.TheVariants.{Less}
 use Rattle.std.specs.Ordering.{nat_cmp}

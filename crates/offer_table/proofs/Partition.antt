@@ -1,5 +1,5 @@
 -- Each offered id stands in one group of its offers.
-use Rattle.std.proofs.Common.{◌≡◌, ℕ, ◌+◌, ◌<◌, ◌≤◌, ◌==◌, ◌||◌, Bool, true, false, cond, List, [], ◌∷◌, ◌++◌, length, map, Some, None, Option, refl, sym, ap, ◌∙◌, subst, arith, inl, inr, ◌⊎◌}
+use Rattle.std.proofs.Common.{◌≡◌, ℕ, ◌+◌, ◌<◌, ◌==◌, ◌||◌, Bool, true, false, cond, List, [], ◌∷◌, length, map, Some, None, Option, refl, sym, ap, ◌∙◌, subst, arith, inl, inr, ◌⊎◌}
 use Rattle.std.specs.Prelude.{unwrap_or, is_some}
 use Rattle.std.specs.Option.{IfSome}
 use Rattle.std.specs.declared.cmp.Ordering.TheVariants.{Less}
@@ -12,11 +12,10 @@ use Rattle.std.proofs.lemmas.List.Elements.{All-head, All-tail, All-cons, All-ni
 use Rattle.std.proofs.lemmas.Map.Entries.{All-lookup}
 use Rattle.neg_codec.specs.declared.Id.{Id}
 use Rattle.sharing.specs.Offers.{AreRelays, IsOffers, Ascend, id_cmp, is_id, beside, relays_of}
-use Rattle.sharing.proofs.Orders.{head_sorted, tail_sorted, same_id, id_itself, id_apart, id_flips, All-unmap, lt_from_less}
+use Rattle.sharing.proofs.Orders.{head_sorted, tail_sorted, same_id, id_apart, id_flips, All-unmap, lt_from_less}
 use Rattle.sharing.proofs.Looks.{map_twice, map_itself}
 use Rattle.offer_table.specs.Relays.{bits_of}
 use Rattle.offer_table.specs.Groups.{set_cmp, sets_of, ids_numbered, groups_of, is_listed, AreGroups}
-use Rattle.offer_table.specs.Rows.{AreRows}
 use Rattle.offer_table.proofs.Cuts.{sorted_cons}
 use Rattle.offer_table.proofs.IdRows.{AllBehind}
 use Rattle.offer_table.proofs.Numbers.{same_set}

@@ -1,22 +1,22 @@
 -- Tables of offers as maps from ids to sets of relays.
-use Rattle.std.proofs.Common.{◌≡◌, ℕ, ◌+◌, ◌<◌, ◌≤◌, ◌==◌, ◌||◌, ◌&&◌, not, Bool, true, false, cond, List, [], ◌∷◌, ◌++◌, length, map, Option, Some, None, refl, sym, ap, ◌∙◌, subst, arith, inl, inr, if◌then◌else◌}
+use Rattle.std.proofs.Common.{◌≡◌, ℕ, ◌+◌, ◌<◌, ◌==◌, ◌||◌, ◌&&◌, not, Bool, true, false, cond, List, [], ◌∷◌, ◌++◌, length, map, Option, Some, None, refl, sym, ap, ◌∙◌, subst, arith, inl, inr}
 use Rattle.std.specs.Prelude.{is_some, unwrap_or}
 use Rattle.std.specs.declared.cmp.Ordering.{Ordering}
 use Rattle.std.specs.declared.cmp.Ordering.TheVariants.{Less, Equal, Greater}
-use Rattle.std.specs.Ordering.{match_ordering, is_eq, ordering_reverse, nat_cmp}
+use Rattle.std.specs.Ordering.{match_ordering, ordering_reverse, nat_cmp}
 use Rattle.std.specs.BTreeMap.{insert_entry}
 use Rattle.std.specs.Map.{remove_entry}
 use Rattle.std.proofs.lemmas.List.{map-append}
-use Rattle.std.specs.List.{All, count_by}
+use Rattle.std.specs.List.{All}
 use Rattle.std.specs.List.Sorted.{IsStrictlySortedBy}
-use Rattle.std.proofs.lemmas.Bool.{cases_Bool, false≢true, eq-eqb, ne_eqb, or_left, or_right, or_cases, eqb-true, and_parts, and_left}
-use Rattle.std.proofs.lemmas.List.Elements.{All-head, All-tail, All-cons, All-nil, All-push, All-map}
+use Rattle.std.proofs.lemmas.Bool.{cases_Bool, false≢true, or_right, eqb-true, and_parts, and_left}
+use Rattle.std.proofs.lemmas.List.Elements.{All-head, All-tail, All-cons, All-nil}
 use Rattle.std.proofs.lemmas.List.Sums.{sum_by_push, sum_by-cons}
 use Rattle.neg_codec.specs.declared.Id.{Id}
 use Rattle.sharing.specs.Sharing.{is_among}
 use Rattle.sharing.specs.Offers.{id_cmp, is_id, Ascend, AreRelays, beside, relays_of}
-use Rattle.sharing.proofs.Orders.{id_total, same_id, id_itself, id_apart, id_flips, head_sorted, tail_sorted, among_head, All-unmap, same_sorted}
-use Rattle.offer_table.specs.Table.{new_in, Table, IsTable}
+use Rattle.sharing.proofs.Orders.{id_total, same_id, id_itself, id_apart, id_flips, head_sorted, tail_sorted, among_head, same_sorted}
+use Rattle.offer_table.specs.Table.{new_in, IsTable}
 
 or_false : (b : Bool) → (b || false) ≡ b
 or_false true = refl

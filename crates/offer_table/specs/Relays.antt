@@ -1,5 +1,5 @@
 -- A set of relays, as the ascending list of its members.
-use Rattle.std.specs.Prelude.{◌≡◌, ℕ, ◌+◌, ◌^◌, ◌==◌, Bool, true, false, if◌then◌else◌, List, [], ◌∷◌, ◌++◌, sum_by, zero, suc}
+use Rattle.std.specs.Prelude.{ℕ, ◌^◌, ◌==◌, Bool, if◌then◌else◌, List, [], ◌∷◌, ◌++◌, sum_by, zero, suc}
 use Rattle.std.specs.Int.{bit_at}
 use Rattle.sharing.specs.declared.TheConstants.{RELAYS}
 

@@ -160,6 +160,10 @@ impl OfferTable {
     }
 
     /// Takes one offer away, and the id with its last offer. False where there was none.
+    ///
+    /// Beside two searches in the ids it moves the ids that stand behind this one in its old group and in its
+    /// new one, 32 bytes each, and, where a group comes or goes, the list of groups behind it. The first id of
+    /// a group leaves, and the last one of a group comes, without a move: ids in ascending order are quick.
     pub fn strike(&mut self, id: &Id, relay: u16) -> Result<bool, AllocError>
         ensures found { IfOk result (λ b. b ≡ is_among (relays_of self.old.offers id.now) relay) }
         ensures offers { OnOk result ((i : Id) (r : ℕ) → is_among (relays_of self.new.offers i) r ≡ (is_among (relays_of self.old.offers i) r && not (is_id id.now i && (r == relay)))) }
@@ -203,7 +207,7 @@ impl OfferTable {
         self.offers.keys()
     }
 
-    /// How many distinct sets of relays the offered ids have.
+    /// How many distinct sets of relays the offered ids have: each of them is a group.
     pub fn groups(&self) -> usize
         ensures count { result ≡ length (groups_of self.now.offers) }
         ensures groups { AreGroups self.now.offers (groups_of self.now.offers) }
@@ -212,8 +216,8 @@ impl OfferTable {
         self.groups.len()
     }
 
-    /// A set of relays, and the ids that just these relays offer, ascending. The sets ascend as numbers in
-    /// which relay r counts 2^r.
+    /// A group: a set of relays, which is not empty, and the ids that just these relays offer, ascending.
+    /// The sets of the groups are distinct, and ascend as numbers in which relay r counts 2^r.
     pub fn group_at(&self, k: usize) -> (RelaySet, &[Id])
         requires { k < length (groups_of self.now.offers) }
         ensures value { slice_get (groups_of self.now.offers) k ≡ Some (result.0, result.1.now) }

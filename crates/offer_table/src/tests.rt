@@ -144,19 +144,7 @@ fn large_tables_are_merged_and_struck(rt: HostRuntime) -> Result<(), Fail> {
     Ok(())
 }
 
-#[test]
-fn the_last_offer_takes_the_id_away(rt: HostRuntime) -> Result<(), Fail> {
-    let a = merged(report(rt.alloc(), 0, &[5])?, report(rt.alloc(), 1, &[5])?)?;
-    let mut table = merged(a, report(rt.alloc(), 2, &[5])?)?;
-    for (relay, there) in [(0, true), (0, false), (1, true), (2, true)] {
-        assert_eq!(rt; table.strike(&numbered(5), relay)?, there, "relay {relay}");
-    }
-    assert_eq!(rt; table.ids().count(), 0);
-    assert!(rt; table.reported().has(0));
-    Ok(())
-}
-
-/// The relays and the ids of each group, by the numbers of the ids.
+/// Whether a group has just these relays, and the ids of just these numbers.
 fn is_group(table: &OfferTable, k: usize, relays: &[u16], numbers: &[u32]) -> bool {
     if k >= table.groups() {
         return false;
@@ -231,5 +219,17 @@ fn a_report_is_one_group(rt: HostRuntime) -> Result<(), Fail> {
     assert!(rt; is_group(&table, 0, &[63], &[1, 2, 3]));
     assert_eq!(rt; report(rt.alloc(), 5, &[])?.groups(), 0);
     assert_eq!(rt; OfferTable::empty(rt.alloc()).groups(), 0);
+    Ok(())
+}
+
+#[test]
+fn the_last_offer_takes_the_id_away(rt: HostRuntime) -> Result<(), Fail> {
+    let a = merged(report(rt.alloc(), 0, &[5])?, report(rt.alloc(), 1, &[5])?)?;
+    let mut table = merged(a, report(rt.alloc(), 2, &[5])?)?;
+    for (relay, there) in [(0, true), (0, false), (1, true), (2, true)] {
+        assert_eq!(rt; table.strike(&numbered(5), relay)?, there, "relay {relay}");
+    }
+    assert_eq!(rt; table.ids().count(), 0);
+    assert!(rt; table.reported().has(0));
     Ok(())
 }

@@ -1,4 +1,4 @@
-use Rattle.std.proofs.Common.{◌≡◌, ◌+◌, ◌||◌, ◌++◌, ◌∷◌, [], ℕ, List, map, length, refl, sym, ap, ◌∙◌, subst, arith, rules, cond, Some, None}
+use Rattle.std.proofs.Common.{◌≡◌, ◌+◌, ◌||◌, ◌++◌, ◌∷◌, ℕ, List, map, length, sym, ap, ◌∙◌, subst, cond}
 use Rattle.std.specs.Prelude.{is_some}
 use Rattle.std.specs.Option.{option_copied}
 use Rattle.std.specs.Map.Iter.{deref_pair}
@@ -6,8 +6,8 @@ use Rattle.std.proofs.lemmas.Map.Iter.{rest_more, rest_so_far}
 use Rattle.std.proofs.lemmas.List.{map-append}
 use Rattle.neg_codec.specs.declared.Id.{Id}
 use Rattle.sharing.specs.Sharing.{is_among}
-use Rattle.sharing.specs.Offers.{AreRelays, relays_of, beside, Ascend, id_cmp, is_id}
-use Rattle.offer_table.proofs.Tables.{Adding, adding_step, relays_found, relays_none}
+use Rattle.sharing.specs.Offers.{AreRelays, relays_of, beside, Ascend}
+use Rattle.offer_table.proofs.Tables.{adding_step, relays_found, relays_none}
 use Rattle.offer_table.proofs.table.add_all.Goals as goal
 use Rattle.offer_table.proofs.table.add_all.Goals.{in-Some-get, in-None-get}
 

@@ -1,4 +1,4 @@
-use Rattle.std.proofs.Common.{◌≡◌, sym, ap, ◌∙◌}
+use Rattle.std.proofs.Common.{sym, ◌∙◌}
 use Rattle.std.proofs.lemmas.Bool.{eqb-true, eq-eqb}
 use Rattle.offer_table.proofs.Members.{none_of_zero, zero_of_none}
 use Rattle.offer_table.proofs.relays.RelaySet.is_empty.Goals as goal

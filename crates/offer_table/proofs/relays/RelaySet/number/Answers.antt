@@ -1,4 +1,4 @@
-use Rattle.std.proofs.Common.{◌≡◌, ◌<◌, ◌^◌, sym, ap, ◌∙◌, subst, arith}
+use Rattle.std.proofs.Common.{sym, ap, ◌∙◌, subst}
 use Rattle.sharing.specs.Offers.{AreRelays}
 use Rattle.offer_table.specs.Relays.{bits_of}
 use Rattle.offer_table.specs.RelayBits.{bits_of-members}

@@ -1,4 +1,4 @@
-use Rattle.std.proofs.Common.{◌≡◌, ◌||◌, ◌==◌, ◌*◌, ◌^◌, ◌%◌, ◌<◌, sym, ap, ◌∙◌, arith, lit<}
+use Rattle.std.proofs.Common.{◌||◌, ◌==◌, ◌*◌, ◌^◌, ◌%◌, ap, ◌∙◌, lit<}
 use Rattle.std.proofs.lemmas.Nat.{or_lt}
 use Rattle.std.proofs.Math.Nat.{mod-lt}
 use Rattle.sharing.specs.Sharing.{is_among}

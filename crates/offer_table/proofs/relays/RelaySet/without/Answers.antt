@@ -1,10 +1,5 @@
-use Rattle.std.proofs.Common.{◌≡◌, ◌<◌, ◌==◌, ◌&&◌, not, false, ℕ, ap, ◌∙◌, sym, subst, arith, inl, inr}
-use Rattle.std.specs.List.{All}
-use Rattle.std.proofs.lemmas.Bool.{ne_eqb, cases_lt, false≢true, cases_Bool}
-use Rattle.sharing.specs.declared.TheConstants.{RELAYS}
+use Rattle.std.proofs.Common.{◌==◌, ◌&&◌, not, ap, ◌∙◌}
 use Rattle.sharing.specs.Sharing.{is_among}
-use Rattle.sharing.specs.Offers.{AreRelays}
-use Rattle.offer_table.specs.Relays.{members}
 use Rattle.offer_table.proofs.Members.{without_member, relays_members, without_none}
 use Rattle.offer_table.proofs.relays.RelaySet.without.Goals as goal
 

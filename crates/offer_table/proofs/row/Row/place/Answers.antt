@@ -1,5 +1,4 @@
-use Rattle.std.proofs.Common.{◌≡◌, List, ℕ, sym, subst}
-use Rattle.neg_codec.specs.declared.Id.{Id}
+use Rattle.std.proofs.Common.{sym, subst}
 use Rattle.sharing.specs.Offers.{Ascend, id_cmp}
 use Rattle.sharing.proofs.Orders.{id_total}
 use Rattle.offer_table.proofs.Cuts.{found, missed}

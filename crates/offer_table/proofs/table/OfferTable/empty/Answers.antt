@@ -1,6 +1,6 @@
 use Rattle.std.proofs.Common.{◌≡◌, subst, sym, ap, ◌∙◌, [], List, ℕ}
 use Rattle.neg_codec.specs.declared.Id.{Id}
-use Rattle.offer_table.specs.Table.{Table, IsTable}
+use Rattle.offer_table.specs.Table.{IsTable}
 use Rattle.offer_table.specs.Groups.{ids_numbered}
 use Rattle.offer_table.specs.Rows.{ids_at}
 use Rattle.offer_table.proofs.Tables.{none_ok}

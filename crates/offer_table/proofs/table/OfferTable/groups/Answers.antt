@@ -1,7 +1,6 @@
-use Rattle.std.proofs.Common.{◌≡◌, ℕ, List, length, sym, ap, ◌∙◌, subst}
+use Rattle.std.proofs.Common.{◌≡◌, length, ap, ◌∙◌, subst}
 use Rattle.offer_table.specs.Table.{Table}
 use Rattle.offer_table.specs.Groups.{groups_of}
-use Rattle.offer_table.proofs.RowEdits.{Rows}
 use Rattle.sharing.specs.Offers.{IsOffers}
 use Rattle.offer_table.proofs.Grouped.{rows_are_groups}
 use Rattle.offer_table.proofs.Partition.{are_groups}

@@ -1,4 +1,4 @@
-use Rattle.std.proofs.Common.{◌≡◌, ◌<◌, ◌==◌, ◌||◌, ◌≤◌, ◌++◌, ◌∷◌, [], ℕ, List, map, length, refl, sym, ap, ◌∙◌, subst, arith}
+use Rattle.std.proofs.Common.{◌≡◌, ◌<◌, ◌==◌, ◌||◌, ◌≤◌, ◌++◌, ◌∷◌, [], ℕ, List, map, length, sym, ap, ◌∙◌, subst, arith}
 use Rattle.std.specs.Map.Iter.{deref}
 use Rattle.std.specs.BTreeMap.{insert_entry}
 use Rattle.sharing.specs.declared.TheConstants.{MOST_IDS}

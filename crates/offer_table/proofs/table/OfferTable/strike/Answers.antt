@@ -1,5 +1,5 @@
-use Rattle.std.proofs.Common.{◌≡◌, ◌≢◌, ◌+◌, ◌<◌, Bool, ◌≤◌, ◌==◌, ◌&&◌, not, true, false, ℕ, List, [], length, refl, sym, ap, ◌∙◌, subst, arith, Some, None, map, cond}
-use Rattle.std.specs.Prelude.{is_some, unwrap_or}
+use Rattle.std.proofs.Common.{◌≡◌, ◌≢◌, ◌+◌, ◌<◌, Bool, ◌≤◌, ◌==◌, ◌&&◌, not, true, ℕ, List, [], length, sym, ap, ◌∙◌, subst, arith, Some, None, map, cond}
+use Rattle.std.specs.Prelude.{is_some}
 use Rattle.std.specs.List.{All}
 use Rattle.neg_codec.specs.declared.Id.{Id}
 use Rattle.sharing.specs.Sharing.{is_among}
