@@ -9,13 +9,13 @@ ghost use Rattle.plan_run.specs.Planned.{IsPlannedFrom, IsTooMany, IsSharedAs};
 ghost use Rattle.plan_run.specs.Jobs.{IsPlanWritten, IsPlanRefusal};
 
 use crate::parts::{gives_of, members_of};
+use crate::printing::write_file;
 use crate::reading::read_file;
-use crate::writing::write_text;
 use fetch_plan::plan;
 use mirror_run::Refusal;
 use neg_codec::Id;
 use offer_table::{OfferFault, OfferTable};
-use plan_check::{PlanFile, write_plan};
+use plan_check::PlanFile;
 use sharing::MOST_IDS;
 use std::alloc::{AllocError, Global};
 use std::io::{Read, Write};
@@ -69,6 +69,5 @@ pub fn run_plan<R: Read, W: Write>(
 {
     let file = read_file(alloc, reader)?;
     let planned = plan_file(alloc, file)?;
-    let text = write_plan(alloc, &planned)?;
-    write_text(writer, text.as_str())
+    write_file(alloc, writer, &planned)
 }
