@@ -10,6 +10,7 @@ mod placing;
 mod recon;
 mod refusal;
 mod rolls;
+pub mod waiting;
 
 pub use input::{LONGEST_INPUT, read_input};
 pub use lists::{Lists, read_lists};

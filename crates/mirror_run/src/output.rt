@@ -7,6 +7,7 @@ ghost use Rattle.hex.specs.Hex.{encode_lower};
 ghost use Rattle.mirror_run.specs.ReconText.{message_text, exchange_text, count_text, ids_text, recon_text};
 
 use crate::refusal::Refusal;
+use crate::waiting::{put, send};
 use id_text::digits_of;
 use neg_codec::Id;
 use neg_session::Pair;
@@ -14,32 +15,6 @@ use std::alloc::Global;
 use std::collections::BTreeSet;
 use std::io;
 use std::io::Write;
-
-/// Writes what waits.
-fn send<W: Write>(out: &mut W, wait: &mut Vec<u8>) -> io::Result<()>
-    ensures written { OnOk result (Appends (W.contents out.old) (W.contents out.new) wait.old.items) }
-    ensures empty { OnOk result (wait.new.items ≡ []) }
-{
-    out.write_all(wait.as_slice())?;
-    wait.clear();
-    Ok(())
-}
-
-/// Writes bytes, or lets them wait where they find room.
-fn put<W: Write>(out: &mut W, wait: &mut Vec<u8>, bytes: &[u8]) -> io::Result<()>
-    ensures { OnOk result (Sends (W.contents out.old) wait.old.items (W.contents out.new) wait.new.items bytes.now) }
-{
-    if bytes.len() > wait.capacity() - wait.len() {
-        send(out, wait)?;
-        if bytes.len() > wait.capacity() {
-            return out.write_all(bytes);
-        }
-    }
-    let Ok(()) = wait.extend_from_slice(bytes) else {
-        unreachable!();
-    };
-    Ok(())
-}
 
 /// Writes up to 4,096 bytes in hex.
 fn write_hex_part<W: Write>(out: &mut W, wait: &mut Vec<u8>, bytes: &[u8]) -> io::Result<()>

@@ -1,4 +1,7 @@
 pub mod Gathered
+pub mod Digits
+pub mod Written
+pub mod Spelled
 pub mod Done
 pub mod Passing
 pub mod Failing

@@ -1,9 +1,11 @@
 -- The plan file that is made of the offers of another, and what the checker says of a file.
-use Rattle.std.specs.Prelude.{◌≡◌, ℕ, ◌<◌, length, Err}
+use Rattle.std.specs.Prelude.{◌≡◌, ℕ, ◌<◌, List, length, Err}
+use Rattle.neg_codec.specs.declared.Id.{Id}
 use Rattle.sharing.specs.declared.TheConstants.{MOST_IDS}
 use Rattle.sharing.specs.Sharing.{Shows}
 use Rattle.sharing.specs.Reached.{IsLeast}
 use Rattle.sharing.specs.Offers.{relay_in}
+use Rattle.fetch_plan.specs.Plan.{Planned as Plan, IsPlanOf}
 use Rattle.plan_check.specs.declared.faults.PlanFault.{PlanFault}
 use Rattle.plan_check.specs.declared.faults.PlanFault.TheVariants.{NotOffered, Missing, Stranger, GroupTooSmall}
 use Rattle.plan_check.specs.File.{File}
@@ -22,6 +24,10 @@ pub record IsPlannedFrom (read made : File) : Type 0 where
   pub most : ℕ
   pub least : IsLeast (relay_in made.gives) made.offers most made.group
   pub passes : Passes made most
+
+-- the gives and the group are those of a plan of the offers
+abbrev pub IsSharedAs : List (Id × List ℕ) → List (Id × ℕ) → List ℕ → Type 0
+IsSharedAs offers gives group = (plan : Plan) × (gives ≡ plan.gives) × (group ≡ plan.group) × IsPlanOf offers plan
 
 -- more ids are offered than a table takes
 abbrev pub IsTooMany : File → Type 0

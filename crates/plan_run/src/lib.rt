@@ -3,8 +3,10 @@
 
 mod checking;
 mod laws;
+mod lines;
 mod parts;
 mod planning;
+mod printing;
 mod reading;
 mod writing;
 

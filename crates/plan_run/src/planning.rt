@@ -1,42 +1,56 @@
 //! The job `plan`.
 
-ghost use Rattle.std.specs.Prelude.{◌≡◌, ◌≢◌, ◌⊎◌, map, IfOk, IfErr, OnOk, IfSome};
+ghost use Rattle.std.specs.Prelude.{◌≡◌, ◌≢◌, ◌<◌, ◌⊎◌, length, map, IfOk, IfErr, OnOk, IfSome};
 ghost use Rattle.std.specs.Io.KnownBytes.{Keeps};
 ghost use Rattle.sharing.specs.Offers.{IsOffers};
 ghost use Rattle.sharing.specs.declared.TheConstants.{MOST_IDS};
-ghost use Rattle.plan_run.specs.Planned.{IsPlannedFrom, IsTooMany};
+ghost use Rattle.plan_check.specs.File.{pairs_of};
+ghost use Rattle.plan_run.specs.Planned.{IsPlannedFrom, IsTooMany, IsSharedAs};
 ghost use Rattle.plan_run.specs.Jobs.{IsPlanWritten, IsPlanRefusal};
 
-use crate::parts::{copy_offers, gives_of, members_of};
+use crate::parts::{gives_of, members_of};
+use crate::printing::write_file;
 use crate::reading::read_file;
-use crate::writing::write_text;
 use fetch_plan::plan;
 use mirror_run::Refusal;
+use neg_codec::Id;
 use offer_table::{OfferFault, OfferTable};
-use plan_check::{PlanFile, write_plan};
+use plan_check::PlanFile;
 use sharing::MOST_IDS;
 use std::alloc::{AllocError, Global};
 use std::io::{Read, Write};
 
-/// The file of the same offers, with a least sharing of them and the group that shows it. The gives and the
-/// group that the file has are forgotten.
-///
-/// Refused as `TableFull` for more than [`MOST_IDS`] ids, and for want of memory.
-pub fn plan_file(alloc: Global, file: &PlanFile) -> Result<PlanFile, Refusal>
-    ensures planned { IfOk result (IsPlannedFrom file.now) }
-    ensures err { IfErr result (λ e. (e ≡ Refusal.Memory) ⊎ ((e ≡ Refusal.TableFull) × IsTooMany file.now)) }
+/// The gives of a least sharing of offers, and the group that shows it.
+fn share_out(
+    alloc: Global,
+    offers: &[(Id, Vec<u16>)],
+) -> Result<(Vec<(Id, u16)>, Vec<u16>), Refusal>
+    requires { IsOffers (pairs_of offers.now) }
+    ensures shared { IfOk result (λ s. IsSharedAs (pairs_of offers.now) s.0.items s.1.items) }
+    ensures err { IfErr result (λ e. (e ≡ Refusal.Memory) ⊎ ((e ≡ Refusal.TableFull) × (MOST_IDS < length (pairs_of offers.now)))) }
 {
-    let offers = file.offers();
     let table = match OfferTable::of_offers(alloc, offers) {
         Ok(table) => table,
         Err(OfferFault::TableFull) => return Err(Refusal::TableFull),
         Err(_) => return Err(Refusal::Memory),
     };
     let made = plan(alloc, &table)?;
-    let copied = copy_offers(alloc, offers)?;
     let gives = gives_of(alloc, &made)?;
     let group = members_of(alloc, made.group())?;
-    match PlanFile::of(copied, gives, group) {
+    Ok((gives, group))
+}
+
+/// The file of the same offers, with a least sharing of them and the group that shows it. The gives and the
+/// group that the file has are forgotten.
+///
+/// Refused as `TableFull` for more than [`MOST_IDS`] ids, and for want of memory.
+pub fn plan_file(alloc: Global, file: PlanFile) -> Result<PlanFile, Refusal>
+    ensures planned { IfOk result (IsPlannedFrom file) }
+    ensures err { IfErr result (λ e. (e ≡ Refusal.Memory) ⊎ ((e ≡ Refusal.TableFull) × IsTooMany file)) }
+{
+    let offers = file.into_offers();
+    let (gives, group) = share_out(alloc, &offers)?;
+    match PlanFile::of(offers, gives, group) {
         Ok(planned) => Ok(planned),
         Err(_) => unreachable!(),
     }
@@ -54,7 +68,6 @@ pub fn run_plan<R: Read, W: Write>(
     ensures unwritten { IfErr result (λ e. e ≢ Refusal.Write → Keeps (W.contents writer.old) (W.contents writer.new)) }
 {
     let file = read_file(alloc, reader)?;
-    let planned = plan_file(alloc, &file)?;
-    let text = write_plan(alloc, &planned)?;
-    write_text(writer, text.as_str())
+    let planned = plan_file(alloc, file)?;
+    write_file(alloc, writer, &planned)
 }

@@ -276,7 +276,7 @@ fn a_file_is_read_and_planned(rt: HostRuntime) -> Result<(), Fail> {
     let file = read_file(alloc, &mut text.as_str().as_bytes())
         .ok()
         .ok_or("not read")?;
-    let made = plan_file(alloc, &file).ok().ok_or("not planned")?;
+    let made = plan_file(alloc, file).ok().ok_or("not planned")?;
     assert_eq!(rt; check(&made).ok(), Some(1));
     assert_eq!(rt; (made.offers().len(), made.gives().len()), (2, 2));
     assert!(rt; made.gives()[0].1 == 1 && made.gives()[1].1 == 0);

@@ -1,0 +1,9 @@
+use Rattle.std.proofs.Common.{arith}
+use Rattle.plan_run.proofs.Digits.{few_relays}
+use Rattle.plan_run.proofs.lines.set_group.Goals as goal
+
+pub set_relays-last-requires-clause-room : goal.set_relays-last-requires-clause-room
+set_relays-last-requires-clause-room c = omega (arith, few_relays c.args.relays.now c.requires.relays)
+
+pub set_word-requires : goal.set_word-requires
+set_word-requires c = omega (arith, few_relays c.args.relays.now c.requires.relays)
