@@ -1,10 +1,10 @@
 -- Which words are the decimal digits of a relay.
-use Rattle.std.proofs.Common.{◌≡◌, ◌≢◌, ℕ, zero, suc, ◌^◌, ◌<◌, ◌≤◌, List, [], ◌∷◌, ◌++◌, length, refl, append_assoc, take, get_or, decimal, lit<, lit≤, ap, sym, subst, ◌∙◌, arith}
+use Rattle.std.proofs.Common.{◌≡◌, ◌≢◌, ℕ, zero, suc, ◌+◌, ◌/◌, ◌%◌, ◌^◌, ◌<◌, ◌≤◌, List, [], ◌∷◌, ◌++◌, length, refl, append_assoc, take, get_or, decimal, lit<, lit≤, ap, sym, subst, ◌∙◌, arith}
 use Rattle.std.specs.Int.{IsInRange}
 use Rattle.std.specs.List.{All}
 use Rattle.std.specs.Str.Parse.{AllDigits, digits_value}
 use Rattle.std.proofs.lemmas.Str.Parse.{IsNumeralModel, numerals_by_value, tells_digits, digit_at, digits_value-take-le}
-use Rattle.std.proofs.lemmas.Fmt.{decimal_digit, decimal_nonempty, first_decimal, digits_decimal, digits_value-decimal, decimal-digits_value}
+use Rattle.std.proofs.lemmas.Fmt.{decimal_digit, decimal_step, decimal_nonempty, first_decimal, digits_decimal, digits_value-decimal, decimal-digits_value}
 use Rattle.std.proofs.lemmas.List.{get_or_default, append-nil}
 use Rattle.std.proofs.lemmas.List.Elements.{All-head, All-tail}
 use Rattle.std.proofs.lemmas.Grind.{flat_map-append}
@@ -90,3 +90,14 @@ more_relays text rest after relays r e f =
 pub some_text : (relays : List ℕ) → 0 < length relays → 0 < length (relays_text relays)
 some_text [] some = absurd (omega arith)
 some_text (r ∷ rs) some = omega arith
+
+-- a relay is written with one digit, or with two
+pub one_digit : (start : List ℕ) (r : ℕ) → r < 10 → (start ++ 32 ∷ []) ++ (48 + r % 10) ∷ [] ≡ start ++ relay_text r
+one_digit start r small =
+    let same : r % 10 ≡ r = omega arith in
+    append_assoc start (32 ∷ []) ((48 + r % 10) ∷ []) ∙ ap (λ n. start ++ 32 ∷ (48 + n) ∷ []) same ∙ ap (λ t. start ++ 32 ∷ t) (sym (decimal_digit r small))
+
+pub two_digits : (start : List ℕ) (r : ℕ) → 10 ≤ r → r < RELAYS → ((start ++ 32 ∷ []) ++ (48 + r / 10) ∷ []) ++ (48 + r % 10) ∷ [] ≡ start ++ relay_text r
+two_digits start r large small =
+    let digits : decimal r ≡ (48 + r / 10) ∷ (48 + r % 10) ∷ [] = decimal_step r large (relay_small r small) ∙ ap (λ t. t ++ (48 + r % 10) ∷ []) (decimal_digit (r / 10) (omega arith)) in
+    append_assoc (start ++ 32 ∷ []) ((48 + r / 10) ∷ []) ((48 + r % 10) ∷ []) ∙ append_assoc start (32 ∷ []) ((48 + r / 10) ∷ (48 + r % 10) ∷ []) ∙ ap (λ t. start ++ 32 ∷ t) (sym digits)
