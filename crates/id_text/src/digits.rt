@@ -2,6 +2,7 @@
 
 ghost use Rattle.std.specs.Prelude.{◌≡◌, ◌<◌, slice_index};
 ghost use Rattle.hex.specs.Hex.{encode_lower, lower_digits};
+ghost use Rattle.neg_codec.specs.Keys.{IsId};
 
 use neg_codec::Id;
 
@@ -15,11 +16,13 @@ fn hex_digit(value: u8) -> u8
 
 /// The lower-case hex digits of an id, those of its first byte first.
 pub fn digits_of(id: &Id) -> [u8; 64]
-    ensures { result ≡ encode_lower id.now.0 }
+    ensures digits { result ≡ encode_lower id.now.0 }
+    ensures id { IsId id.now }
 {
+    let bytes = id.as_bytes();
     let mut text = [0; 64];
     for i in 0..32 {
-        let byte = id.0[i];
+        let byte = bytes[i];
         text[2 * i] = hex_digit(byte / 16);
         text[2 * i + 1] = hex_digit(byte % 16);
     }

@@ -13,3 +13,4 @@ pub mod TextLemmas
 pub mod OneText
 pub mod ReadLemmas
 pub mod WriteLemmas
+pub mod Ascii

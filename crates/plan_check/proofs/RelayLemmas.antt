@@ -1,11 +1,11 @@
 -- Which words are the decimal digits of a relay.
-use Rattle.std.proofs.Common.{◌≡◌, ◌≢◌, ℕ, zero, suc, ◌^◌, ◌<◌, ◌≤◌, List, [], ◌∷◌, ◌++◌, length, refl, append_assoc, take, get_or, decimal, lit<, lit≤, ap, sym, subst, ◌∙◌, arith}
-use Rattle.std.specs.Int.{IsInRange}
+use Rattle.std.proofs.Common.{◌≡◌, ◌≢◌, ◌⊎◌, inl, inr, drop, ℕ, ◌+◌, ◌/◌, ◌%◌, ◌^◌, ◌<◌, ◌≤◌, List, [], ◌∷◌, ◌++◌, length, refl, append_assoc, get_or, decimal, ap, sym, subst, ◌∙◌, arith}
 use Rattle.std.specs.List.{All}
 use Rattle.std.specs.Str.Parse.{AllDigits, digits_value}
-use Rattle.std.proofs.lemmas.Str.Parse.{IsNumeralModel, numerals_by_value, tells_digits, digit_at, digits_value-take-le}
-use Rattle.std.proofs.lemmas.Fmt.{decimal_digit, decimal_nonempty, first_decimal, digits_decimal, digits_value-decimal, decimal-digits_value}
+use Rattle.std.proofs.lemmas.Str.Parse.{IsNumeralModel, numerals_by_value, tells_digits, digit_at}
+use Rattle.std.proofs.lemmas.Fmt.{decimal_digit, decimal_step, digits_decimal}
 use Rattle.std.proofs.lemmas.List.{get_or_default, append-nil}
+use Rattle.std.proofs.lemmas.Bool.{cases_lt}
 use Rattle.std.proofs.lemmas.List.Elements.{All-head, All-tail}
 use Rattle.std.proofs.lemmas.Grind.{flat_map-append}
 use Rattle.sharing.specs.declared.TheConstants.{RELAYS}
@@ -21,38 +21,6 @@ own = numerals_by_value _ tells_digits
 
 pub relay_small : (n : ℕ) → n < RELAYS → n < 2 ^ 64
 relay_small n small = omega arith
-
--- no digit
-pub decimal-empty : (text : List ℕ) (n : ℕ) → length text ≡ 0 → n < RELAYS → text ≡ decimal n → ⊥
-decimal-empty text n none small same = let some = decimal_nonempty n (relay_small n small) in omega (arith, ap length same, some)
-
--- a leading zero
-pub decimal-padded : (text : List ℕ) (n : ℕ) → get_or text 0 0 ≡ 48 → 1 < length text → n < RELAYS → text ≡ decimal n → ⊥
-decimal-padded text zero zeros long small same =
-    let one : length text ≡ 1 = ap length (same ∙ decimal_digit 0 (lit< tt)) in omega (arith, one)
-decimal-padded text (suc k) zeros long small same =
-    let high = first_decimal (suc k) (omega arith) (relay_small (suc k) small) in
-    let first : get_or text 0 0 ≡ get_or (decimal (suc k)) 0 0 = ap (λ t. get_or t 0 0) same in
-    omega (arith, high, first)
-
--- a byte that is no digit
-pub decimal-stray : (text : List ℕ) (n i : ℕ) → i < length text → ¬ IsInRange 48 57 (get_or text i 0) → n < RELAYS → text ≡ decimal n → ⊥
-decimal-stray text n i within out small same =
-    let P : List ℕ → Type 0 = λ t. AllDigits 10 t in
-    out (digit_at text i (subst P (sym same) (digits_decimal own n (relay_small n small))) within)
-
--- a number that is no relay
-pub decimal-large : (text : List ℕ) (n i : ℕ) → RELAYS ≤ digits_value 10 (take i text) → n < RELAYS → text ≡ decimal n → ⊥
-decimal-large text n i large small same =
-    let value : digits_value 10 (decimal n) ≡ n = digits_value-decimal own n (relay_small n small) in
-    let whole : digits_value 10 text ≡ digits_value 10 (decimal n) = ap (digits_value 10) same in
-    let part = digits_value-take-le 10 text i (lit≤ tt) in
-    omega (arith, value, whole, part)
-
--- digits without a leading zero
-pub decimal-read : (text : List ℕ) → AllDigits 10 text → 0 < length text → (get_or text 0 0 ≡ 48 → length text ≡ 1) → digits_value 10 text < 2 ^ 64
-    → text ≡ decimal (digits_value 10 text)
-decimal-read text digits some first small = sym (decimal-digits_value own text digits some first small)
 
 -- no space stands in it
 pub no_space : (n : ℕ) → n < RELAYS → All NoSpace (decimal n)
@@ -90,3 +58,57 @@ more_relays text rest after relays r e f =
 pub some_text : (relays : List ℕ) → 0 < length relays → 0 < length (relays_text relays)
 some_text [] some = absurd (omega arith)
 some_text (r ∷ rs) some = omega arith
+
+-- a relay is written with one digit, or with two
+pub one_digit : (start : List ℕ) (r : ℕ) → r < 10 → (start ++ 32 ∷ []) ++ (48 + r % 10) ∷ [] ≡ start ++ relay_text r
+one_digit start r small =
+    let same : r % 10 ≡ r = omega arith in
+    append_assoc start (32 ∷ []) ((48 + r % 10) ∷ []) ∙ ap (λ n. start ++ 32 ∷ (48 + n) ∷ []) same ∙ ap (λ t. start ++ 32 ∷ t) (sym (decimal_digit r small))
+
+pub two_digits : (start : List ℕ) (r : ℕ) → 10 ≤ r → r < RELAYS → ((start ++ 32 ∷ []) ++ (48 + r / 10) ∷ []) ++ (48 + r % 10) ∷ [] ≡ start ++ relay_text r
+two_digits start r large small =
+    let digits : decimal r ≡ (48 + r / 10) ∷ (48 + r % 10) ∷ [] = decimal_step r large (relay_small r small) ∙ ap (λ t. t ++ (48 + r % 10) ∷ []) (decimal_digit (r / 10) (omega arith)) in
+    append_assoc (start ++ 32 ∷ []) ((48 + r / 10) ∷ []) ((48 + r % 10) ∷ []) ∙ append_assoc start (32 ∷ []) ((48 + r / 10) ∷ (48 + r % 10) ∷ []) ∙ ap (λ t. start ++ 32 ∷ t) (sym digits)
+
+-- ---- the digits at the front of a text
+pub digits_front : (r : ℕ) (rest : List ℕ) → r < RELAYS
+    → ((r < 10) × (decimal r ++ rest ≡ (48 + r) ∷ rest)) ⊎ ((10 ≤ r) × (decimal r ++ rest ≡ (48 + r / 10) ∷ (48 + r % 10) ∷ rest))
+digits_front r rest small = elim (cases_lt r 10) [
+  | inl one ↦ inl (one, ap (λ t. t ++ rest) (decimal_digit r one))
+  | inr two ↦ inr (two, ap (λ t. t ++ rest) (decimal_step r two (relay_small r small) ∙ ap (λ t. t ++ (48 + r % 10) ∷ []) (decimal_digit (r / 10) (omega arith))))
+]
+
+pub no_front : (text rest : List ℕ) (r : ℕ) → length text ≡ 0 → r < RELAYS → text ≡ decimal r ++ rest → ⊥
+no_front text rest r none small same = elim (digits_front r rest small) [
+  | inl one ↦ omega (arith, none, ap length (same ∙ one.1))
+  | inr two ↦ omega (arith, none, ap length (same ∙ two.1))
+]
+
+-- the first byte is a digit
+pub no_number : (text behind rest : List ℕ) (first r : ℕ) → text ≡ first ∷ behind → ((d : ℕ) → d < 10 → first ≢ 48 + d) → r < RELAYS → text ≡ decimal r ++ rest → ⊥
+no_number text behind rest first r begun none small same = elim (digits_front r rest small) [
+  | inl one ↦ none r one.0 (ap (λ t. get_or t 0 0) (sym begun ∙ same ∙ one.1))
+  | inr two ↦ none (r / 10) (omega arith) (ap (λ t. get_or t 0 0) (sym begun ∙ same ∙ two.1))
+]
+
+-- a second byte, if it is no space, is a digit too, and the word ends behind it
+pub two_bytes : (text behind after rest : List ℕ) (first high second r : ℕ) → text ≡ first ∷ behind → first ≡ 48 + high → behind ≡ second ∷ after → (¬ IsNextWord behind)
+    → r < RELAYS → IsNextWord rest → text ≡ decimal r ++ rest → (10 ≤ r) × (r / 10 ≡ high) × (second ≡ 48 + r % 10) × (after ≡ rest)
+two_bytes text behind after rest first high second r begun is more word small next same =
+    let whole : text ≡ first ∷ second ∷ after = begun ∙ ap (λ t. first ∷ t) more in
+    elim (digits_front r rest small) [
+      | inl one ↦ absurd (word (subst IsNextWord (sym (ap (drop 1) (sym begun ∙ same ∙ one.1))) next))
+      | inr two ↦
+          let head : first ≡ 48 + r / 10 = ap (λ t. get_or t 0 0) (sym whole ∙ same ∙ two.1) in
+          (two.0, omega (arith, head, is), ap (λ t. get_or t 1 0) (sym whole ∙ same ∙ two.1), ap (drop 2) (sym whole ∙ same ∙ two.1))
+    ]
+
+-- a word of one digit, and of two
+pub one_told : (text rest : List ℕ) (first r : ℕ) → text ≡ first ∷ rest → first ≡ 48 + r → r < 10 → text ≡ decimal r ++ rest
+one_told text rest first r begun is small = begun ∙ ap (λ b. b ∷ rest) is ∙ ap (λ t. t ++ rest) (sym (decimal_digit r small))
+
+pub two_told : (text behind after : List ℕ) (first high second r : ℕ) → text ≡ first ∷ behind → first ≡ 48 + high → behind ≡ second ∷ after → 10 ≤ r → r < RELAYS → r / 10 ≡ high → second ≡ 48 + r % 10
+    → text ≡ decimal r ++ after
+two_told text behind after first high second r begun is more large small tens low =
+    let digits : decimal r ≡ (48 + r / 10) ∷ (48 + r % 10) ∷ [] = decimal_step r large (relay_small r small) ∙ ap (λ t. t ++ (48 + r % 10) ∷ []) (decimal_digit (r / 10) (omega arith)) in
+    begun ∙ ap (λ t. first ∷ t) more ∙ ap (λ b. b ∷ second ∷ after) (is ∙ ap (λ n. 48 + n) (sym tens)) ∙ ap (λ b. (48 + r / 10) ∷ b ∷ after) low ∙ ap (λ t. t ++ after) (sym digits)

@@ -30,7 +30,7 @@ flat_map-map f g [] = refl
 flat_map-map f g (x ∷ xs) = ap (λ t. f (g x) ++ t) (flat_map-map f g xs)
 
 -- the parts of a plan's text
-plan_text-parts : (file : File) → plan_text file ≡ ended header_line ++ (flat_map offered file.offers ++ (flat_map given file.gives ++ grouped file.group))
+pub plan_text-parts : (file : File) → plan_text file ≡ ended header_line ++ (flat_map offered file.offers ++ (flat_map given file.gives ++ grouped file.group))
 plan_text-parts file =
     let id : List ℕ → List ℕ = λ line. line in
     let last : joined (map given file.gives ++ grouped file.group ∷ []) ≡ flat_map given file.gives ++ grouped file.group =

@@ -1,11 +1,10 @@
 //! The words of a line: ids and relays.
 
-ghost use Rattle.std.specs.Prelude.{◌≡◌, ◌≢◌, ◌<◌, ◌≤◌, ◌++◌, ◌∷◌, ℕ, List, [], length, All, IfSome, IfNone, IfOk, decimal};
+ghost use Rattle.std.specs.Prelude.{◌≡◌, ◌≢◌, ◌<◌, ◌≤◌, ◌+◌, ◌/◌, ◌%◌, ◌++◌, ◌∷◌, ◌↔◌, ℕ, List, All, IsTrue, IfSome, IfNone, IfOk, decimal};
 ghost use Rattle.hex.specs.Hex.{encode_lower};
 ghost use Rattle.neg_codec.specs.declared.Id.{Id as AnId};
 ghost use Rattle.neg_codec.specs.Keys.{IsId};
 ghost use Rattle.sharing.specs.declared.TheConstants.{RELAYS};
-ghost use Rattle.plan_check.specs.TextLines.{FirstIsNot};
 ghost use Rattle.plan_check.specs.PlanText.{relay_text, relays_text};
 ghost use Rattle.plan_check.specs.PlanParts.{IsNextWord, AreRelaysText};
 
@@ -49,41 +48,62 @@ pub(crate) fn cut_id(text: &[u8]) -> Option<(Id, &[u8])>
     Some((id, rest))
 }
 
-/// The relay of a word: its number in decimal, without leading zeros.
-fn parse_relay(word: &[u8]) -> Option<u16>
-    ensures found { IfSome result (λ r. word.now ≡ decimal r) }
-    ensures small { IfSome result (λ r. r < RELAYS) }
-    ensures none { IfNone result ((r : ℕ) → r < RELAYS → word.now ≢ decimal r) }
+/// The number of a decimal digit.
+fn digit_of(byte: u8) -> Option<u16>
+    ensures found { IfSome result (λ d. (d < 10) × (byte ≡ 48 + d)) }
+    ensures none { IfNone result ((d : ℕ) → d < 10 → byte ≢ 48 + d) }
 {
-    if word.is_empty() {
-        return None;
+    let digit = byte.wrapping_sub(b'0');
+    if digit < 10 {
+        Some(u16::from(digit))
+    } else {
+        None
     }
-    if word[0] == b'0' && word.len() > 1 {
-        return None;
-    }
-    let mut relay: u16 = 0;
-    for byte in word {
-        let digit = *byte;
-        if digit < b'0' || b'9' < digit {
-            return None;
-        }
-        relay = 10 * relay + u16::from(digit - b'0');
-        if relay >= RELAYS {
-            return None;
-        }
-    }
-    Some(relay)
 }
 
-/// The text before the first byte like this, and the text from there.
-pub(crate) fn cut_before(text: &[u8], end: u8) -> (&[u8], &[u8])
-    ensures parts { text.now ≡ result.0.now ++ result.1.now }
-    ensures before { All (λ b. b ≢ end) result.0.now }
-    ensures rest { FirstIsNot (λ b. b ≢ end) result.1.now }
+/// The relay of two digits, of which the first isn't zero.
+fn relay_of(high: u16, low: u8) -> Option<u16>
+    requires { high < 10 }
+    ensures found { IfSome result (λ r. (10 ≤ r) × (r / 10 ≡ high) × (low ≡ 48 + r % 10)) }
+    ensures small { IfSome result (λ r. r < RELAYS) }
+    ensures none { IfNone result ((r : ℕ) → 10 ≤ r → r < RELAYS → r / 10 ≡ high → low ≢ 48 + r % 10) }
 {
-    match text.iter().position(|byte| *byte == end) {
-        Some(at) => text.split_at(at),
-        None => text.split_at(text.len()),
+    let relay = 10 * high + digit_of(low)?;
+    if high > 0 && relay < RELAYS {
+        Some(relay)
+    } else {
+        None
+    }
+}
+
+/// Whether nothing is left, or a space comes.
+fn is_next_word(text: &[u8]) -> bool
+    ensures { IsTrue result ↔ IsNextWord text.now }
+{
+    match text.first() {
+        Some(byte) => *byte == b' ',
+        None => true,
+    }
+}
+
+/// The relay of the word at the front, in decimal without leading zeros, and the text after it.
+fn cut_number(text: &[u8]) -> Option<(u16, &[u8])>
+    ensures found { IfSome result (λ cut. text.now ≡ decimal cut.0 ++ cut.1.now) }
+    ensures small { IfSome result (λ cut. cut.0 < RELAYS) }
+    ensures rest { IfSome result (λ cut. IsNextWord cut.1.now) }
+    ensures none { IfNone result ((r : ℕ) (rest : List ℕ) → r < RELAYS → IsNextWord rest → text.now ≢ decimal r ++ rest) }
+{
+    let (first, rest) = text.split_first()?;
+    let high = digit_of(*first)?;
+    if is_next_word(rest) {
+        return Some((high, rest));
+    }
+    let (second, after) = rest.split_first()?;
+    let relay = relay_of(high, *second)?;
+    if is_next_word(after) {
+        Some((relay, after))
+    } else {
+        None
     }
 }
 
@@ -94,30 +114,16 @@ pub(crate) fn cut_relay(text: &[u8]) -> Option<(u16, &[u8])>
     ensures rest { IfSome result (λ cut. IsNextWord cut.1.now) }
     ensures none { IfNone result ((r : ℕ) (rest : List ℕ) → r < RELAYS → IsNextWord rest → text.now ≢ relay_text r ++ rest) }
 {
-    let behind = skip_space(text)?;
-    let (word, rest) = cut_before(behind, b' ');
-    let relay = parse_relay(word)?;
-    Some((relay, rest))
+    cut_number(skip_space(text)?)
 }
 
-/// The number of spaces in a text.
-fn count_spaces(text: &[u8]) -> usize
-    ensures { result ≤ length text.now }
-{
-    let mut count = 0;
-    for byte in text {
-        count += usize::from(*byte == b' ');
-    }
-    count
-}
-
-/// The relays of a text, each behind a space. Their list is made as long as it has to be.
+/// The relays of a text, each behind a space. A relay takes two bytes or more, so that their list needs not grow.
 pub(crate) fn parse_relays(alloc: Global, text: &[u8]) -> Result<Option<Vec<u16>>, AllocError>
     ensures found { IfOk result (λ o. IfSome o (λ relays. text.now ≡ relays_text relays.items)) }
     ensures small { IfOk result (λ o. IfSome o (λ relays. All (λ r. r < RELAYS) relays.items)) }
     ensures none { IfOk result (λ o. IfNone o (¬ AreRelaysText text.now)) }
 {
-    let mut relays = Vec::with_capacity(alloc, count_spaces(text))?;
+    let mut relays = Vec::with_capacity(alloc, text.len() / 2)?;
     let mut rest = text;
     while !rest.is_empty() {
         let Some((relay, after)) = cut_relay(rest) else {

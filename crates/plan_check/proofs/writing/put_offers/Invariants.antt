@@ -1,4 +1,4 @@
-use Rattle.std.proofs.Common.{◌≡◌, ◌++◌, take, flat_map, string_bytes, All}
+use Rattle.std.proofs.Common.{◌≡◌, ◌++◌, take, flat_map, All}
 use Rattle.neg_codec.specs.Keys.{IsId}
 use Rattle.plan_check.specs.File.{pairs_of}
 use Rattle.plan_check.specs.TextLines.{ended}
@@ -7,6 +7,6 @@ use Rattle.plan_check.proofs.writing.put_offers.Given as goal
 
 abbrev pub invariant-loop-offer : goal.invariant-loop-offer
 invariant-loop-offer l = record {
-  written : string_bytes l.text ≡ string_bytes l.fn.text ++ flat_map (λ o. ended (offer_line o)) (pairs_of (take l.offer-index l.offers));
+  written : l.text.items ≡ l.fn.text.items ++ flat_map (λ o. ended (offer_line o)) (pairs_of (take l.offer-index l.offers));
   ids : All (λ o. IsId o.0) (take l.offer-index l.offers);
 }
