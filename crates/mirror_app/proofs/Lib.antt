@@ -1,2 +1,3 @@
 pub mod Subcommands
 pub mod Commands
+pub mod Limits

@@ -1,6 +1,7 @@
 -- The words that the program takes.
-use Rattle.std.specs.Prelude.{◌≡◌, ◌≢◌, ◌≤◌, true, List, [], codes, Option, Some, option_map}
-use Rattle.clap.specs.Words.{App, Rule, Text, new_app, new_rule, with_rule, with_subcommand, subcommand_of, fault_of}
+use Rattle.std.specs.Prelude.{◌≡◌, ◌≢◌, ◌≤◌, ℕ, true, List, [], codes, Option, Some, None, option_map, option_and_then}
+use Rattle.std.specs.Str.Parse.{digits_value, without_leading_plus}
+use Rattle.clap.specs.Words.{App, IsUnsignedIn, Row, Rule, Text, new_app, new_rule, one_of, with_rule, with_subcommand, subcommand_of, fault_of}
 use Rattle.clap.specs.declared.builder.value_parser.ValueParser.TheVariants as parser
 use Rattle.mirror_app.specs.declared.words.Words.{Words}
 use Rattle.mirror_app.specs.declared.words.Words.TheVariants.{Recon, Plan, Check}
@@ -41,6 +42,20 @@ name_of Check = codes "check"
 abbrev pub IsWithin : Words → Type 0
 IsWithin (Recon limit) = (4096 ≤ limit) × (limit ≤ 1048576)
 IsWithin job = Unit {0}
+
+-- the text of `--limit` among what was found for a subcommand
+abbrev pub limit_text : Option (Text × List Row) → Option Text
+limit_text found = option_and_then (λ s. one_of (codes "limit") s.1) found
+
+-- the limit is the number that the text spells, where that is in its range, and 60,000 where there is no text
+abbrev pub IsLimitOf : Option Text → ℕ → Type 0
+IsLimitOf None limit = limit ≡ 60000
+IsLimitOf (Some text) limit = IsUnsignedIn 4096 1048576 text → limit ≡ digits_value 10 (without_leading_plus text)
+
+-- the limit of the job is the one that was found
+abbrev pub TellsLimit : Option (Text × List Row) → Words → Type 0
+TellsLimit found (Recon limit) = IsLimitOf (limit_text found) limit
+TellsLimit found job = Unit {0}
 
 -- the name of a job
 abbrev pub IsJob : Option Text → Type 0

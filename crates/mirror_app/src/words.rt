@@ -1,10 +1,10 @@
 //! The job that the program's words name.
 
-ghost use Rattle.std.specs.Prelude.{◌≡◌, ◌≢◌, ◌≤◌, false, map, Some, IfOk, OnOk, IfErr, string_bytes};
-ghost use Rattle.clap.specs.Words.{app_of, kind_of, rule_of, shape_of, subcommand_name_of};
+ghost use Rattle.std.specs.Prelude.{◌≡◌, ◌≢◌, ◌≤◌, false, map, codes, Some, IfOk, OnOk, IfErr, string_bytes};
+ghost use Rattle.clap.specs.Words.{app_of, kind_of, rule_of, shape_of, subcommand_name_of, subcommand_of, subcommand_rows_of, found_of, one_of, rows_of};
 ghost use Rattle.clap.specs.declared.builder.command.Command.TheViews.{out-Command as fields_of};
 ghost use Rattle.clap.specs.Simple.{new_shape};
-ghost use Rattle.mirror_app.specs.CommandLine.{nostr_mirror, program as the_program, recon as the_recon, limit_rule, name_of, IsJob, IsWithin, IsNamed, IsAccepted, IsUsage, IsDue};
+ghost use Rattle.mirror_app.specs.CommandLine.{nostr_mirror, program as the_program, recon as the_recon, limit_rule, name_of, IsJob, IsWithin, IsLimitOf, TellsLimit, limit_text, IsNamed, IsAccepted, IsUsage, IsDue};
 
 use clap::error::ErrorKind;
 use clap::{Arg, ArgMatches, Command, Error, value_parser};
@@ -116,16 +116,26 @@ fn command<'a>(alloc: Global) -> Result<Command<'a>, AllocError>
         .subcommand(check)
 }
 
-/// The limit that the words name, or the default.
-fn limit_of(matches: &ArgMatches) -> usize
-    ensures { (4096 ≤ result) × (result ≤ 1048576) }
+/// The limit that the words of a subcommand name, or the default.
+fn limit_named(matches: &ArgMatches) -> usize
+    ensures within { (4096 ≤ result) × (result ≤ 1048576) }
+    ensures named { IsLimitOf (one_of (codes "limit") (rows_of (found_of matches.now))) result }
 {
-    let Some(recon) = matches.subcommand_matches("recon") else {
-        return DEFAULT_LIMIT;
-    };
-    match recon.get_one::<usize>("limit") {
+    match matches.get_one::<usize>("limit") {
         Some(limit) if LEAST_LIMIT <= limit && limit <= MOST_LIMIT => limit,
         _ => DEFAULT_LIMIT,
+    }
+}
+
+/// The limit of the job `recon`.
+fn limit_of(matches: &ArgMatches) -> usize
+    requires { subcommand_name_of matches.now ≡ Some (codes "recon") }
+    ensures within { (4096 ≤ result) × (result ≤ 1048576) }
+    ensures named { IsLimitOf (limit_text (subcommand_rows_of matches.now)) result }
+{
+    match matches.subcommand_matches("recon") {
+        Some(recon) => limit_named(recon),
+        None => unreachable!(),
     }
 }
 
@@ -134,6 +144,7 @@ fn job_of(matches: &ArgMatches) -> Words
     requires { IsJob (subcommand_name_of matches.now) }
     ensures name { subcommand_name_of matches.now ≡ Some (name_of result) }
     ensures limit { IsWithin result }
+    ensures exact { TellsLimit (subcommand_rows_of matches.now) result }
 {
     if matches.subcommand_matches("plan").is_some() {
         Words::Plan
@@ -162,6 +173,7 @@ pub fn read_words(alloc: Global, words: &[String]) -> Result<Words, WordsFault>
     ensures accepted { OnOk result (IsAccepted (map string_bytes words.now)) }
     ensures named { IfOk result (IsNamed (map string_bytes words.now)) }
     ensures limit { IfOk result IsWithin }
+    ensures exact { IfOk result (TellsLimit (subcommand_of nostr_mirror (map string_bytes words.now))) }
     ensures refused { IfErr result (IsDue (map string_bytes words.now)) }
 {
     let command = command(alloc)?;

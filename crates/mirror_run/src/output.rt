@@ -8,6 +8,7 @@ ghost use Rattle.mirror_run.specs.ReconText.{message_text, exchange_text, count_
 
 use crate::refusal::Refusal;
 use crate::waiting::{put, send};
+use id_text::digits_of;
 use neg_codec::Id;
 use neg_session::Pair;
 use std::alloc::Global;
@@ -60,13 +61,9 @@ fn write_message<W: Write>(
 fn write_id<W: Write>(out: &mut W, wait: &mut Vec<u8>, sign: &[u8], id: &Id) -> io::Result<()>
     ensures { OnOk result (Sends (W.contents out.old) wait.old.items (W.contents out.new) wait.new.items (message_text sign.now id.now.0)) }
 {
-    let mut text = [0; 64];
-    let Ok(()) = hex::encode_to_slice(id.0, &mut text) else {
-        unreachable!();
-    };
     put(out, wait, sign)?;
     put(out, wait, b" ")?;
-    put(out, wait, &text)?;
+    put(out, wait, &digits_of(id))?;
     put(out, wait, b"\n")
 }
 

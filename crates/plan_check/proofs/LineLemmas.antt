@@ -1,9 +1,9 @@
 -- The first line of a text.
-use Rattle.std.proofs.Common.{◌≡◌, ◌≢◌, ℕ, ◌<◌, ◌==◌, Bool, true, false, List, [], ◌∷◌, ◌++◌, length, refl, ap, sym, subst, arith, length-append, drop, inl, inr, ◌∙◌, if◌then◌else◌}
+use Rattle.std.proofs.Common.{◌≡◌, ◌≢◌, ℕ, ◌<◌, ◌==◌, Bool, true, false, List, [], ◌∷◌, ◌++◌, length, refl, ap, sym, subst, arith, length-append, drop, take, take-append-drop, slice_index, ◌+◌, ◌∙◌, if◌then◌else◌}
 use Rattle.std.proofs.Math.Seq.{get_or-append_seam}
-use Rattle.std.proofs.lemmas.List.{append-nil, append_cancel_right}
+use Rattle.std.proofs.lemmas.List.{append_cancel_right, drop_more, get_or-take, length-take-le, get_or_default}
 use Rattle.std.specs.List.{All}
-use Rattle.std.proofs.lemmas.Bool.{ne_eqb, cases_eq}
+use Rattle.std.proofs.lemmas.Bool.{ne_eqb, eqb-true, eq-eqb}
 use Rattle.std.proofs.lemmas.List.Elements.{All-head, All-tail}
 use Rattle.plan_check.specs.TextLines.{lines_of, onto_line, ended, IsEnded, FirstIsNot}
 
@@ -30,22 +30,22 @@ not_ended line h (words, e) =
     let all : All NoFeed (words ++ 10 ∷ []) = subst (All NoFeed) e h in
     all (length words) 0 (omega (arith, length-append words (10 ∷ []))) (get_or-append_seam words 10 [] 0)
 
-unended : (text : List ℕ) → All NoFeed text → FirstIsNot IsEnded (lines_of text)
+pub unended : (text : List ℕ) → All NoFeed text → FirstIsNot IsEnded (lines_of text)
 unended [] h = tt
 unended (b ∷ bs) h = subst (FirstIsNot IsEnded) (sym (lines_of-one b bs h)) (not_ended (b ∷ bs) h)
 
--- no line feed comes
-pub none_comes : (text line rest : List ℕ) → text ≡ line ++ rest → length rest ≡ 0 → All NoFeed line → FirstIsNot IsEnded (lines_of text)
-none_comes text line [] e none h = unended text (subst (All NoFeed) (sym (e ∙ append-nil line)) h)
-none_comes text line (x ∷ xs) e none h = absurd (omega arith)
+-- no place has a line feed
+pub no_feed : (text : List ℕ) → ((k : ℕ) → k < length text → (slice_index text k == 10) ≡ true → ⊥) → All NoFeed text
+no_feed text never = λ k d lt is. never k lt (eq-eqb (slice_index text k) 10 (get_or_default text k 0 d lt ∙ is))
 
--- a line feed comes first of the rest
-pub one_comes : (text line rest after : List ℕ) → text ≡ line ++ rest → 0 < length rest → All NoFeed line → FirstIsNot NoFeed rest → after ≡ drop 1 rest → lines_of text ≡ ended line ∷ lines_of after
-one_comes text line [] after e some h feed d = absurd (omega arith)
-one_comes text line (x ∷ xs) after e some h feed d = elim (cases_eq x 10) [
-  | inl is ↦ ap lines_of (e ∙ ap (λ y. line ++ y ∷ xs) is) ∙ lines_of-first line xs h ∙ ap (λ t. ended line ∷ lines_of t) (sym d)
-  | inr not ↦ absurd (feed not)
-]
+-- the first line feed stands there
+pub cut_there : (text : List ℕ) (at : ℕ) → at < length text → ((k : ℕ) → k < at → (slice_index text k == 10) ≡ true → ⊥)
+    → (slice_index text at == 10) ≡ true → lines_of text ≡ ended (take at text) ∷ lines_of (drop (at + 1) text)
+cut_there text at lt never found =
+    let feed : slice_index text at ≡ 10 = eqb-true (slice_index text at) 10 found in
+    let line : All NoFeed (take at text) = no_feed (take at text) (λ k within. let below : k < at = omega (arith, within, length-take-le at text (omega arith)) in rw (get_or-take at text k 0 below) (never k below)) in
+    let parts : text ≡ take at text ++ 10 ∷ drop (at + 1) text = sym (take-append-drop at text) ∙ ap (λ t. take at text ++ t) (drop_more text at 0 lt ∙ ap (λ b. b ∷ drop (at + 1) text) feed) in
+    ap lines_of parts ∙ lines_of-first (take at text) (drop (at + 1) text) line
 
 -- lines that are the same with their line feeds are the same
 pub same_words : (a b : List ℕ) → ended a ≡ ended b → a ≡ b

@@ -3,7 +3,7 @@
 ghost use Rattle.std.specs.Prelude.{◌≡◌, ◌<◌, ◌∷◌, IfSome, IfNone, length};
 ghost use Rattle.plan_check.specs.TextLines.{lines_of, ended, IsEnded, FirstIsNot};
 
-use crate::words::cut_before;
+use memchr::memchr;
 
 /// The first line, without the line feed at its end, and the text after it; none where no line feed comes.
 pub(crate) fn cut_line(text: &[u8]) -> Option<(&[u8], &[u8])>
@@ -11,10 +11,9 @@ pub(crate) fn cut_line(text: &[u8]) -> Option<(&[u8], &[u8])>
     ensures shorter { IfSome result (λ cut. length cut.1.now < length text.now) }
     ensures none { IfNone result (FirstIsNot IsEnded (lines_of text.now)) }
 {
-    let (line, rest) = cut_before(text, b'\n');
-    if rest.is_empty() {
+    let Some(at) = memchr(b'\n', text) else {
         return None;
-    }
-    let (_, rest) = rest.split_at(1);
-    Some((line, rest))
+    };
+    let (_, rest) = text.split_at(at + 1);
+    Some((&text[..at], rest))
 }

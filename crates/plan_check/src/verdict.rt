@@ -1,9 +1,10 @@
 //! Whether a plan file's gives are a sharing that its group shows to be least.
 
-ghost use Rattle.std.specs.Prelude.{◌≡◌, ◌≤◌, ◌<◌, ◌-◌, ◌*◌, ◌^◌, ◌==◌, ◌&&◌, ◌↔◌, IsTrue, not, ℕ, map, length, count_by, IfOk, IfSome, IfNone, MatchOption, is_some, option_map, Some, None, Ok, Err};
+ghost use Rattle.std.specs.Prelude.{◌≡◌, ◌≤◌, ◌<◌, ◌-◌, ◌*◌, ◌^◌, ◌==◌, ◌&&◌, ◌↔◌, IsTrue, not, ℕ, map, length, slice_index, slice_index_or, false, IfOk, IfSome, IfNone, MatchOption, is_some, option_map, Some, None, Ok, Err};
 ghost use Rattle.std.specs.List.{All, list_any, list_all};
 ghost use Rattle.sharing.specs.Sharing.{is_among, alone, Shows, IsGreatest, NoneSmaller};
-ghost use Rattle.sharing.specs.Offers.{Ascend, beside, relays_of};
+ghost use Rattle.sharing.specs.Offers.{Ascend, AreRelays, beside, relays_of};
+ghost use Rattle.sharing.specs.declared.TheConstants.{RELAYS};
 ghost use Rattle.plan_check.specs.File.{pairs_of};
 ghost use Rattle.plan_check.specs.Verdict.{gives_fault, given_load, IsSharedOut, Judges};
 
@@ -19,11 +20,14 @@ fn is_one_of(relays: &[u16], relay: u16) -> bool
     relays.iter().any(|r| relay == *r)
 }
 
-/// The relays that offer an id.
-fn relays_at<'a>(offers: &'a [(Id, Vec<u16>)], id: &Id) -> Option<&'a [u16]>
+/// The relays that offer an id, which is looked for at this place first.
+fn relays_at<'a>(offers: &'a [(Id, Vec<u16>)], place: usize, id: &Id) -> Option<&'a [u16]>
     requires { Ascend (map (λ o. o.0) (pairs_of offers.now)) }
     ensures { option_map (λ s. s.now) result ≡ beside (pairs_of offers.now) id.now }
 {
+    if place < offers.len() && id.cmp(&offers[place].0).is_eq() {
+        return Some(&offers[place].1);
+    }
     let mut low = 0;
     let mut high = offers.len();
     while low < high {
@@ -37,11 +41,14 @@ fn relays_at<'a>(offers: &'a [(Id, Vec<u16>)], id: &Id) -> Option<&'a [u16]>
     None
 }
 
-/// Whether an id is among the gives.
-fn is_given(gives: &[(Id, u16)], id: &Id) -> bool
+/// Whether an id is among the gives, where it is looked for at this place first.
+fn is_given(gives: &[(Id, u16)], place: usize, id: &Id) -> bool
     requires { Ascend (map (λ g. g.0) gives.now) }
     ensures { result ≡ is_some (beside gives.now id.now) }
 {
+    if place < gives.len() && id.cmp(&gives[place].0).is_eq() {
+        return true;
+    }
     let mut low = 0;
     let mut high = gives.len();
     while low < high {
@@ -55,12 +62,12 @@ fn is_given(gives: &[(Id, u16)], id: &Id) -> bool
     false
 }
 
-/// Whether an offered id is given to a relay that does not offer it.
-fn is_unoffered(offers: &[(Id, Vec<u16>)], give: &(Id, u16)) -> bool
+/// Whether an offered id is given to a relay that does not offer it. The offer is looked for at this place first.
+fn is_unoffered(offers: &[(Id, Vec<u16>)], place: usize, give: &(Id, u16)) -> bool
     requires { Ascend (map (λ o. o.0) (pairs_of offers.now)) }
     ensures { result ≡ (is_some (beside (pairs_of offers.now) give.now.0) && not (is_among (relays_of (pairs_of offers.now) give.now.0) give.now.1)) }
 {
-    match relays_at(offers, &give.0) {
+    match relays_at(offers, place, &give.0) {
         Some(relays) => !is_one_of(relays, give.1),
         None => false,
     }
@@ -71,7 +78,12 @@ fn has_unoffered(offers: &[(Id, Vec<u16>)], gives: &[(Id, u16)]) -> bool
     requires { Ascend (map (λ o. o.0) (pairs_of offers.now)) }
     ensures { result ≡ list_any (λ g. is_some (beside (pairs_of offers.now) g.0) && not (is_among (relays_of (pairs_of offers.now) g.0) g.1)) gives.now }
 {
-    gives.iter().any(|give| is_unoffered(offers, give))
+    for (place, give) in gives.iter().enumerate() {
+        if is_unoffered(offers, place, give) {
+            return true;
+        }
+    }
+    false
 }
 
 /// Whether some offered id is not given.
@@ -79,7 +91,12 @@ fn has_missing(offers: &[(Id, Vec<u16>)], gives: &[(Id, u16)]) -> bool
     requires { Ascend (map (λ g. g.0) gives.now) }
     ensures { result ≡ list_any (λ o. not (is_some (beside gives.now o.0))) offers.now }
 {
-    offers.iter().any(|offer| !is_given(gives, &offer.0))
+    for (place, offer) in offers.iter().enumerate() {
+        if !is_given(gives, place, &offer.0) {
+            return true;
+        }
+    }
+    false
 }
 
 /// Whether some given id is not offered.
@@ -87,36 +104,67 @@ fn has_stranger(offers: &[(Id, Vec<u16>)], gives: &[(Id, u16)]) -> bool
     requires { Ascend (map (λ o. o.0) (pairs_of offers.now)) }
     ensures { result ≡ list_any (λ g. not (is_some (beside (pairs_of offers.now) g.0))) gives.now }
 {
-    gives
-        .iter()
-        .any(|give| relays_at(offers, &give.0).is_none())
+    for (place, give) in gives.iter().enumerate() {
+        if relays_at(offers, place, &give.0).is_none() {
+            return true;
+        }
+    }
+    false
 }
 
-/// Whether all of these are in the group.
-fn are_within(relays: &[u16], group: &[u16]) -> bool
-    ensures { result ≡ list_all (is_among group.now) relays.now }
+/// For each relay whether it is in the group.
+fn table_of(group: &[u16]) -> [bool; 64]
+    requires { All (λ r. r < RELAYS) group.now }
+    ensures table { (r : ℕ) → slice_index_or result r false ≡ is_among group.now r }
+    ensures length { length result ≡ 64 }
 {
-    relays.iter().all(|relay| is_one_of(group, *relay))
+    let mut table = [false; 64];
+    for relay in group {
+        table[usize::from(*relay)] = true;
+    }
+    table
+}
+
+/// Whether all of these are in the group of the table.
+fn are_within(relays: &[u16], table: &[bool; 64]) -> bool
+    requires { All (λ r. r < RELAYS) relays.now }
+    ensures { result ≡ list_all (λ r. slice_index_or table.now r false) relays.now }
+{
+    for relay in relays {
+        if !table[usize::from(*relay)] {
+            return false;
+        }
+    }
+    true
 }
 
 /// The number of ids that no relay outside the group offers.
 fn count_alone(offers: &[(Id, Vec<u16>)], group: &[u16]) -> usize
+    requires offers { All (λ o. AreRelays o.1) (pairs_of offers.now) }
+    requires group { All (λ r. r < RELAYS) group.now }
     ensures value { result ≡ alone group.now (pairs_of offers.now) }
 {
+    let table = table_of(group);
     let mut count = 0;
     for offer in offers {
-        if are_within(&offer.1, group) {
+        if are_within(&offer.1, &table) {
             count += 1;
         }
     }
     count
 }
 
-/// The number of ids that are given to a relay.
-fn count_given(gives: &[(Id, u16)], relay: u16) -> usize
-    ensures { result ≡ given_load gives.now relay }
+/// For each relay the number of ids that are given to it.
+fn loads_of(gives: &[(Id, u16)]) -> [usize; 64]
+    requires { All (λ g. g.1 < RELAYS) gives.now }
+    ensures loads { (r : ℕ) → r < RELAYS → slice_index result r ≡ given_load gives.now r }
+    ensures length { length result ≡ 64 }
 {
-    gives.iter().filter(|g| g.1 == relay).count()
+    let mut loads = [0; 64];
+    for give in gives {
+        loads[usize::from(give.1)] += 1;
+    }
+    loads
 }
 
 /// The greatest number of ids that are given to one relay.
@@ -125,9 +173,10 @@ fn greatest_given(gives: &[(Id, u16)]) -> usize
     ensures greatest { IsGreatest (given_load gives.now) result }
     ensures small { result ≤ length gives.now }
 {
+    let loads = loads_of(gives);
     let mut most = 0;
     for relay in 0..RELAYS {
-        let given = count_given(gives, relay);
+        let given = loads[usize::from(relay)];
         if given > most {
             most = given;
         }
@@ -137,6 +186,8 @@ fn greatest_given(gives: &[(Id, u16)]) -> usize
 
 /// Whether the group shows that no sharing has less than this.
 fn does_show(offers: &[(Id, Vec<u16>)], group: &[u16], most: usize) -> bool
+    requires offers { All (λ o. AreRelays o.1) (pairs_of offers.now) }
+    requires group { All (λ r. r < RELAYS) group.now }
     ensures { IsTrue result ↔ Shows group.now (pairs_of offers.now) most }
 {
     if most == 0 {

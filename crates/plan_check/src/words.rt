@@ -1,6 +1,6 @@
 //! The words of a line: ids and relays.
 
-ghost use Rattle.std.specs.Prelude.{◌≡◌, ◌≢◌, ◌<◌, ◌++◌, ◌∷◌, ℕ, List, [], length, All, IfSome, IfNone, IfOk, decimal};
+ghost use Rattle.std.specs.Prelude.{◌≡◌, ◌≢◌, ◌<◌, ◌≤◌, ◌++◌, ◌∷◌, ℕ, List, [], length, All, IfSome, IfNone, IfOk, decimal};
 ghost use Rattle.hex.specs.Hex.{encode_lower};
 ghost use Rattle.neg_codec.specs.declared.Id.{Id as AnId};
 ghost use Rattle.neg_codec.specs.Keys.{IsId};
@@ -9,7 +9,7 @@ ghost use Rattle.plan_check.specs.TextLines.{FirstIsNot};
 ghost use Rattle.plan_check.specs.PlanText.{relay_text, relays_text};
 ghost use Rattle.plan_check.specs.PlanParts.{IsNextWord, AreRelaysText};
 
-use hex::FromHex;
+use id_text::parse_id;
 use neg_codec::Id;
 use sharing::RELAYS;
 use std::alloc::{AllocError, Global};
@@ -26,20 +26,13 @@ pub(crate) fn skip_word<'a>(text: &'a [u8], word: &[u8]) -> Option<&'a [u8]>
     if front == word { Some(rest) } else { None }
 }
 
-/// The id of 64 lower-case hex digits.
-fn parse_id(text: &[u8]) -> Option<Id>
-    ensures found { IfSome result (λ id. text.now ≡ encode_lower id.0) }
-    ensures id { IfSome result IsId }
-    ensures none { IfNone result ((id : AnId) → IsId id → text.now ≢ encode_lower id.0) }
+/// The text after the space at the front.
+fn skip_space(text: &[u8]) -> Option<&[u8]>
+    ensures found { IfSome result (λ rest. text.now ≡ 32 ∷ rest.now) }
+    ensures none { IfNone result ((rest : List ℕ) → text.now ≢ 32 ∷ rest) }
 {
-    let id = Id(<[u8; 32] as FromHex>::from_hex(text).ok()?);
-    let mut again = [0; 64];
-    hex::encode_to_slice(*id.as_bytes(), &mut again).ok()?;
-    if text == again.as_slice() {
-        Some(id)
-    } else {
-        None
-    }
+    let (first, rest) = text.split_first()?;
+    if *first == b' ' { Some(rest) } else { None }
 }
 
 /// The id at the front, and the text after it.
@@ -101,19 +94,30 @@ pub(crate) fn cut_relay(text: &[u8]) -> Option<(u16, &[u8])>
     ensures rest { IfSome result (λ cut. IsNextWord cut.1.now) }
     ensures none { IfNone result ((r : ℕ) (rest : List ℕ) → r < RELAYS → IsNextWord rest → text.now ≢ relay_text r ++ rest) }
 {
-    let behind = skip_word(text, b" ")?;
+    let behind = skip_space(text)?;
     let (word, rest) = cut_before(behind, b' ');
     let relay = parse_relay(word)?;
     Some((relay, rest))
 }
 
-/// The relays of a text, each behind a space.
+/// The number of spaces in a text.
+fn count_spaces(text: &[u8]) -> usize
+    ensures { result ≤ length text.now }
+{
+    let mut count = 0;
+    for byte in text {
+        count += usize::from(*byte == b' ');
+    }
+    count
+}
+
+/// The relays of a text, each behind a space. Their list is made as long as it has to be.
 pub(crate) fn parse_relays(alloc: Global, text: &[u8]) -> Result<Option<Vec<u16>>, AllocError>
     ensures found { IfOk result (λ o. IfSome o (λ relays. text.now ≡ relays_text relays.items)) }
     ensures small { IfOk result (λ o. IfSome o (λ relays. All (λ r. r < RELAYS) relays.items)) }
     ensures none { IfOk result (λ o. IfNone o (¬ AreRelaysText text.now)) }
 {
-    let mut relays = Vec::new(alloc);
+    let mut relays = Vec::with_capacity(alloc, count_spaces(text))?;
     let mut rest = text;
     while !rest.is_empty() {
         let Some((relay, after)) = cut_relay(rest) else {

@@ -1,4 +1,4 @@
-use Rattle.std.proofs.Common.{◌≡◌, ◌==◌, ℕ, sym, ap, inl, inr, arith}
+use Rattle.std.proofs.Common.{◌≡◌, ◌==◌, ℕ, sym, ap, ◌∙◌, get_or, inl, inr, arith}
 use Rattle.std.proofs.lemmas.List.Sums.{count_by-le-length}
 use Rattle.std.proofs.lemmas.Bool.{cases_eq, cases_lt}
 use Rattle.neg_codec.specs.declared.Id.{Id}
@@ -13,8 +13,9 @@ loop-relay-preserved c =
     let inv = c.loop-relay.invariant in
     let relay = c.loop-relay.relay in
     let gives = c.args.gives.now in
-    let n = c.count_given-given.result in
-    let e : n ≡ given_load gives relay = c.count_given-given.ensures in
+    let loads = c.loads_of-loads.result in
+    let n = get_or loads c.from.result 0 in
+    let e : n ≡ given_load gives relay = ap (λ k. get_or loads k 0) c.from.ensures ∙ c.loads_of-loads.ensures.loads relay (omega arith) in
     elim c.if-given-most.branch [
       | then-given-most w ↦ rw w.most-is (record {
         bound = λ r lt. elim (cases_eq r relay) [

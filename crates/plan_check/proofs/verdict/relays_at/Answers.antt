@@ -3,6 +3,7 @@ use Rattle.std.specs.Global.{Vec}
 use Rattle.std.proofs.lemmas.List.{get_or-map, length-map}
 use Rattle.neg_codec.specs.declared.Id.{Id}
 use Rattle.sharing.specs.Offers.{id_cmp}
+use Rattle.sharing.proofs.Orders.{is_equal}
 use Rattle.sharing.proofs.Searched.{between_all, go_down, go_up, found_at, not_found}
 use Rattle.plan_check.specs.File.{pairs_of}
 use Rattle.plan_check.proofs.verdict.relays_at.Goals as goal
@@ -26,7 +27,7 @@ loop-low-preserved-in-Less c =
     let to : middle < c.loop-low.high = omega (arith, c.loop-low-test.true) in
     let lt : middle < length c.args.offers.now = omega (arith, c.loop-low.invariant.within, long c.args.offers.now) in
     go_down [] (pairs_of c.args.offers.now) c.args.id.now c.loop-low.low c.loop-low.high middle c.loop-low.invariant c.requires (omega arith) to
-    (ap (λ (p : Id × List ℕ). id_cmp c.args.id.now p.0) (raw_at c.args.offers.now middle c.index-offers-middle.result lt) ∙ sym c.cmp.ensures ∙ c.in-Less.is)
+    (ap (λ (p : Id × List ℕ). id_cmp c.args.id.now p.0) (raw_at c.args.offers.now middle c.index-offers-middle.result lt) ∙ sym c.cmp-in-loop-low.ensures ∙ c.in-Less.is)
 
 pub loop-low-preserved : goal.loop-low-preserved
 loop-low-preserved c =
@@ -34,7 +35,7 @@ loop-low-preserved c =
     let to : middle < c.loop-low.high = omega (arith, c.loop-low-test.true) in
     let lt : middle < length c.args.offers.now = omega (arith, c.loop-low.invariant.within, long c.args.offers.now) in
     go_up [] (pairs_of c.args.offers.now) c.args.id.now c.loop-low.low c.loop-low.high middle c.loop-low.invariant c.requires (omega arith) to
-    (ap (λ (p : Id × List ℕ). id_cmp c.args.id.now p.0) (raw_at c.args.offers.now middle c.index-offers-middle.result lt) ∙ sym c.cmp.ensures ∙ c.in-Greater.is)
+    (ap (λ (p : Id × List ℕ). id_cmp c.args.id.now p.0) (raw_at c.args.offers.now middle c.index-offers-middle.result lt) ∙ sym c.cmp-in-loop-low.ensures ∙ c.in-Greater.is)
 
 pub returns-in-Equal : goal.returns-in-Equal
 returns-in-Equal c =
@@ -43,8 +44,19 @@ returns-in-Equal c =
     let lt : middle < length offers = omega (arith, c.loop-low-test.true, c.loop-low.invariant.within, long offers) in
     let fits : middle < length (pairs_of offers) = omega (arith, long offers) in
     let same = found_at [] (pairs_of offers) c.args.id.now middle c.requires fits
-    (ap (λ (p : Id × List ℕ). id_cmp c.args.id.now p.0) (raw_at offers middle c.index-offers-middle.result lt) ∙ sym c.cmp.ensures ∙ c.in-Equal.is) in
-    sym (same ∙ ap (λ (p : Id × List ℕ). Some p.1) (raw_at offers middle c.index-offers-middle-in-Equal.result lt) ∙ ap Some (sym c.deref.ensures.value))
+    (ap (λ (p : Id × List ℕ). id_cmp c.args.id.now p.0) (raw_at offers middle c.index-offers-middle.result lt) ∙ sym c.cmp-in-loop-low.ensures ∙ c.in-Equal.is) in
+    sym (same ∙ ap (λ (p : Id × List ℕ). Some p.1) (raw_at offers middle c.index-offers-middle-in-Equal.result lt) ∙ ap Some (sym c.deref-in-Equal.ensures.value))
 
 pub returns : goal.returns
 returns c = sym (not_found [] (pairs_of c.args.offers.now) c.args.id.now c.loop-low.low c.loop-low.high c.loop-low.invariant c.loop-low-test.false)
+
+pub returns-then-is_eq : goal.returns-then-is_eq
+returns-then-is_eq c =
+    let offers = c.args.offers.now in
+    let place : ℕ = c.args.place in
+    let lt : place < length offers = c.if-place-offers.true in
+    let fits : place < length (pairs_of offers) = omega (arith, long offers) in
+    let is = is_equal c.cmp.result (sym c.is_eq.ensures ∙ c.if-is_eq.true) in
+    let same = found_at [] (pairs_of offers) c.args.id.now place c.requires fits
+    (ap (λ (p : Id × List ℕ). id_cmp c.args.id.now p.0) (raw_at offers place c.index-offers-place.result lt) ∙ sym c.cmp.ensures ∙ is) in
+    sym (same ∙ ap (λ (p : Id × List ℕ). Some p.1) (raw_at offers place c.index-offers-place-then-is_eq.result lt) ∙ ap Some (sym c.deref.ensures.value))

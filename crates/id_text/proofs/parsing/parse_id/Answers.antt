@@ -3,8 +3,8 @@ use Rattle.std.proofs.lemmas.List.Elements.{All-push, All-nil}
 use Rattle.std.proofs.lemmas.List.{take_more_set}
 use Rattle.hex.specs.Hex.{encode_lower, encode_with, lower_digits}
 use Rattle.hex.proofs.HexLemmas.{length-encode_with}
-use Rattle.mirror_run.proofs.HexLemmas.{encode_more, stray_more, no_stray}
-use Rattle.mirror_run.proofs.item_text.parse_id.Goals as goal
+use Rattle.id_text.proofs.HexLemmas.{encode_more, stray_more, no_stray}
+use Rattle.id_text.proofs.parsing.parse_id.Goals as goal
 
 pub returns-then-text-ne64-clause-none : goal.returns-then-text-ne64-clause-none
 returns-then-text-ne64-clause-none c = λ id is same.

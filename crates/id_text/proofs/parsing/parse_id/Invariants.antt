@@ -1,7 +1,7 @@
 use Rattle.std.proofs.Common.{◌≡◌, ◌*◌, ◌<◌, ◌≤◌, length, take, All}
 use Rattle.hex.specs.Hex.{encode_lower}
-use Rattle.mirror_run.proofs.HexLemmas.{HasStray}
-use Rattle.mirror_run.proofs.item_text.parse_id.Given as goal
+use Rattle.id_text.proofs.HexLemmas.{HasStray}
+use Rattle.id_text.proofs.parsing.parse_id.Given as goal
 
 abbrev pub invariant-loop-i : goal.invariant-loop-i
 invariant-loop-i l = record {
