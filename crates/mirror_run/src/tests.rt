@@ -1,5 +1,6 @@
 //! Inputs from a table, readers and writers that fail.
 
+use crate::waiting::{put, send};
 use crate::{
     LineFault, Lists, Refusal, place_items, read_input, read_lists, read_rolls, run_recon,
     write_recon,
@@ -288,6 +289,29 @@ fn messages_and_results(rt: HostRuntime) -> Result<(), Fail> {
             assert_eq!(rt; got, Err(Refusal::Write), "write {n}");
         }
     }
+    Ok(())
+}
+
+#[test]
+fn bytes_wait_where_they_find_room(rt: HostRuntime) -> Result<(), Fail> {
+    let alloc = rt.alloc();
+    let mut out = Vec::new(alloc);
+    let mut wait = Vec::with_capacity(alloc, 4)?;
+    let table = [
+        ("abc", "", "abc"),
+        ("d", "", "abcd"),
+        ("ef", "abcd", "ef"),
+        ("ghijk", "abcdefghijk", ""),
+        ("l", "abcdefghijk", "l"),
+    ];
+    for (bytes, written, waits) in table {
+        put(&mut out, &mut wait, bytes.as_bytes())?;
+        assert_eq!(rt; out.as_slice(), written.as_bytes());
+        assert_eq!(rt; wait.as_slice(), waits.as_bytes());
+    }
+    send(&mut out, &mut wait)?;
+    assert_eq!(rt; out.as_slice(), b"abcdefghijkl".as_slice());
+    assert!(rt; wait.is_empty());
     Ok(())
 }
 

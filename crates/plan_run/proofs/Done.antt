@@ -27,7 +27,7 @@ planned_from read made offers plan same is planned =
     })
 
 -- a text that was written, if the input is known
-pub plan_written : (r : Result (Unit {0}) Refusal) (known old new : Option (List ℕ)) (read made : File) → IfSome known (λ input. IsTextOf input read) → IsPlannedFrom read made → IsFile made
+pub plan_written : (r : Result (Unit {0}) Refusal) (known old new : Option (List ℕ)) (read made : File) → IfSome known (λ input. IsTextOf input read) → IsPlannedFrom read made → OnOk r (IsFile made)
     → OnOk r (Appends old new (plan_text made)) → OnOk r (IfSome known (λ input. IsPlanWritten input old new))
 plan_written (Err e) known old new read made told planned ok written = tt
 plan_written (Ok u) None old new read made told planned ok written = tt

@@ -64,7 +64,8 @@ fn put_group<W: Write>(out: &mut W, wait: &mut Vec<u8>, group: &[u16]) -> io::Re
 
 /// Writes all lines of a plan file.
 fn put_file<W: Write>(out: &mut W, wait: &mut Vec<u8>, file: &PlanFile) -> io::Result<()>
-    ensures { OnOk result (Sends (W.contents out.old) wait.old.items (W.contents out.new) wait.new.items (plan_text file.now)) }
+    ensures text { OnOk result (Sends (W.contents out.old) wait.old.items (W.contents out.new) wait.new.items (plan_text file.now)) }
+    ensures file { OnOk result (IsFile file.now) }
 {
     put(out, wait, b"nostr-plan 1\n")?;
     put_offers(out, wait, file.offers())?;
@@ -75,7 +76,8 @@ fn put_file<W: Write>(out: &mut W, wait: &mut Vec<u8>, file: &PlanFile) -> io::R
 /// Writes all lines of a plan file to the end.
 fn write_through<W: Write>(out: &mut W, wait: &mut Vec<u8>, file: &PlanFile) -> io::Result<()>
     requires { wait.old.items ≡ [] }
-    ensures { OnOk result (Appends (W.contents out.old) (W.contents out.new) (plan_text file.now)) }
+    ensures text { OnOk result (Appends (W.contents out.old) (W.contents out.new) (plan_text file.now)) }
+    ensures file { OnOk result (IsFile file.now) }
 {
     put_file(out, wait, file)?;
     send(out, wait)?;
@@ -89,10 +91,9 @@ pub(crate) fn write_file<W: Write>(
     file: &PlanFile,
 ) -> Result<(), Refusal>
     ensures ok { OnOk result (Appends (W.contents writer.old) (W.contents writer.new) (plan_text file.now)) }
-    ensures file { IsFile file.now }
+    ensures file { OnOk result (IsFile file.now) }
     ensures err { IfErr result (λ e. (e ≡ Refusal.Write) ⊎ ((e ≡ Refusal.Memory) × Keeps (W.contents writer.old) (W.contents writer.new))) }
 {
-    let _ = file.offers();
     let Ok(mut wait) = Vec::with_capacity(alloc, WAITING) else {
         return Err(Refusal::Memory);
     };

@@ -270,6 +270,29 @@ fn as_many_ids_as_a_table_takes(rt: HostRuntime) -> Result<(), Fail> {
 }
 
 #[test]
+fn an_id_that_all_relays_offer(rt: HostRuntime) -> Result<(), Fail> {
+    let alloc = rt.alloc();
+    let mut all = String::new(alloc);
+    for relay in 0..64u16 {
+        write!(all, " {relay}")?;
+    }
+    let offer = format!(in alloc; "offer a{all}")?;
+    let group = format!(in alloc; "group{all}")?;
+    let input = plan_text(alloc, &[offer.as_str(), "offer b 9 10", "group"])?;
+    let got = planned(alloc, input.as_str())?;
+    let offers = input.as_str().strip_suffix("group\n").ok_or("no group")?;
+    let last = plan_text(alloc, &[group.as_str()])?;
+    let last = last
+        .as_str()
+        .strip_prefix("nostr-plan 1\n")
+        .ok_or("no header")?;
+    assert!(rt; got.as_str().starts_with(offers) && got.as_str().ends_with(last));
+    assert_eq!(rt; got.as_str().lines().count(), 6);
+    assert_eq!(rt; checked(alloc, got.as_str())?.as_str(), "least 1\n");
+    Ok(())
+}
+
+#[test]
 fn a_file_is_read_and_planned(rt: HostRuntime) -> Result<(), Fail> {
     let alloc = rt.alloc();
     let text = plan_text(alloc, &["offer a 0 1", "offer b 0", "group"])?;

@@ -11,8 +11,8 @@ use Rattle.plan_run.proofs.printing.put_file.Goals as goal
 pub put_offers-requires : goal.put_offers-requires
 put_offers-requires g c = subst (All (λ (o : Id × List ℕ). AreRelays o.1)) (sym c.offers.ensures.value) c.offers.ensures.file.offers_ok.relays
 
-pub returns : goal.returns
-returns g c =
+pub returns-clause-text : goal.returns-clause-text
+returns-clause-text g c =
     let offers = Appends-same _ _ _ _ (ap (flat_map offered) c.offers.ensures.value) c.in_ok-put_offers.ensures in
     let gives = Appends-same _ _ _ _ (ap (flat_map given) c.gives.ensures.value) c.in_ok-put_gives.ensures in
     on_ok_weaker c.put_group.result
