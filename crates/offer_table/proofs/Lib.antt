@@ -4,7 +4,7 @@ mod Offered
 pub mod Cuts
 pub mod IdRows
 pub mod RowEdits
-pub mod Gathered
+pub mod Runs
 pub mod Numbers
 pub mod Struck
 pub mod Grouped

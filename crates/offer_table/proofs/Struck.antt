@@ -19,7 +19,7 @@ use Rattle.offer_table.specs.Groups.{ids_numbered}
 use Rattle.offer_table.specs.Rows.{with_id, without_id}
 use Rattle.offer_table.proofs.Cuts.{sorted_before, sorted_behind}
 use Rattle.offer_table.proofs.IdRows.{AllBefore, AllBehind, with_cut, without_cut}
-use Rattle.offer_table.proofs.Gathered.{before_all}
+use Rattle.offer_table.proofs.Runs.{before_all, ids_join}
 use Rattle.offer_table.proofs.Numbers.{same_set}
 
 abbrev pub Offers : Type 0
@@ -59,11 +59,6 @@ ids_cut os ps k w n =
     rest : (b : Bool) → map (λ (o : Id × List ℕ). o.0) (cond b ((k, w) ∷ filter (λ o. n == bits_of o.1) ps) (filter (λ o. n == bits_of o.1) ps)) ≡ cond b (k ∷ ids_numbered n ps) (ids_numbered n ps)
     rest true = refl
     rest false = refl
-
-ids_join : (os ps : Offers) (n : ℕ) → ids_numbered n (os ++ ps) ≡ ids_numbered n os ++ ids_numbered n ps
-ids_join os ps n =
-    ap (map (λ o. o.0)) (filter-append (λ (o : Id × List ℕ). n == bits_of o.1) os ps)
-    ∙ map-append (λ (o : Id × List ℕ). o.0) (filter (λ o. n == bits_of o.1) os) (filter (λ o. n == bits_of o.1) ps)
 
 behind_all : (os ps : Offers) (k : Id) (w : List ℕ) (n : ℕ) → Ascend (map (λ p. p.0) (os ++ (k, w) ∷ ps)) → AllBehind k (ids_numbered n ps)
 behind_all os ps k w n s =
