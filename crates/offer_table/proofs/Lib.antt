@@ -9,3 +9,5 @@ pub mod Numbers
 pub mod Struck
 pub mod Grouped
 pub mod Partition
+pub mod Pairs
+pub mod SideBySide
