@@ -4,8 +4,10 @@ mod Offered
 pub mod Cuts
 pub mod IdRows
 pub mod RowEdits
-pub mod Gathered
+pub mod Runs
 pub mod Numbers
 pub mod Struck
 pub mod Grouped
 pub mod Partition
+pub mod Pairs
+pub mod SideBySide

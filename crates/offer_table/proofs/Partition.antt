@@ -22,7 +22,7 @@ use Rattle.offer_table.proofs.Numbers.{same_set}
 use Rattle.offer_table.proofs.Grouped.{Sets, has_number, group_by, number_is, sorted_sets, All-sets_of, groups_rows}
 
 -- ids that pass stay in order
-filter_ascends : (p : Id × List ℕ → Bool) (os : List (Id × List ℕ)) → Ascend (map (λ o. o.0) os) → Ascend (map (λ o. o.0) (filter p os))
+pub filter_ascends : (p : Id × List ℕ → Bool) (os : List (Id × List ℕ)) → Ascend (map (λ o. o.0) os) → Ascend (map (λ o. o.0) (filter p os))
 filter_ascends p [] h = h
 filter_ascends p (o ∷ os) h =
     let rest : Ascend (map (λ o. o.0) (filter p os)) = filter_ascends p os (tail_sorted id_cmp o.0 (map (λ o. o.0) os) h) in

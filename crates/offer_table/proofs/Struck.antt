@@ -1,53 +1,26 @@
 -- One offer struck: what becomes of the ids of each number.
-use Rattle.std.proofs.Common.{◌≡◌, ◌≢◌, ℕ, ◌==◌, ◌&&◌, not, Bool, true, false, cond, List, [], ◌∷◌, ◌++◌, map, Some, refl, sym, ap, ◌∙◌, subst, inl, inr}
+use Rattle.std.proofs.Common.{◌≡◌, ◌≢◌, ℕ, ◌==◌, ◌&&◌, not, Bool, true, false, cond, List, [], ◌∷◌, ◌++◌, map, length, ◌<◌, Some, None, refl, sym, ap, ◌∙◌, subst, arith, inl, inr}
 use Rattle.std.specs.Prelude.{unwrap_or, is_some}
 use Rattle.std.specs.declared.cmp.Ordering.TheVariants.{Less, Greater}
 use Rattle.std.specs.Ordering.{match_ordering, ordering_reverse}
-use Rattle.std.specs.BTreeMap.{insert_entry}
-use Rattle.std.specs.Map.{remove_entry}
 use Rattle.std.specs.List.{All, filter}
 use Rattle.std.proofs.lemmas.Bool.{false≢true, cases_Bool, eq-eqb, eqb-true}
-use Rattle.std.proofs.lemmas.Cmp.{tied_itself}
-use Rattle.std.proofs.lemmas.List.{map-append}
+use Rattle.std.proofs.lemmas.List.{map-append, length-append}
 use Rattle.std.proofs.lemmas.List.Elements.{All-head, All-tail, All-map, All-filter, filter-append}
 use Rattle.neg_codec.specs.declared.Id.{Id}
 use Rattle.sharing.specs.Sharing.{is_among}
 use Rattle.sharing.specs.Offers.{AreRelays, Ascend, id_cmp, is_id, beside, relays_of}
-use Rattle.sharing.proofs.Orders.{id_total, same_id, id_itself, id_apart, All-unmap}
+use Rattle.sharing.proofs.Orders.{same_id, id_itself, id_flips, All-unmap}
 use Rattle.offer_table.specs.Relays.{bits_of}
 use Rattle.offer_table.specs.Groups.{ids_numbered}
 use Rattle.offer_table.specs.Rows.{with_id, without_id}
-use Rattle.offer_table.proofs.Cuts.{sorted_before, sorted_behind}
+use Rattle.offer_table.proofs.Cuts.{sorted_before, sorted_behind, sorted_gone, All-put, All-gone}
 use Rattle.offer_table.proofs.IdRows.{AllBefore, AllBehind, with_cut, without_cut}
-use Rattle.offer_table.proofs.Gathered.{before_all}
+use Rattle.offer_table.specs.Table.{IsTable}
+use Rattle.offer_table.specs.Entries.{has_some, IsChanged}
+use Rattle.offer_table.proofs.Runs.{Offers, before_all, ids_join}
+use Rattle.offer_table.proofs.Pairs.{PairsBefore, PairsBehind, skip_before, none_behind}
 use Rattle.offer_table.proofs.Numbers.{same_set}
-
-abbrev pub Offers : Type 0
-Offers = List (Id × List ℕ)
-
--- offers, cut at an id
-pub record Around (es : Offers) (k : Id) (s : List ℕ) : Type 0 where
-  pub os : Offers
-  pub ps : Offers
-  pub is : es ≡ os ++ (k, s) ∷ ps
-
-pub around : (es : Offers) (k : Id) → is_some (beside es k) ≡ true → Around es k (relays_of es k)
-around [] k h = absurd (false≢true h)
-around (e ∷ es) k h =
-    elim (cases_Bool (is_id k e.0)) [
-      | inl t ↦ record {
-        os = [];
-        ps = es;
-        is = ap (λ (i : Id). (i, e.1) ∷ es) (sym (same_id k e.0 t)) ∙ ap (λ b. (k, unwrap_or (cond b (Some e.1) (beside es k)) []) ∷ es) (sym t);
-      }
-      | inr f ↦
-          (let rest : Around es k (relays_of es k) = around es k (sym (ap (λ b. is_some (cond b (Some e.1) (beside es k))) f) ∙ h) in
-          record {
-            os = e ∷ rest.os;
-            ps = rest.ps;
-            is = ap (λ xs. e ∷ xs) rest.is ∙ ap (λ b. e ∷ (rest.os ++ (k, unwrap_or (cond b (Some e.1) (beside es k)) []) ∷ rest.ps)) (sym f);
-          })
-    ]
 
 -- the ids of a number, cut at an id
 ids_cut : (os ps : Offers) (k : Id) (w : List ℕ) (n : ℕ) → ids_numbered n (os ++ (k, w) ∷ ps) ≡ ids_numbered n os ++ cond (n == bits_of w) (k ∷ ids_numbered n ps) (ids_numbered n ps)
@@ -60,11 +33,6 @@ ids_cut os ps k w n =
     rest true = refl
     rest false = refl
 
-ids_join : (os ps : Offers) (n : ℕ) → ids_numbered n (os ++ ps) ≡ ids_numbered n os ++ ids_numbered n ps
-ids_join os ps n =
-    ap (map (λ o. o.0)) (filter-append (λ (o : Id × List ℕ). n == bits_of o.1) os ps)
-    ∙ map-append (λ (o : Id × List ℕ). o.0) (filter (λ o. n == bits_of o.1) os) (filter (λ o. n == bits_of o.1) ps)
-
 behind_all : (os ps : Offers) (k : Id) (w : List ℕ) (n : ℕ) → Ascend (map (λ p. p.0) (os ++ (k, w) ∷ ps)) → AllBehind k (ids_numbered n ps)
 behind_all os ps k w n s =
     let cut : Ascend (map (λ p. p.0) os ++ k ∷ map (λ p. p.0) ps) = subst Ascend (map-append (λ (p : Id × List ℕ). p.0) os ((k, w) ∷ ps)) s in
@@ -74,20 +42,6 @@ behind_all os ps k w n s =
 keys_before : (os ps : Offers) (k : Id) (w : List ℕ) → Ascend (map (λ p. p.0) (os ++ (k, w) ∷ ps)) → All (λ p. id_cmp p.0 k ≡ Less) os
 keys_before os ps k w s =
     All-unmap (λ i. id_cmp i k ≡ Less) (λ (p : Id × List ℕ). p.0) os (sorted_before id_cmp (map (λ p. p.0) os) (map (λ p. p.0) ps) k (subst Ascend (map-append (λ (p : Id × List ℕ). p.0) os ((k, w) ∷ ps)) s))
-
--- other relays beside an id
-insert_around : (os ps : Offers) (k : Id) (s t : List ℕ) → All (λ p. id_cmp p.0 k ≡ Less) os → insert_entry id_cmp (os ++ (k, s) ∷ ps) k t ≡ os ++ (k, t) ∷ ps
-insert_around [] ps k s t h = ap (λ o. match_ordering o ((k, t) ∷ (k, s) ∷ ps) ((k, t) ∷ ps) ((k, s) ∷ insert_entry id_cmp ps k t)) (tied_itself id_total k)
-insert_around (o ∷ os) ps k s t h =
-    let more : id_cmp k o.0 ≡ Greater = id_total.antisymm k o.0 ∙ ap ordering_reverse (All-head (λ p. id_cmp p.0 k ≡ Less) o os h) in
-    ap (λ r. match_ordering r ((k, t) ∷ o ∷ (os ++ (k, s) ∷ ps)) ((o.0, t) ∷ (os ++ (k, s) ∷ ps)) (o ∷ insert_entry id_cmp (os ++ (k, s) ∷ ps) k t)) more
-    ∙ ap (λ xs. o ∷ xs) (insert_around os ps k s t (All-tail (λ p. id_cmp p.0 k ≡ Less) o os h))
-
-remove_around : (os ps : Offers) (k : Id) (s : List ℕ) → All (λ p. id_cmp p.0 k ≡ Less) os → remove_entry (is_id k) (os ++ (k, s) ∷ ps) ≡ os ++ ps
-remove_around [] ps k s h = ap (λ b. cond b ps ((k, s) ∷ remove_entry (is_id k) ps)) (id_itself k)
-remove_around (o ∷ os) ps k s h =
-    ap (λ b. cond b (os ++ (k, s) ∷ ps) (o ∷ remove_entry (is_id k) (os ++ (k, s) ∷ ps))) (id_apart o.0 k (All-head (λ p. id_cmp p.0 k ≡ Less) o os h))
-    ∙ ap (λ xs. o ∷ xs) (remove_around os ps k s (All-tail (λ p. id_cmp p.0 k ≡ Less) o os h))
 
 -- an id goes from one row to another
 move_id : (b d : Bool) (us vs : List Id) (k : Id) → (b ≡ true → d ≡ true → ⊥) → AllBefore us k → AllBehind k vs →
@@ -101,33 +55,106 @@ leave : (b : Bool) (us vs : List Id) (k : Id) → AllBefore us k → AllBehind k
 leave true us vs k before behind = without_cut us vs k before behind
 leave false us vs k before behind = refl
 
-module _ (es : Offers) (k : Id) (a : Around es k (relays_of es k)) (ascend : Ascend (map (λ p. p.0) es)) (was now : ℕ → List Id) (grouped : (n : ℕ) → was n ≡ ids_numbered n es) where
-  s : List ℕ
-  s = relays_of es k
+keys_behind : (os ps : Offers) (k : Id) (w : List ℕ) → Ascend (map (λ p. p.0) (os ++ (k, w) ∷ ps)) → All (λ p. id_cmp k p.0 ≡ Less) ps
+keys_behind os ps k w s =
+    All-unmap (λ i. id_cmp k i ≡ Less) (λ (p : Id × List ℕ). p.0) ps (sorted_behind id_cmp (map (λ p. p.0) os) (map (λ p. p.0) ps) k (subst Ascend (map-append (λ (p : Id × List ℕ). p.0) os ((k, w) ∷ ps)) s))
 
-  cut : Ascend (map (λ p. p.0) (a.os ++ (k, relays_of es k) ∷ a.ps))
-  cut = subst (λ (xs : Offers). Ascend (map (λ p. p.0) xs)) a.is ascend
+-- another id's relays stand where they stood
+beside_past : (os ps : Offers) (k : Id) (w : List ℕ) (i : Id) → is_id i k ≡ false → beside (os ++ (k, w) ∷ ps) i ≡ beside (os ++ ps) i
+beside_past [] ps k w i ne = ap (λ b. cond b (Some w) (beside ps i)) ne
+beside_past (o ∷ os) ps k w i ne = ap (cond (is_id i o.0) (Some o.1)) (beside_past os ps k w i ne)
 
-  held : (n : ℕ) → was n ≡ ids_numbered n a.os ++ cond (n == bits_of (relays_of es k)) (k ∷ ids_numbered n a.ps) (ids_numbered n a.ps)
-  held n = grouped n ∙ ap (ids_numbered n) a.is ∙ ids_cut a.os a.ps k (relays_of es k) n
+has_length : (s : List ℕ) → has_some s ≡ true → 0 < length s
+has_length [] h = absurd (false≢true h)
+has_length (x ∷ xs) h = omega arith
 
-  -- the id's last offer
-  pub struck_last : (new : Offers) → new ≡ remove_entry (is_id k) es → ((n : ℕ) → now n ≡ cond (n == bits_of (relays_of es k)) (without_id k (was n)) (was n)) → (n : ℕ) → now n ≡ ids_numbered n new
-  struck_last new e left n =
-      left n ∙ ap (λ xs. cond (n == bits_of (relays_of es k)) (without_id k xs) xs) (held n)
-      ∙ leave (n == bits_of (relays_of es k)) (ids_numbered n a.os) (ids_numbered n a.ps) k (before_all a.os a.ps k (relays_of es k) n cut) (behind_all a.os a.ps k (relays_of es k) n cut)
-      ∙ sym (ap (ids_numbered n) (e ∙ ap (remove_entry (is_id k)) a.is ∙ remove_around a.os a.ps k (relays_of es k) (keys_before a.os a.ps k (relays_of es k) cut)) ∙ ids_join a.os a.ps n)
+-- the relays of an offered id are changed
+module _ (es : Offers) (k : Id) (t : List ℕ) (new : Offers) (h : IsChanged es k t new) (ascend : Ascend (map (λ p. p.0) es)) where
+  cut : Ascend (map (λ p. p.0) (h.before ++ (k, relays_of es k) ∷ h.behind))
+  cut = subst (λ (xs : Offers). Ascend (map (λ p. p.0) xs)) h.was ascend
 
-  -- an offer of an id that has others
-  pub struck_one : (t : List ℕ) (new : Offers) (mid : ℕ → List Id) → bits_of (relays_of es k) ≢ bits_of t → new ≡ insert_entry id_cmp es k t
-      → ((n : ℕ) → mid n ≡ cond (n == bits_of t) (with_id k (was n)) (was n))
-      → ((n : ℕ) → now n ≡ cond (n == bits_of (relays_of es k)) (without_id k (mid n)) (mid n)) → (n : ℕ) → now n ≡ ids_numbered n new
-  struck_one t new mid differ e given left n =
-      left n ∙ ap (λ xs. cond (n == bits_of (relays_of es k)) (without_id k xs) xs) (given n ∙ ap (λ xs. cond (n == bits_of t) (with_id k xs) xs) (held n))
-      ∙ move_id (n == bits_of (relays_of es k)) (n == bits_of t) (ids_numbered n a.os) (ids_numbered n a.ps) k
-      (λ x y. differ (sym (eqb-true n (bits_of (relays_of es k)) x) ∙ eqb-true n (bits_of t) y))
-      (before_all a.os a.ps k (relays_of es k) n cut) (behind_all a.os a.ps k (relays_of es k) n cut)
-      ∙ sym (ap (ids_numbered n) (e ∙ ap (λ xs. insert_entry id_cmp xs k t) a.is ∙ insert_around a.os a.ps k (relays_of es k) t (keys_before a.os a.ps k (relays_of es k) cut)) ∙ ids_cut a.os a.ps k t n)
+  -- its groups are changed as its relays are
+  pub struck : (was mid now : ℕ → List Id) → ((n : ℕ) → was n ≡ ids_numbered n es)
+      → ((n : ℕ) → mid n ≡ cond (has_some t) (cond (n == bits_of t) (with_id k (was n)) (was n)) (was n))
+      → ((n : ℕ) → now n ≡ cond (n == bits_of (relays_of es k)) (without_id k (mid n)) (mid n))
+      → (has_some t ≡ true → bits_of (relays_of es k) ≢ bits_of t) → (n : ℕ) → now n ≡ ids_numbered n new
+  struck was mid now grouped given left differ n =
+      left n ∙ ap (λ xs. cond (n == bits_of (relays_of es k)) (without_id k xs) xs) (given n ∙ ap (λ xs. cond (has_some t) (cond (n == bits_of t) (with_id k xs) xs) xs) held)
+      ∙ both (has_some t) differ
+      ∙ sym (ap (ids_numbered n) h.is)
+    where
+      held : was n ≡ ids_numbered n h.before ++ cond (n == bits_of (relays_of es k)) (k ∷ ids_numbered n h.behind) (ids_numbered n h.behind)
+      held = grouped n ∙ ap (ids_numbered n) h.was ∙ ids_cut h.before h.behind k (relays_of es k) n
+
+      both : (b : Bool) → (b ≡ true → bits_of (relays_of es k) ≢ bits_of t) →
+          (let xs : List Id = ids_numbered n h.before ++ cond (n == bits_of (relays_of es k)) (k ∷ ids_numbered n h.behind) (ids_numbered n h.behind) in
+          let ys : List Id = cond b (cond (n == bits_of t) (with_id k xs) xs) xs in
+          cond (n == bits_of (relays_of es k)) (without_id k ys) ys ≡ ids_numbered n (h.before ++ cond b ((k, t) ∷ h.behind) h.behind))
+      both true differ =
+          move_id (n == bits_of (relays_of es k)) (n == bits_of t) (ids_numbered n h.before) (ids_numbered n h.behind) k
+          (λ x y. differ refl (sym (eqb-true n (bits_of (relays_of es k)) x) ∙ eqb-true n (bits_of t) y))
+          (before_all h.before h.behind k (relays_of es k) n cut) (behind_all h.before h.behind k (relays_of es k) n cut)
+          ∙ sym (ids_cut h.before h.behind k t n)
+      both false differ =
+          leave (n == bits_of (relays_of es k)) (ids_numbered n h.before) (ids_numbered n h.behind) k (before_all h.before h.behind k (relays_of es k) n cut) (behind_all h.before h.behind k (relays_of es k) n cut)
+          ∙ sym (ids_join h.before h.behind n)
+
+  before_k : PairsBefore h.before k
+  before_k = keys_before h.before h.behind k (relays_of es k) cut
+
+  behind_k : PairsBehind k h.behind
+  behind_k = keys_behind h.before h.behind k (relays_of es k) cut
+
+  -- what stands beside each id
+  pub changed_beside : (i : Id) → beside new i ≡ cond (is_id k i) (cond (has_some t) (Some t) None) (beside es i)
+  changed_beside i =
+      ap (λ (xs : Offers). beside xs i) h.is
+      ∙ elim (cases_Bool (is_id k i)) [
+        | inl e ↦
+            ap (beside (h.before ++ cond (has_some t) ((k, t) ∷ h.behind) h.behind)) (sym (same_id k i e))
+            ∙ skip_before h.before (cond (has_some t) ((k, t) ∷ h.behind) h.behind) k before_k ∙ here (has_some t)
+            ∙ sym (ap (λ b. cond b (cond (has_some t) (Some t) None) (beside es i)) e)
+        | inr f ↦
+            other (has_some t) (id_flips k i f) ∙ sym (beside_past h.before h.behind k (relays_of es k) i (id_flips k i f)) ∙ ap (λ (xs : Offers). beside xs i) (sym h.was)
+            ∙ sym (ap (λ b. cond b (cond (has_some t) (Some t) None) (beside es i)) f)
+      ]
+    where
+      here : (b : Bool) → beside (cond b ((k, t) ∷ h.behind) h.behind) k ≡ cond b (Some t) None
+      here true = ap (λ b. cond b (Some t) (beside h.behind k)) (id_itself k)
+      here false = none_behind h.behind k behind_k
+
+      other : (b : Bool) → is_id i k ≡ false → beside (h.before ++ cond b ((k, t) ∷ h.behind) h.behind) i ≡ beside (h.before ++ h.behind) i
+      other true e = beside_past h.before h.behind k t i e
+      other false e = refl
+
+  -- what is left is a table's offers
+  pub changed_table : (reported : List ℕ) → IsTable (record { reported = reported; offers = es }) → AreRelays t → IsTable (record { reported = reported; offers = new })
+  changed_table reported ok relays = subst (λ (xs : Offers). IsTable (record { reported = reported; offers = xs })) (sym h.is) (both (has_some t) (λ e. has_length t e))
+    where
+      gone : (P : List ℕ → Type 0) → All (λ p. P p.1) es → All (λ p. P p.1) (h.before ++ h.behind)
+      gone P all = All-gone (λ p. P p.1) h.before h.behind (k, relays_of es k) (subst (All (λ p. P p.1)) h.was all)
+
+      ids : (w : List ℕ) → Ascend (map (λ p. p.0) (h.before ++ (k, w) ∷ h.behind))
+      ids w = subst Ascend (map-append (λ (p : Id × List ℕ). p.0) h.before ((k, relays_of es k) ∷ h.behind) ∙ sym (map-append (λ (p : Id × List ℕ). p.0) h.before ((k, w) ∷ h.behind))) cut
+
+      fewer : Ascend (map (λ p. p.0) (h.before ++ h.behind))
+      fewer =
+          subst Ascend (sym (map-append (λ (p : Id × List ℕ). p.0) h.before h.behind))
+          (sorted_gone id_cmp (map (λ p. p.0) h.before) (map (λ p. p.0) h.behind) k (subst Ascend (map-append (λ (p : Id × List ℕ). p.0) h.before ((k, relays_of es k) ∷ h.behind)) cut))
+
+      both : (b : Bool) → (b ≡ true → 0 < length t) → IsTable (record { reported = reported; offers = h.before ++ cond b ((k, t) ∷ h.behind) h.behind })
+      both true some = record {
+        offers_ok = record {
+          ascend = ids t;
+          relays = All-put (λ p. AreRelays p.1) h.before h.behind (k, t) (gone AreRelays ok.offers_ok.relays) relays;
+          some = All-put (λ p. 0 < length p.1) h.before h.behind (k, t) (gone (λ w. 0 < length w) ok.offers_ok.some) (some refl);
+        };
+        few = omega (arith, ok.few, ap length h.was, length-append h.before ((k, relays_of es k) ∷ h.behind), length-append h.before ((k, t) ∷ h.behind));
+      }
+      both false some = record {
+        offers_ok = record { ascend = fewer; relays = gone AreRelays ok.offers_ok.relays; some = gone (λ w. 0 < length w) ok.offers_ok.some };
+        few = omega (arith, ok.few, ap length h.was, length-append h.before ((k, relays_of es k) ∷ h.behind), length-append h.before h.behind);
+      }
 
 -- a set without one of its relays has another number
 pub lesser : (s t : List ℕ) (q : ℕ) → AreRelays s → AreRelays t → is_among s q ≡ true → ((r : ℕ) → is_among t r ≡ (is_among s r && not (r == q))) → bits_of s ≢ bits_of t

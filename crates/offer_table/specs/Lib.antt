@@ -5,3 +5,5 @@ pub mod Faults
 pub mod Groups
 pub mod Rows
 pub mod Places
+pub mod Entries
+pub mod Joined

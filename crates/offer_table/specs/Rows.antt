@@ -1,14 +1,12 @@
 -- Rows of ids, each with the set of relays that offers its ids.
-use Rattle.std.specs.Prelude.{◌≡◌, ℕ, ◌<◌, ◌^◌, ◌==◌, not, List, [], ◌∷◌, length, map, unwrap_or, if◌then◌else◌}
+use Rattle.std.specs.Prelude.{◌≡◌, ℕ, ◌<◌, ◌==◌, not, List, [], ◌∷◌, length, if◌then◌else◌}
 use Rattle.std.specs.declared.cmp.Ordering.{Ordering}
-use Rattle.std.specs.Ordering.{nat_cmp, match_ordering}
+use Rattle.std.specs.Ordering.{match_ordering}
 use Rattle.std.specs.List.{All, filter}
 use Rattle.std.specs.List.Sorted.{IsStrictlySortedBy}
 use Rattle.neg_codec.specs.declared.Id.{Id}
 use Rattle.sharing.specs.Offers.{AreRelays, id_cmp, is_id}
-use Rattle.std.specs.Map.{lookup}
-use Rattle.std.specs.BTreeMap.{is_at}
-use Rattle.offer_table.specs.Relays.{bits_of, members}
+use Rattle.offer_table.specs.Relays.{bits_of}
 use Rattle.offer_table.specs.Groups.{set_cmp, ids_numbered}
 
 -- one id more among ids in order
@@ -38,16 +36,3 @@ pub record AreRows (rows : List (List ℕ × List Id)) : Type 0 where
 -- the rows have the offered ids, each beside the relays that offer it
 abbrev pub IsGrouped : List (Id × List ℕ) → List (List ℕ × List Id) → Type 0
 IsGrouped offers rows = (n : ℕ) → ids_at rows n ≡ ids_numbered n offers
-
--- a row under its number stands beside the set with that number
-abbrev pub set_row : ℕ × List Id → List ℕ × List Id
-set_row e = (members e.0, e.1)
-
--- the ids under this number
-abbrev pub row_under : List (ℕ × List Id) → ℕ → List Id
-row_under rows n = unwrap_or (lookup (is_at (nat_cmp n)) rows) []
-
--- rows under the numbers of sets, in order, each with some ids
-pub record AreNumbered (rows : List (ℕ × List Id)) : Type 0 where
-  pub ordered : IsStrictlySortedBy nat_cmp (map (λ e. e.0) rows)
-  pub fine : All (λ e. (e.0 < 2 ^ 64) × (0 < length e.1)) rows

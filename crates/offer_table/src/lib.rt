@@ -1,16 +1,20 @@
 //! Who offers what: tables of ids, each with the set of relays that offer it.
 #![tactic(auto)]
 
+mod entries;
 mod faults;
 mod groups;
+mod joined;
 mod offers;
 mod relays;
 mod row;
 mod table;
+mod walk;
 
 pub use faults::OfferFault;
 pub use relays::RelaySet;
 pub use table::OfferTable;
+pub use walk::Ids;
 
 #[cfg(test)]
 mod tests;

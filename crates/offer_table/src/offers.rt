@@ -12,7 +12,6 @@ use crate::{OfferFault, OfferTable, RelaySet};
 use neg_codec::Id;
 use sharing::MOST_IDS;
 use std::alloc::Global;
-use std::collections::BTreeMap;
 
 /// The set of these relays.
 fn set_of(relays: &[u16]) -> RelaySet
@@ -40,12 +39,12 @@ impl OfferTable {
             return Err(OfferFault::TableFull);
         }
         let mut reported = RelaySet::empty();
-        let mut entries = BTreeMap::new(alloc);
+        let mut entries = Vec::with_capacity(alloc, offers.len())?;
         for offer in offers {
             let relays = set_of(&offer.1);
             reported = reported.union(relays);
-            entries.insert(offer.0, relays)?;
+            entries.push((offer.0, relays))?;
         }
-        Ok(OfferTable::of_map(alloc, reported, entries)?)
+        Ok(OfferTable::of_list(alloc, reported, entries)?)
     }
 }

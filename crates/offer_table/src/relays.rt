@@ -94,13 +94,6 @@ impl RelaySet {
         bits
     }
 
-    /// The set with this number.
-    pub(crate) fn of_number(number: u64) -> RelaySet
-        ensures { result ≡ members number }
-    {
-        RelaySet { bits: number }
-    }
-
     /// Whether the set has no member.
     pub fn is_empty(self) -> bool
         ensures { IsTrue result ↔ (self ≡ []) }

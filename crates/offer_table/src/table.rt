@@ -1,23 +1,24 @@
 //! Tables of offers.
 
 ghost use Rattle.std.specs.Prelude.{◌≡◌, ◌≤◌, ◌+◌, ◌<◌, ◌==◌, ◌||◌, ◌&&◌, not, ℕ, true, List, [], ◌∷◌, length, map, Some, slice_get, OnOk, IfOk, OnErr, IfErr, MatchOption, IsOkUnless, is_some};
-ghost use Rattle.std.specs.List.{All};
 ghost use Rattle.std.specs.Map.Iter.{deref, ShowsInOrder};
 ghost use Rattle.neg_codec.specs.declared.Id.{Id};
 ghost use Rattle.sharing.specs.Sharing.{is_among};
-ghost use Rattle.sharing.specs.Offers.{AreRelays, Ascend, relays_of, beside, is_id};
+ghost use Rattle.sharing.specs.Offers.{AreRelays, IsOffers, relays_of, is_id};
 ghost use Rattle.offer_table.specs.Table.{IsTable, new_in};
 ghost use Rattle.offer_table.specs.Groups.{groups_of, AreGroups};
 ghost use Rattle.offer_table.specs.Faults.{report_fault, merge_fault};
 ghost use Rattle.offer_table.specs.declared.faults.OfferFault.TheVariants.{Memory};
 
+use crate::entries::Entries;
 use crate::groups::Groups;
+use crate::joined::{count_both, united};
+use crate::walk::{Ids, Walk};
 use crate::{OfferFault, RelaySet};
 use neg_codec::Id;
 use sharing::{MOST_IDS, RELAYS};
 use std::alloc::{AllocError, Global};
-use std::collections::btree_map::Keys;
-use std::collections::{BTreeMap, BTreeSet};
+use std::collections::BTreeSet;
 use std::marker::Model;
 
 /// Which relays reported what they offer, and for each offered id the relays that offer it. Beside that the
@@ -25,7 +26,7 @@ use std::marker::Model;
 #[derive(Drop)]
 pub struct OfferTable {
     reported: RelaySet,
-    offers: BTreeMap<Id, RelaySet>,
+    offers: Entries,
     groups: Groups,
     alloc: Global,
 }
@@ -36,61 +37,25 @@ impl Model for OfferTable {
 
     ghost Value = { Table };
 
-    ghost view = { λ t. record { reported = t.reported; offers = t.offers.entries } };
+    ghost view = { λ t. record { reported = t.reported; offers = t.offers } };
 
-    ghost invariant = { λ t. record { table : IsTable (record { reported = t.reported; offers = t.offers.entries }); grouped : IsGrouped t.offers.entries t.groups; rows : AreRows t.groups } };
-}
-
-/// Adds what these offer to all, which then has that many ids.
-fn add_all(
-    all: &mut BTreeMap<Id, RelaySet>,
-    more: &BTreeMap<Id, RelaySet>,
-) -> Result<usize, AllocError>
-    ensures count { IfOk result (λ count. count ≡ length all.new.entries) }
-    ensures member { OnOk result ((i : Id) (r : ℕ) → is_among (relays_of all.new.entries i) r ≡ (is_among (relays_of all.old.entries i) r || is_among (relays_of more.now.entries i) r)) }
-    ensures length { OnOk result (length all.new.entries ≡ length all.old.entries + new_in all.old.entries more.now.entries) }
-    ensures has { OnOk result ((i : Id) → is_some (beside all.new.entries i) ≡ (is_some (beside all.old.entries i) || is_some (beside more.now.entries i))) }
-    ensures relays { OnOk result (All (λ p. AreRelays p.1) all.old.entries → All (λ p. AreRelays p.1) more.now.entries → All (λ p. AreRelays p.1) all.new.entries) }
-    ensures some { OnOk result (All (λ p. 0 < length p.1) all.old.entries → All (λ p. 0 < length p.1) more.now.entries → All (λ p. 0 < length p.1) all.new.entries) }
-    ensures ascend { OnOk result (Ascend (map (λ p. p.0) all.new.entries)) }
-{
-    for (id, relays) in more {
-        let both = match all.get(id) {
-            Some(others) => others.union(*relays),
-            None => *relays,
-        };
-        all.insert(*id, both)?;
-    }
-    Ok(all.len())
-}
-
-/// How many of their ids are none of mine.
-fn count_new(mine: &BTreeMap<Id, RelaySet>, theirs: &BTreeMap<Id, RelaySet>) -> usize
-    ensures value { result ≡ new_in mine.now.entries theirs.now.entries }
-{
-    let mut count = 0;
-    for (id, _relays) in theirs {
-        if !mine.contains_key(id) {
-            count += 1;
-        }
-    }
-    count
+    ghost invariant = { λ t. record { table : IsTable (record { reported = t.reported; offers = t.offers }); grouped : IsGrouped t.offers t.groups; rows : AreRows t.groups } };
 }
 
 impl OfferTable {
     /// The table of these relays that reported, and these offers.
-    pub(crate) fn of_map(
+    pub(crate) fn of_list(
         alloc: Global,
         reported: RelaySet,
-        offers: BTreeMap<Id, RelaySet>,
+        offers: Vec<(Id, RelaySet)>,
     ) -> Result<OfferTable, AllocError>
-        requires { IsTable (record { reported = reported; offers = offers.entries }) }
-        ensures { IfOk result (λ t. t ≡ record { reported = reported; offers = offers.entries }) }
+        requires { IsTable (record { reported = reported; offers = offers.items }) }
+        ensures { IfOk result (λ t. t ≡ record { reported = reported; offers = offers.items }) }
     {
         let groups = Groups::of(alloc, &offers)?;
         Ok(OfferTable {
             reported,
-            offers,
+            offers: Entries::of(offers),
             groups,
             alloc,
         })
@@ -103,7 +68,7 @@ impl OfferTable {
     {
         OfferTable {
             reported: RelaySet::empty(),
-            offers: BTreeMap::new(alloc),
+            offers: Entries::new(alloc),
             groups: Groups::new(alloc),
             alloc,
         }
@@ -127,11 +92,11 @@ impl OfferTable {
             return Err(OfferFault::TableFull);
         }
         let relays = RelaySet::empty().with(relay);
-        let mut offers = BTreeMap::new(alloc);
+        let mut offers = Vec::with_capacity(alloc, need.len())?;
         for id in need {
-            offers.insert(*id, relays)?;
+            offers.push((*id, relays))?;
         }
-        Ok(OfferTable::of_map(alloc, relays, offers)?)
+        Ok(OfferTable::of_list(alloc, relays, offers)?)
     }
 
     /// The offers of both tables. After a fault both come back unchanged.
@@ -146,14 +111,16 @@ impl OfferTable {
         ensures table { IfOk result IsTable }
         ensures back { IfErr result (λ e. (e.1 ≡ self) × (e.2 ≡ other)) }
     {
-        if self.offers.len() + count_new(&self.offers, &other.offers) > MOST_IDS {
+        let count = count_both(self.offers.walk(), other.offers.walk());
+        if count > MOST_IDS {
             return Err((OfferFault::TableFull, self, other));
         }
         if self.reported.meets(other.reported) {
             return Err((OfferFault::Double, self, other));
         }
         let reported = self.reported.union(other.reported);
-        match joined(self.alloc, reported, &self.offers, &other.offers) {
+        let (mine, theirs) = (self.offers.walk(), other.offers.walk());
+        match joined(self.alloc, reported, mine, theirs, count) {
             Ok(both) => Ok(both),
             Err(_) => Err((OfferFault::Memory, self, other)),
         }
@@ -176,14 +143,11 @@ impl OfferTable {
             return Ok(false);
         }
         let rest = relays.without(relay);
-        if rest.is_empty() {
-            self.offers.remove(id);
-            self.groups.take(relays, id);
-        } else {
+        if !rest.is_empty() {
             self.groups.put(self.alloc, rest, *id)?;
-            self.groups.take(relays, id);
-            self.offers.insert(*id, rest)?;
         }
+        self.groups.take(relays, id);
+        self.offers.set(id, rest);
         Ok(true)
     }
 
@@ -192,19 +156,17 @@ impl OfferTable {
         ensures value { result ≡ relays_of self.now.offers id.now }
         ensures table { IsTable self.now }
     {
-        match self.offers.get(id) {
-            Some(relays) => *relays,
-            None => RelaySet::empty(),
-        }
+        self.offers.get(id)
     }
 
     /// The offered ids, ascending.
-    pub fn ids(&self) -> Keys<'_, Id, RelaySet>
+    pub fn ids(&self) -> Ids<'_>
         ensures rest { result ≡ map (λ p. p.0) self.now.offers }
         ensures runs { ShowsInOrder (deref {X = Id}) }
         ensures table { IsTable self.now }
     {
-        self.offers.keys()
+        runs_show(self.alloc);
+        Ids::of(self.offers.walk())
     }
 
     /// How many distinct sets of relays the offered ids have: each of them is a group.
@@ -235,40 +197,29 @@ impl OfferTable {
     }
 }
 
-/// The table of these relays that reported, and the offers of both.
+/// Whatever takes the first of a list, as the iterator over a set does, shows the list in order.
+fn runs_show(alloc: Global)
+    ensures { ShowsInOrder (deref {X = Id}) }
+{
+    let none: BTreeSet<Id> = BTreeSet::new(alloc);
+    none.iter();
+}
+
+/// The table of these relays that reported, and the offers of both, which are that many ids.
 fn joined(
     alloc: Global,
     reported: RelaySet,
-    mine: &BTreeMap<Id, RelaySet>,
-    theirs: &BTreeMap<Id, RelaySet>,
+    mine: Walk<'_>,
+    theirs: Walk<'_>,
+    count: usize,
 ) -> Result<OfferTable, AllocError>
-    requires mine { All (λ p. AreRelays p.1) mine.now.entries × All (λ p. 0 < length p.1) mine.now.entries }
-    requires theirs { All (λ p. AreRelays p.1) theirs.now.entries × All (λ p. 0 < length p.1) theirs.now.entries }
-    requires few { length mine.now.entries + new_in mine.now.entries theirs.now.entries ≤ MOST_IDS }
+    requires mine { IsOffers mine }
+    requires theirs { IsOffers theirs }
+    requires few { length mine + new_in mine theirs ≤ MOST_IDS }
     ensures reported { IfOk result (λ t. t.reported ≡ reported) }
-    ensures offers { IfOk result (λ t. (i : Id) (r : ℕ) → is_among (relays_of t.offers i) r ≡ (is_among (relays_of mine.now.entries i) r || is_among (relays_of theirs.now.entries i) r)) }
+    ensures offers { IfOk result (λ t. (i : Id) (r : ℕ) → is_among (relays_of t.offers i) r ≡ (is_among (relays_of mine.entry i) r || is_among (relays_of theirs.entry i) r)) }
     ensures table { IfOk result IsTable }
 {
-    let offers = united(alloc, mine, theirs)?;
-    OfferTable::of_map(alloc, reported, offers)
-}
-
-/// The offers of both.
-fn united(
-    alloc: Global,
-    mine: &BTreeMap<Id, RelaySet>,
-    theirs: &BTreeMap<Id, RelaySet>,
-) -> Result<BTreeMap<Id, RelaySet>, AllocError>
-    requires mine { All (λ p. AreRelays p.1) mine.now.entries × All (λ p. 0 < length p.1) mine.now.entries }
-    requires theirs { All (λ p. AreRelays p.1) theirs.now.entries × All (λ p. 0 < length p.1) theirs.now.entries }
-    ensures member { IfOk result (λ all. (i : Id) (r : ℕ) → is_among (relays_of all.entries i) r ≡ (is_among (relays_of mine.now.entries i) r || is_among (relays_of theirs.now.entries i) r)) }
-    ensures length { IfOk result (λ all. length all.entries ≡ length mine.now.entries + new_in mine.now.entries theirs.now.entries) }
-    ensures relays { IfOk result (λ all. All (λ p. AreRelays p.1) all.entries) }
-    ensures some { IfOk result (λ all. All (λ p. 0 < length p.1) all.entries) }
-    ensures ascend { IfOk result (λ all. Ascend (map (λ p. p.0) all.entries)) }
-{
-    let mut all = BTreeMap::new(alloc);
-    add_all(&mut all, mine)?;
-    add_all(&mut all, theirs)?;
-    Ok(all)
+    let offers = united(alloc, mine, theirs, count)?;
+    OfferTable::of_list(alloc, reported, offers)
 }

@@ -12,10 +12,10 @@ none_table reported offers e = subst (λ (es : List (Id × List ℕ)). IsTable (
 
 pub invariant_of-result : goal.invariant_of-result
 invariant_of-result c = record {
-  table = none_table c.empty.result c.new.result.entries c.new.ensures.empty;
+  table = none_table c.empty.result c.new.result c.new.ensures;
   rows = c.new-2.ensures.rows;
-  grouped = λ n. ap (λ (xs : Rows). ids_at xs n) c.new-2.ensures.none ∙ sym (ap (ids_numbered n) c.new.ensures.empty);
+  grouped = λ n. ap (λ (xs : Rows). ids_at xs n) c.new-2.ensures.none ∙ sym (ap (ids_numbered n) c.new.ensures);
 }
 
 pub returns-clause-table : goal.returns-clause-table
-returns-clause-table c = none_table c.empty.result c.new.result.entries c.new.ensures.empty
+returns-clause-table c = none_table c.empty.result c.new.result c.new.ensures

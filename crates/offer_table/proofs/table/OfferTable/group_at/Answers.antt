@@ -10,12 +10,12 @@ use Rattle.offer_table.proofs.table.OfferTable.group_at.Goals as goal
 
 pub at-requires : goal.at-requires
 at-requires c =
-    let are : c.self.inside.groups ≡ groups_of c.self.inside.offers.entries = rows_are_groups c.self.inside.offers.entries c.self.inside.groups c.self.invariant.table.offers_ok.relays c.self.invariant.rows c.self.invariant.grouped in
+    let are : c.self.inside.groups ≡ groups_of c.self.inside.offers = rows_are_groups c.self.inside.offers c.self.inside.groups c.self.invariant.table.offers_ok.relays c.self.invariant.rows c.self.invariant.grouped in
     subst (λ (n : ℕ). c.args.k < n) (sym (ap length are ∙ ap (λ (t : Table). length (groups_of t.offers)) c.self.view_is)) c.requires
 
 pub returns-clause-value : goal.returns-clause-value
 returns-clause-value c =
-    let are : c.self.inside.groups ≡ groups_of c.self.inside.offers.entries = rows_are_groups c.self.inside.offers.entries c.self.inside.groups c.self.invariant.table.offers_ok.relays c.self.invariant.rows c.self.invariant.grouped in
+    let are : c.self.inside.groups ≡ groups_of c.self.inside.offers = rows_are_groups c.self.inside.offers c.self.inside.groups c.self.invariant.table.offers_ok.relays c.self.invariant.rows c.self.invariant.grouped in
     sym (ap (λ (g : Rows). slice_get g c.args.k) are ∙ ap (λ (t : Table). slice_get (groups_of t.offers) c.args.k) c.self.view_is) ∙ c.at.ensures.value
 
 pub returns-clause-groups : goal.returns-clause-groups

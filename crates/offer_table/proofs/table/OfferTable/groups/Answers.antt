@@ -8,7 +8,7 @@ use Rattle.offer_table.proofs.table.OfferTable.groups.Goals as goal
 
 pub returns-clause-count : goal.returns-clause-count
 returns-clause-count c =
-    let are : c.self.inside.groups ≡ groups_of c.self.inside.offers.entries = rows_are_groups c.self.inside.offers.entries c.self.inside.groups c.self.invariant.table.offers_ok.relays c.self.invariant.rows c.self.invariant.grouped in
+    let are : c.self.inside.groups ≡ groups_of c.self.inside.offers = rows_are_groups c.self.inside.offers c.self.inside.groups c.self.invariant.table.offers_ok.relays c.self.invariant.rows c.self.invariant.grouped in
     c.len.ensures.count ∙ ap length are ∙ ap (λ (t : Table). length (groups_of t.offers)) c.self.view_is
 
 pub returns-clause-groups : goal.returns-clause-groups

@@ -1,26 +1,19 @@
-use Rattle.std.proofs.Common.{◌≡◌, ◌+◌, ◌<◌, ◌||◌, ℕ, List, length, get_or, map, take, sym, ap, ◌∙◌, subst}
+use Rattle.std.proofs.Common.{◌≡◌, ◌+◌, ◌<◌, ◌||◌, ◌++◌, ◌∷◌, [], ℕ, List, length, get_or, map, take, sym, ap, ◌∙◌, subst}
 use Rattle.std.specs.BTreeMap.{insert_entry}
 use Rattle.std.specs.List.{list_any}
 use Rattle.std.specs.Global.{Vec}
+use Rattle.std.proofs.lemmas.List.{map-append, take_more}
 use Rattle.std.proofs.lemmas.List.Folds.{list_any_more}
 use Rattle.neg_codec.specs.declared.Id.{Id}
 use Rattle.sharing.specs.Sharing.{is_among}
 use Rattle.sharing.specs.Offers.{AreRelays, Ascend, id_cmp}
-use Rattle.offer_table.proofs.Offered.{pair, offer_more, relays_at}
+use Rattle.offer_table.proofs.Offered.{pair, relays_at}
 use Rattle.offer_table.proofs.table.OfferTable.of_offers.Goals as goal
 
 pub set_of-relays-requires : goal.set_of-relays-requires
 set_of-relays-requires c =
     subst AreRelays (sym (c.deref.ensures.value ∙ ap (λ (o : Id × Vec ℕ). o.1.items) c.offer-item.is))
     (relays_at c.args.offers.now c.loop-offer.offer-index c.offer-item.result c.loop-offer-test.true c.requires.relays)
-
--- the item of a turn, and its place
-turn : (offers : List (Id × Vec ℕ)) (i : ℕ) (o : Id × Vec ℕ) (entries new : List (Id × List ℕ)) (relays : List ℕ) → i < length offers → o ≡ get_or offers i o → Ascend (map (λ p. p.0) (map pair offers))
-    → relays ≡ (get_or offers i o).1.items → entries ≡ map pair (take i offers) → new ≡ insert_entry id_cmp entries o.0 relays → new ≡ map pair (take (i + 1) offers)
-turn offers i o entries new relays lt is ascend same made put =
-    put ∙ ap (λ es. insert_entry id_cmp es o.0 relays) made
-    ∙ ap (λ (x : Id × Vec ℕ). insert_entry id_cmp (map pair (take i offers)) x.0 relays) is
-    ∙ offer_more offers i o relays lt ascend same
 
 pub loop-offer-preserved : goal.loop-offer-preserved
 loop-offer-preserved c =
@@ -29,7 +22,11 @@ loop-offer-preserved c =
     let o : Id × Vec ℕ = c.offer-item.result in
     let relays : c.set_of-relays.result ≡ (get_or offers i o).1.items = c.set_of-relays.ensures ∙ c.deref.ensures.value ∙ ap (λ (o : Id × Vec ℕ). o.1.items) c.offer-item.is in
     record {
-      made = turn offers i o c.loop-offer.entries.entries _ c.set_of-relays.result c.loop-offer-test.true c.offer-item.is c.requires.ascend relays c.loop-offer.invariant.made c.in_ok-insert.ensures.entries;
+      made = c.in_ok-push.ensures.items
+          ∙ ap (λ es. es ++ (o.0, c.set_of-relays.result) ∷ []) c.loop-offer.invariant.made
+          ∙ ap (λ (x : Id × Vec ℕ). map pair (take i offers) ++ (x.0, c.set_of-relays.result) ∷ []) c.offer-item.is
+          ∙ ap (λ rs. map pair (take i offers) ++ ((get_or offers i o).0, rs) ∷ []) relays
+          ∙ sym (ap (map pair) (take_more offers i o c.loop-offer-test.true) ∙ map-append pair (take i offers) (get_or offers i o ∷ []));
       members = λ r. c.union-reported.ensures.member r
           ∙ ap (λ b. b || is_among c.set_of-relays.result r) (c.loop-offer.invariant.members r)
           ∙ ap (λ rs. list_any (λ (x : Id × Vec ℕ). is_among x.1.items r) (take i offers) || is_among rs r) relays

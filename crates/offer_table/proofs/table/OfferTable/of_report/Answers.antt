@@ -14,17 +14,13 @@ use Rattle.offer_table.proofs.table.OfferTable.of_report.Goals as goal
 pub loop-id-preserved : goal.loop-id-preserved
 loop-id-preserved c =
     let k : Id = c.in-Some.id.now in
-    let turn : c.loop-id.id-iterator ≡ k ∷ c.next.new.self = rest_more deref c.loop-id.id-iterator c.next.new.self c.next.result c.in-Some.id c.in-Some.is c.next.ensures.steps in
-    let gone : c.into_iter-id-iterator.result ≡ map deref c.loop-id.yielded ++ c.loop-id.id-iterator = rest_so_far deref c.loop-id.yielded c.into_iter-id-iterator.result c.loop-id.id-iterator c.loop-id.yielded_by in
-    let start = c.into_iter-id-iterator.ensures.into_iter_gives in
-    let ordered : Ascend (map deref c.loop-id.yielded ++ k ∷ c.next.new.self) = subst Ascend (sym start.0 ∙ gone ∙ ap (λ us. map deref c.loop-id.yielded ++ us) turn) start.4 in
-    c.in_ok-insert.ensures.entries
-    ∙ ap (λ es. insert_entry id_cmp es k c.with-relays.result) c.loop-id.invariant
-    ∙ each_with_more c.with-relays.result (map deref c.loop-id.yielded) k c.next.new.self ordered
+    c.in_ok-push.ensures.items
+    ∙ ap (λ es. es ++ (k, c.with-relays.result) ∷ []) c.loop-id.invariant
+    ∙ sym (map-append (λ i. (i, c.with-relays.result)) (map deref c.loop-id.yielded) (k ∷ []))
     ∙ ap (each_with c.with-relays.result) (sym (map-append deref c.loop-id.yielded (c.in-Some.id ∷ [])))
 
 pub loop-id-init : goal.loop-id-init
-loop-id-init c = c.new-offers.ensures.empty
+loop-id-init c = c.in_ok-offers.ensures.items
 
 whole : (relays : List ℕ) (relay : ℕ) (ids : List Id) (offers : List (Id × List ℕ)) → AreRelays relays → relays ≡ relay ∷ [] → Ascend ids → length ids ≤ MOST_IDS → offers ≡ each_with relays ids → IsTable (record { reported = relays; offers = offers })
 whole relays relay ids offers ordered one ascend few e =
@@ -40,21 +36,21 @@ whole relays relay ids offers ordered one ascend few e =
 only : (relay : ℕ) (none relays : List ℕ) → none ≡ [] → AreRelays relays → ((r : ℕ) → is_among relays r ≡ ((r == relay) || is_among none r)) → relays ≡ relay ∷ []
 only relay none relays e ordered member = just_one relays relay ordered (λ r. member r ∙ ap (λ s. (r == relay) || is_among s r) e)
 
-pub of_map-requires : goal.of_map-requires
-of_map-requires c =
+pub of_list-requires : goal.of_list-requires
+of_list-requires c =
     let start = c.into_iter-id-iterator.ensures.into_iter_gives in
     let end = iter_end deref c.args.need.now.keys c.loop-id.yielded c.into_iter-id-iterator.result c.loop-id.id-iterator c.next.new.self c.next.result start.0 c.loop-id.yielded_by c.in-None.is c.next.ensures.steps in
-    whole c.with-relays.result c.args.relay c.args.need.now.keys c.loop-id.offers.entries c.with-relays.ensures.relays (only c.args.relay c.empty.result c.with-relays.result c.empty.ensures c.with-relays.ensures.relays c.with-relays.ensures.member)
+    whole c.with-relays.result c.args.relay c.args.need.now.keys c.loop-id.offers.items c.with-relays.ensures.relays (only c.args.relay c.empty.result c.with-relays.result c.empty.ensures c.with-relays.ensures.relays c.with-relays.ensures.member)
     start.4 (omega (arith, c.if-len-gt-MOST_IDS.false, c.len.ensures.len)) (c.loop-id.invariant ∙ ap (each_with c.with-relays.result) end.0)
 
 pub returns-clause-reported : goal.returns-clause-reported
 returns-clause-reported c =
-    ap (λ (t : Table). t.reported) c.in_ok-of_map.ensures ∙ only c.args.relay c.empty.result c.with-relays.result c.empty.ensures c.with-relays.ensures.relays c.with-relays.ensures.member
+    ap (λ (t : Table). t.reported) c.in_ok-of_list.ensures ∙ only c.args.relay c.empty.result c.with-relays.result c.empty.ensures c.with-relays.ensures.relays c.with-relays.ensures.member
 
 pub returns-clause-offers : goal.returns-clause-offers
 returns-clause-offers c =
     let start = c.into_iter-id-iterator.ensures.into_iter_gives in
     let end = iter_end deref c.args.need.now.keys c.loop-id.yielded c.into_iter-id-iterator.result c.loop-id.id-iterator c.next.new.self c.next.result start.0 c.loop-id.yielded_by c.in-None.is c.next.ensures.steps in
-    ap (λ (t : Table). t.offers) c.in_ok-of_map.ensures
+    ap (λ (t : Table). t.offers) c.in_ok-of_list.ensures
     ∙ c.loop-id.invariant ∙ ap (each_with c.with-relays.result) end.0
     ∙ ap (λ rs. each_with rs c.args.need.now.keys) (only c.args.relay c.empty.result c.with-relays.result c.empty.ensures c.with-relays.ensures.relays c.with-relays.ensures.member)

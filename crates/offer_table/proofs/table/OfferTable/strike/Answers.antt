@@ -1,120 +1,101 @@
-use Rattle.std.proofs.Common.{◌≡◌, ◌≢◌, ◌+◌, ◌<◌, Bool, ◌≤◌, ◌==◌, ◌&&◌, not, true, ℕ, List, [], length, sym, ap, ◌∙◌, subst, arith, Some, None, map, cond}
-use Rattle.std.specs.Prelude.{is_some}
-use Rattle.std.specs.List.{All}
+use Rattle.std.proofs.Common.{◌≡◌, ◌≢◌, ◌==◌, ◌&&◌, not, Bool, true, false, ℕ, List, [], ◌∷◌, cond, Some, None, refl, sym, ap, ◌∙◌, subst, inl, inr}
+use Rattle.std.specs.Prelude.{is_some, unwrap_or}
+use Rattle.std.proofs.lemmas.Bool.{false≢true, cases_Bool}
 use Rattle.neg_codec.specs.declared.Id.{Id}
 use Rattle.sharing.specs.Sharing.{is_among}
-use Rattle.sharing.specs.Offers.{AreRelays, IsOffers, Ascend, relays_of, beside, is_id, id_cmp}
-use Rattle.std.specs.BTreeMap.{insert_entry}
-use Rattle.std.specs.Map.{remove_entry}
-use Rattle.std.proofs.lemmas.Bool.{false≢true}
-use Rattle.sharing.specs.declared.TheConstants.{MOST_IDS}
+use Rattle.sharing.specs.Offers.{AreRelays, relays_of, beside, is_id}
 use Rattle.offer_table.specs.Table.{Table, IsTable}
 use Rattle.offer_table.specs.Relays.{bits_of}
-use Rattle.offer_table.specs.Rows.{ids_at, without_id}
-use Rattle.offer_table.proofs.Struck.{around, struck_last, struck_one, lesser}
-use Rattle.offer_table.proofs.Tables.{strike_none, strike_step, offered_there, All-removed, All-inserted, some_left}
+use Rattle.offer_table.specs.Rows.{ids_at, with_id, without_id}
+use Rattle.offer_table.specs.Entries.{has_some, IsChanged}
+use Rattle.offer_table.proofs.Runs.{Offers}
+use Rattle.offer_table.proofs.RowEdits.{Rows}
+use Rattle.offer_table.proofs.Pairs.{none_left}
+use Rattle.offer_table.proofs.Struck.{struck, changed_table, changed_beside, lesser}
+use Rattle.offer_table.proofs.Tables.{strike_none, strike_step, offered_there}
 use Rattle.offer_table.proofs.table.OfferTable.strike.Goals as goal
+use Rattle.offer_table.proofs.table.OfferTable.strike.Goals.{then-not-is_empty+in_ok-put, else-not-is_empty}
 
 pub returns-then-not-has-clause-offers : goal.returns-then-not-has-clause-offers
 returns-then-not-has-clause-offers c i r =
     strike_none c.args.self.now.offers c.args.id.now c.args.relay
     (ap (λ rs. is_among rs c.args.relay) (sym c.offers-relays.ensures.value) ∙ sym c.has.ensures.value ∙ c.if-not-has.true) i r
 
-removed : (reported : List ℕ) (old new : List (Id × List ℕ)) (test : Id → Bool) → IsOffers old → length old ≤ MOST_IDS → new ≡ remove_entry test old → Ascend (map (λ p. p.0) new) → length new ≤ length old → IsTable (record { reported = reported; offers = new })
-removed reported old new test ok few e ascend shorter = record {
-  offers_ok = record {
-    ascend = ascend;
-    relays = subst (All (λ p. AreRelays p.1)) (sym e) (All-removed AreRelays test old ok.relays);
-    some = subst (All (λ p. 0 < length p.1)) (sym e) (All-removed (λ rs. 0 < length rs) test old ok.some);
-  };
-  few = omega arith;
-}
+some_when : (s : List ℕ) → (s ≡ [] → ⊥) → has_some s ≡ true
+some_when [] h = absurd (h refl)
+some_when (x ∷ xs) h = refl
 
-put_back : (reported : List ℕ) (old new : List (Id × List ℕ)) (k : Id) (rest : List ℕ) → IsOffers old → length old ≤ MOST_IDS → new ≡ insert_entry id_cmp old k rest → Ascend (map (λ p. p.0) new) → length new ≡ length old → AreRelays rest → 0 < length rest → IsTable (record { reported = reported; offers = new })
-put_back reported old new k rest ok few e ascend same relays some = record {
-  offers_ok = record {
-    ascend = ascend;
-    relays = subst (All (λ p. AreRelays p.1)) (sym e) (All-inserted AreRelays old k rest ok.relays relays);
-    some = subst (All (λ p. 0 < length p.1)) (sym e) (All-inserted (λ rs. 0 < length rs) old k rest ok.some some);
-  };
-  few = omega arith;
-}
+unwrapped : (s : List ℕ) → unwrap_or (cond (has_some s) (Some s) None) [] ≡ s
+unwrapped [] = refl
+unwrapped (x ∷ xs) = refl
 
 -- the id is in the table
 there : (table : Table) (inside : Table) (k : Id) (relay : ℕ) (b : Bool) (relays : List ℕ) → inside ≡ table → b ≡ is_among relays relay → relays ≡ relays_of table.offers k → b ≡ true → is_some (beside inside.offers k) ≡ true
 there table inside k relay b relays e v o t = ap (λ (u : Table). is_some (beside u.offers k)) e ∙ offered_there table.offers k relay (ap (λ rs. is_among rs relay) (sym o) ∙ sym v ∙ t)
 
-no_longer : (old new : ℕ) (o : Bool) → o ≡ true → new ≡ old + cond o 0 1 → new ≡ old
-no_longer old new o t e = omega (arith, ap {B = ℕ} (λ b. old + cond b 0 1) t)
-
 -- the relays that were read are those of the table within
 read : (table inside : Table) (k : Id) (relays : List ℕ) → inside ≡ table → relays ≡ relays_of table.offers k → relays ≡ relays_of inside.offers k
 read table inside k relays e o = o ∙ ap (λ (t : Table). relays_of t.offers k) (sym e)
 
-pub invariant_of-self : goal.invariant_of-self
-invariant_of-self c =
-    let n = c.remove.ensures in
+offers_stay : (c : goal.After-set) → c.if-not-is_empty.self-inside.offers ≡ c.self.inside.offers
+offers_stay c = elim c.if-not-is_empty.branch [
+  | then-not-is_empty+in_ok-put w ↦ rw w.self-inside-is refl
+  | else-not-is_empty w ↦ rw w.self-inside-is refl
+]
+
+reported_stay : (c : goal.After-set) → c.if-not-is_empty.self-inside.reported ≡ c.self.inside.reported
+reported_stay c = elim c.if-not-is_empty.branch [
+  | then-not-is_empty+in_ok-put w ↦ rw w.self-inside-is refl
+  | else-not-is_empty w ↦ rw w.self-inside-is refl
+]
+
+groups_given : (c : goal.After-set) (n : ℕ) →
+    ids_at c.if-not-is_empty.self-inside.groups n ≡ cond (has_some c.without-rest.result) (cond (n == bits_of c.without-rest.result) (with_id c.args.id.now (ids_at c.self.inside.groups n)) (ids_at c.self.inside.groups n)) (ids_at c.self.inside.groups n)
+groups_given c n = elim c.if-not-is_empty.branch [
+  | then-not-is_empty+in_ok-put w ↦
+      rw w.self-inside-is (w.in_ok-put.ensures.ids n
+      ∙ sym (ap (λ b. cond b (cond (n == bits_of c.without-rest.result) (with_id c.args.id.now (ids_at c.self.inside.groups n)) (ids_at c.self.inside.groups n)) (ids_at c.self.inside.groups n)) (some_when c.without-rest.result (λ e. false≢true (sym w.if-not-is_empty.true ∙ c.is_empty.ensures.1 e)))))
+  | else-not-is_empty w ↦
+      rw w.self-inside-is (sym (ap (λ b. cond b (cond (n == bits_of c.without-rest.result) (with_id c.args.id.now (ids_at c.self.inside.groups n)) (ids_at c.self.inside.groups n)) (ids_at c.self.inside.groups n)) (ap has_some (c.is_empty.ensures.0 w.if-not-is_empty.false))))
+]
+
+changed : (c : goal.After-set) → IsChanged c.self.inside.offers c.args.id.now c.without-rest.result c.set.new.self
+changed c =
+    let inside : Table = record { reported = c.self.inside.reported; offers = c.self.inside.offers } in
+    let is : is_some (beside c.self.inside.offers c.args.id.now) ≡ true = there c.args.self.now inside c.args.id.now c.args.relay c.has.result c.offers-relays.result c.self.view_is c.has.ensures.value c.offers-relays.ensures.value c.if-not-has.false in
+    subst (λ (xs : Offers). IsChanged xs c.args.id.now c.without-rest.result c.set.new.self) (offers_stay c) (c.set.ensures (ap (λ (xs : Offers). is_some (beside xs c.args.id.now)) (offers_stay c) ∙ is))
+
+was_read : (c : goal.After-set) → c.offers-relays.result ≡ relays_of c.self.inside.offers c.args.id.now
+was_read c = read c.args.self.now (record { reported = c.self.inside.reported; offers = c.self.inside.offers }) c.args.id.now c.offers-relays.result c.self.view_is c.offers-relays.ensures.value
+
+table_left : (c : goal.After-set) → IsTable (record { reported = c.if-not-is_empty.self-inside.reported; offers = c.set.new.self })
+table_left c =
+    subst (λ (rs : List ℕ). IsTable (record { reported = rs; offers = c.set.new.self })) (sym (reported_stay c))
+    (changed_table c.self.inside.offers c.args.id.now c.without-rest.result c.set.new.self (changed c) c.self.invariant.table.offers_ok.ascend c.self.inside.reported c.self.invariant.table c.without-rest.ensures.relays)
+
+pub invariant_of-self-2 : goal.invariant_of-self-2
+invariant_of-self-2 c =
     let k : Id = c.args.id.now in
-    let old : List (Id × List ℕ) = c.self.inside.offers.entries in
-    let inside : Table = record { reported = c.self.inside.reported; offers = old } in
-    let is : is_some (beside old k) ≡ true = there c.args.self.now inside k c.args.relay c.has.result c.offers-relays.result c.self.view_is c.has.ensures.value c.offers-relays.ensures.value c.if-not-has.false in
-    let was : c.offers-relays.result ≡ relays_of old k = read c.args.self.now inside k c.offers-relays.result c.self.view_is c.offers-relays.ensures.value in
-    let ok = c.self.invariant.table in
+    let old : Offers = c.self.inside.offers in
+    let was : c.offers-relays.result ≡ relays_of c.self.inside.offers c.args.id.now = was_read c in
     record {
-      table = removed c.self.inside.reported old c.remove.new.self.entries (is_id k) ok.offers_ok ok.few n.entries n.ordered (omega (arith, n.len));
+      table = table_left c;
       rows = c.take.ensures.rows;
-      grouped = struck_last old k (around old k is) ok.offers_ok.ascend (ids_at c.self.inside.groups) (ids_at c.take.new.self) c.self.invariant.grouped c.remove.new.self.entries n.entries
-          (λ m. c.take.ensures.ids m ∙ ap (λ rs. cond (m == bits_of rs) (without_id k (ids_at c.self.inside.groups m)) (ids_at c.self.inside.groups m)) was);
+      grouped = struck old k c.without-rest.result c.set.new.self (changed c) c.self.invariant.table.offers_ok.ascend
+          (ids_at c.self.inside.groups) (ids_at c.if-not-is_empty.self-inside.groups) (ids_at c.take.new.self) c.self.invariant.grouped (groups_given c)
+          (λ n. c.take.ensures.ids n ∙ ap (λ rs. cond (n == bits_of rs) (without_id k (ids_at c.if-not-is_empty.self-inside.groups n)) (ids_at c.if-not-is_empty.self-inside.groups n)) was)
+          (λ _. lesser (relays_of old k) c.without-rest.result c.args.relay (subst AreRelays was c.has.ensures.relays) c.without-rest.ensures.relays
+          (ap (λ rs. is_among rs c.args.relay) (sym was) ∙ sym c.has.ensures.value ∙ c.if-not-has.false)
+          (λ r. c.without-rest.ensures.member r ∙ ap (λ rs. is_among rs r && not (r == c.args.relay)) was));
     }
 
-pub invariant_of-self-in_ok-insert : goal.invariant_of-self-in_ok-insert
-invariant_of-self-in_ok-insert c =
-    let n = c.in_ok-insert.ensures in
+pub returns-clause-table : goal.returns-clause-table
+returns-clause-table c = table_left c
+
+pub returns-clause-offers : goal.returns-clause-offers
+returns-clause-offers c i r =
     let k : Id = c.args.id.now in
-    let old : List (Id × List ℕ) = c.self.inside.offers.entries in
-    let inside : Table = record { reported = c.self.inside.reported; offers = old } in
-    let is : is_some (beside old k) ≡ true = there c.args.self.now inside k c.args.relay c.has.result c.offers-relays.result c.self.view_is c.has.ensures.value c.offers-relays.ensures.value c.if-not-has.false in
-    let was : c.offers-relays.result ≡ relays_of old k = read c.args.self.now inside k c.offers-relays.result c.self.view_is c.offers-relays.ensures.value in
-    let some : c.without-rest.result ≡ [] → ⊥ = λ e. absurd (false≢true (sym c.if-is_empty.false ∙ c.is_empty.ensures.1 e)) in
-    let ok = c.self.invariant.table in
-    let differ : bits_of (relays_of old k) ≢ bits_of c.without-rest.result = lesser (relays_of old k) c.without-rest.result c.args.relay (subst AreRelays was c.has.ensures.relays) c.without-rest.ensures.relays
-    (ap (λ rs. is_among rs c.args.relay) (sym was) ∙ sym c.has.ensures.value ∙ c.if-not-has.false)
-    (λ r. c.without-rest.ensures.member r ∙ ap (λ rs. is_among rs r && not (r == c.args.relay)) was) in
-    record {
-      table = put_back c.self.inside.reported old c.insert.new.self.entries k c.without-rest.result ok.offers_ok ok.few n.entries n.ordered
-          (no_longer (length old) (length c.insert.new.self.entries) (is_some c.in_ok-insert.field-0) (ap is_some n.old ∙ is) n.len)
-          c.without-rest.ensures.relays (some_left c.without-rest.result some);
-      rows = c.take-else-is_empty.ensures.rows;
-      grouped = struck_one old k (around old k is) ok.offers_ok.ascend (ids_at c.self.inside.groups) (ids_at c.take-else-is_empty.new.self) c.self.invariant.grouped c.without-rest.result c.insert.new.self.entries (ids_at c.put.new.self) differ n.entries
-          c.in_ok-put.ensures.ids
-          (λ m. c.take-else-is_empty.ensures.ids m ∙ ap (λ rs. cond (m == bits_of rs) (without_id k (ids_at c.put.new.self m)) (ids_at c.put.new.self m)) was);
-    }
-
--- no memory is asked for, since the id is in the table
-pub invariant_of-self-in_err-insert : goal.invariant_of-self-in_err-insert
-invariant_of-self-in_err-insert c =
-    let is : is_some (beside c.self.inside.offers.entries c.args.id.now) ≡ true = there c.args.self.now (record { reported = c.self.inside.reported; offers = c.self.inside.offers.entries }) c.args.id.now c.args.relay c.has.result c.offers-relays.result c.self.view_is c.has.ensures.value c.offers-relays.ensures.value c.if-not-has.false in
-    absurd (false≢true (sym (ap is_some c.in_err-insert.ensures.absent) ∙ is))
-
-pub returns-then-is_empty-clause-table : goal.returns-then-is_empty-clause-table
-returns-then-is_empty-clause-table c = (invariant_of-self c).table
-
-pub returns-then-is_empty-clause-offers : goal.returns-then-is_empty-clause-offers
-returns-then-is_empty-clause-offers c i r =
-    let k : Id = c.args.id.now in
-    let was : c.offers-relays.result ≡ relays_of c.self.inside.offers.entries k = c.offers-relays.ensures.value ∙ ap (λ (t : Table). relays_of t.offers k) (sym c.self.view_is) in
-    let gone : c.without-rest.result ≡ [] = c.is_empty.ensures.0 c.if-is_empty.true in
-    strike_step c.self.inside.offers.entries c.remove.new.self.entries k c.args.relay None c.remove.ensures.updates.0
-    (λ q. ap (λ rs. is_among rs q) (sym gone) ∙ c.without-rest.ensures.member q ∙ ap (λ rs. is_among rs q && not (q == c.args.relay)) was) i r
+    strike_step c.self.inside.offers c.set.new.self k c.args.relay (cond (has_some c.without-rest.result) (Some c.without-rest.result) None)
+    (changed_beside c.self.inside.offers k c.without-rest.result c.set.new.self (changed c) c.self.invariant.table.offers_ok.ascend)
+    (λ q. ap (λ rs. is_among rs q) (unwrapped c.without-rest.result) ∙ c.without-rest.ensures.member q ∙ ap (λ rs. is_among rs q && not (q == c.args.relay)) (was_read c)) i r
     ∙ ap (λ (t : Table). is_among (relays_of t.offers i) r && not (is_id k i && (r == c.args.relay))) c.self.view_is
-
-pub returns-in_ok-insert-clause-offers : goal.returns-in_ok-insert-clause-offers
-returns-in_ok-insert-clause-offers c i r =
-    let k : Id = c.args.id.now in
-    let was : c.offers-relays.result ≡ relays_of c.self.inside.offers.entries k = c.offers-relays.ensures.value ∙ ap (λ (t : Table). relays_of t.offers k) (sym c.self.view_is) in
-    strike_step c.self.inside.offers.entries c.insert.new.self.entries k c.args.relay (Some c.without-rest.result) c.in_ok-insert.ensures.updates.0
-    (λ q. c.without-rest.ensures.member q ∙ ap (λ rs. is_among rs q && not (q == c.args.relay)) was) i r
-    ∙ ap (λ (t : Table). is_among (relays_of t.offers i) r && not (is_id k i && (r == c.args.relay))) c.self.view_is
-
-pub returns-in_ok-insert-clause-table : goal.returns-in_ok-insert-clause-table
-returns-in_ok-insert-clause-table c = (invariant_of-self-in_ok-insert c).table
