@@ -11,7 +11,7 @@ use Rattle.neg_codec.specs.declared.Id.{Id}
 use Rattle.sharing.specs.Sharing.{is_among}
 use Rattle.sharing.specs.Offers.{AreRelays}
 use Rattle.fetch_plan.specs.declared.groups.Group.{Group}
-use Rattle.fetch_plan.specs.Groups.{amount, shared_by, total, load_of, no_group, row_relays, row_ids, IsGroup, AreGroups, AreGiven, AreTabled}
+use Rattle.fetch_plan.specs.Groups.{amount, shared_by, total, load_of, no_group, row_relays, row_ids, IsGroup, GivingOut, AreGroups, AreGiven, AreTabled}
 
 pub none_counted : (n r : ℕ) → get_or (replicate {A = ℕ} n 0) r 0 ≡ 0
 none_counted n r =
@@ -50,14 +50,6 @@ module _ (xs : List ℕ) (slot some : ℕ) (lt : slot < length xs) where
 
   pub sum_more : sum (some_more xs slot some) ≡ sum xs + some
   sum_more = omega (arith, sum_by-set (λ x. x) xs slot (get_or xs slot 0 + some) 0 lt)
-
--- so many ids of a group are still to be given
-pub record GivingOut (relays : List ℕ) (count : ℕ) (before loads given : List ℕ) (left : ℕ) : Type 0 where
-  pub wide : length given ≡ RELAYS
-  pub wide_loads : length loads ≡ RELAYS
-  pub counted : sum given + left ≡ count
-  pub offer : (r : ℕ) → 0 < get_or given r 0 → is_among relays r ≡ true
-  pub loads_ok : (r : ℕ) → get_or loads r 0 ≡ get_or before r 0 + get_or given r 0
 
 pub out_none : (relays : List ℕ) (count : ℕ) (before : List ℕ) → length before ≡ RELAYS → GivingOut relays count before before (replicate RELAYS 0) count
 out_none relays count before wide = record {

@@ -9,3 +9,4 @@ pub mod Ordered
 pub mod Shared
 pub mod Planned
 pub mod Searched
+pub mod Counted

@@ -86,3 +86,11 @@ pub record IsGroup (relays : List ℕ) (count : ℕ) (group : Group) : Type 0 wh
   pub wide : length group.given ≡ RELAYS
   pub counted : sum group.given ≡ count
   pub offer : (r : ℕ) → 0 < slice_index_or group.given r 0 → is_among relays r ≡ true
+
+-- so many ids of a group are still to be given
+pub record GivingOut (relays : List ℕ) (count : ℕ) (before loads given : List ℕ) (left : ℕ) : Type 0 where
+  pub wide : length given ≡ RELAYS
+  pub wide_loads : length loads ≡ RELAYS
+  pub counted : sum given + left ≡ count
+  pub offer : (r : ℕ) → 0 < slice_index_or given r 0 → is_among relays r ≡ true
+  pub loads_ok : (r : ℕ) → slice_index_or loads r 0 ≡ slice_index_or before r 0 + slice_index_or given r 0

@@ -8,8 +8,9 @@ ghost use Rattle.sharing.specs.Sharing.{is_among};
 ghost use Rattle.sharing.specs.Offers.{AreRelays};
 ghost use Rattle.offer_table.specs.Groups.{groups_of};
 ghost use Rattle.offer_table.specs.Table.{IsTable};
-ghost use Rattle.fetch_plan.specs.Groups.{IsGroup, AreGiven, AreLoadsOf, AreTabled};
+ghost use Rattle.fetch_plan.specs.Groups.{IsGroup, GivingOut, AreGiven, AreLoadsOf, AreTabled};
 
+use crate::counts::Counts;
 use offer_table::{OfferTable, RelaySet};
 use sharing::{RELAYS, SLOTS};
 use std::alloc::{AllocError, Global};
@@ -21,7 +22,7 @@ const PIECES: u64 = 256;
 #[derive(Drop)]
 pub(crate) struct Group {
     pub relays: RelaySet,
-    pub given: [u64; SLOTS],
+    pub given: Counts,
 }
 
 /// The set bit whose relay has the least load.
@@ -51,12 +52,39 @@ fn least_loaded(relays: RelaySet, loads: &[u64; SLOTS]) -> u16
 }
 
 /// The group of so many ids that just these relays offer, each counted for a relay.
-fn give_out(relays: RelaySet, count: usize, loads: &mut [u64; SLOTS]) -> Group
+fn give_out(
+    alloc: Global,
+    relays: RelaySet,
+    count: usize,
+    loads: &mut [u64; SLOTS],
+) -> Result<Group, AllocError>
     requires some { 0 < length relays }
     requires relays { AreRelays relays }
     requires room { (r : ℕ) → slice_index loads.old r + count ≤ MOST_IDS }
-    ensures group { IsGroup relays count result }
-    ensures loads { (r : ℕ) → slice_index loads.new r ≡ slice_index loads.old r + slice_index result.given r }
+    ensures group { IfOk result (IsGroup relays count) }
+    ensures loads { IfOk result (λ group. (r : ℕ) → slice_index loads.new r ≡ slice_index loads.old r + slice_index group.given r) }
+{
+    if count == 1 {
+        let relay = least_loaded(relays, loads);
+        loads[usize::from(relay)] += 1;
+        return Ok(Group {
+            relays,
+            given: Counts::one(alloc, relay),
+        });
+    }
+    let given = give_many(relays, count, loads);
+    Ok(Group {
+        relays,
+        given: Counts::of(alloc, given)?,
+    })
+}
+
+/// How many ids of a group each relay is given. They go to the least loaded relay, in small pieces.
+fn give_many(relays: RelaySet, count: usize, loads: &mut [u64; SLOTS]) -> [u32; SLOTS]
+    requires some { 0 < length relays }
+    requires relays { AreRelays relays }
+    requires room { (r : ℕ) → slice_index loads.old r + count ≤ MOST_IDS }
+    ensures given { GivingOut relays count loads.old loads.new result 0 }
 {
     let mut given = [0; SLOTS];
     let mut left = count as u64;
@@ -65,10 +93,10 @@ fn give_out(relays: RelaySet, count: usize, loads: &mut [u64; SLOTS]) -> Group
         let some = if left < piece { left } else { piece };
         let slot = usize::from(least_loaded(relays, loads));
         loads[slot] += some;
-        given[slot] += some;
+        given[slot] += some as u32;
         left -= some;
     }
-    Group { relays, given }
+    given
 }
 
 /// The groups of the offered ids, with each id counted for one of its relays, and the loads that they make.
@@ -86,7 +114,7 @@ pub(crate) fn give_all(
     let mut groups = Vec::with_capacity(alloc, table.groups())?;
     for place in 0..table.groups() {
         let (relays, ids) = table.group_at(place);
-        groups.push(give_out(relays, ids.len(), loads))?;
+        groups.push(give_out(alloc, relays, ids.len(), loads)?)?;
     }
     Ok(groups)
 }

@@ -44,7 +44,7 @@ fn deal(group: &Group, ids: &[Id], shares: &mut Vec<Share>) -> Result<(), AllocE
     let mut relay = 0;
     let mut dealt = 0;
     while dealt < ids.len() {
-        let end = dealt + group.given[usize::from(relay)] as usize;
+        let end = dealt + group.given.get(relay) as usize;
         give(&ids[dealt..end], group.relays, relay, shares)?;
         dealt = end;
         relay += 1;

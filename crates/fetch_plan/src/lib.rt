@@ -12,6 +12,7 @@ ghost use Rattle.fetch_plan.specs.Plan.{IsPlanOf};
 
 mod cell;
 mod chains;
+mod counts;
 mod groups;
 mod hand_out;
 mod levels;

@@ -22,10 +22,10 @@ loop-place-preserved c =
     let lt = in_table rows place _ c.loop-place-test.true c.groups-place-end.ensures.count in
     let of_table = c.group_at-relays.ensures.groups in
     let row = row_is rows place c.group_at-relays.result.0 c.group_at-relays.result.1.now c.group_at-relays.ensures.value in
-    let made : IsGroup (row_relays rows place) (length (row_ids rows place)) c.give_out.result =
-    subst (λ ids. IsGroup (row_relays rows place) (length ids) c.give_out.result) (sym row.1) (subst (λ rs. IsGroup rs (length c.group_at-relays.result.1.now) c.give_out.result) (sym row.0) c.give_out.ensures.group) in
-    rw c.in_ok-push.ensures.items (giving_step c.loop-place.groups.items c.give_out.result rows c.loop-place.loads c.give_out.new.loads place c.loop-place.invariant lt
-    (row_some rows place of_table.offered lt) (row_ok rows place of_table.relays lt) made c.give_out.ensures.loads)
+    let made : IsGroup (row_relays rows place) (length (row_ids rows place)) c.in_ok-give_out.field-0 =
+    subst (λ ids. IsGroup (row_relays rows place) (length ids) c.in_ok-give_out.field-0) (sym row.1) (subst (λ rs. IsGroup rs (length c.group_at-relays.result.1.now) c.in_ok-give_out.field-0) (sym row.0) c.in_ok-give_out.ensures.group) in
+    rw c.in_ok-push.ensures.items (giving_step c.loop-place.groups.items c.in_ok-give_out.field-0 rows c.loop-place.loads c.give_out.new.loads place c.loop-place.invariant lt
+    (row_some rows place of_table.offered lt) (row_ok rows place of_table.relays lt) made c.in_ok-give_out.ensures.loads)
 
 pub returns-clause-given : goal.returns-clause-given
 returns-clause-given c =
