@@ -1,10 +1,10 @@
 -- One id that is given to a relay, and what is read of counts.
-use Rattle.std.proofs.Common.{◌≡◌, ℕ, ◌+◌, ◌<◌, ◌≤◌, ◌==◌, cond, List, length, get_or, set, replicate, sym, ap, ◌∙◌, arith, inl, inr}
+use Rattle.std.proofs.Common.{◌≡◌, ℕ, ◌+◌, ◌<◌, ◌≤◌, ◌==◌, cond, List, length, get_or, set, replicate, ap, ◌∙◌, arith, inl, inr}
 use Rattle.std.specs.List.{sum}
 use Rattle.std.proofs.lemmas.Bool.{eq-eqb, ne_eqb, cases_eq}
 use Rattle.std.proofs.lemmas.List.{length-set, length-replicate}
 use Rattle.sharing.specs.declared.TheConstants.{RELAYS}
-use Rattle.fetch_plan.specs.Counts.{one_at, counts_in, AreCounted}
+use Rattle.fetch_plan.specs.Counts.{one_at, counts_in}
 use Rattle.fetch_plan.proofs.Gives.{none_counted, none_sum, some_more, more_at, sum_more}
 
 module _ (relay : ℕ) (lt : relay < RELAYS) where

@@ -7,6 +7,7 @@ use Rattle.std.proofs.lemmas.List.{map-append, append_assoc, get_or-drop, length
 use Rattle.std.proofs.lemmas.List.Elements.{All-nil, All-cons, All-append, All-map, All-tail, All-head, All-weaker, All-contains, Contains-append_left, Contains-append_right}
 use Rattle.std.proofs.lemmas.List.Sums.{sum_by-cons, sum_by-append, sum_by_more, sum_by-take-le, sum_by-take-drop}
 use Rattle.neg_codec.specs.declared.Id.{Id}
+use Rattle.sharing.specs.declared.TheConstants.{RELAYS}
 use Rattle.sharing.specs.Offers.{relays_of, is_id, id_cmp, Ascend}
 use Rattle.sharing.proofs.Looks.{map_twice, map_itself}
 use Rattle.sharing.proofs.Orders.{id_itself, id_apart, id_flips, same_id, head_sorted, tail_sorted, All-unmap}
@@ -18,6 +19,8 @@ use Rattle.fetch_plan.specs.Shares.{held}
 use Rattle.fetch_plan.specs.Groups.{amount, shared_by, load_of, no_group, row_relays, row_ids, AreTabled}
 use Rattle.fetch_plan.specs.Handed.{given_to, AreDealt, IsCounted, HasShare, AreHanded, AreOfTable}
 use Rattle.fetch_plan.proofs.Gives.{at-le-sum}
+use Rattle.fetch_plan.specs.Counts.{one_at}
+use Rattle.fetch_plan.proofs.Counted.{one_get, one_sum}
 
 abbrev Rows : Type 0
 Rows = List (List ℕ × List Id)
@@ -132,6 +135,19 @@ dealt_all group ids old now dealt relay h all done = record {
   ];
   fine = h.fine;
 }
+
+-- the one id of a group is dealt
+pub dealt_one : (group : Group) (ids : List Id) (old new : List Share) (relay : ℕ) → relay < RELAYS → group.given ≡ one_at relay → sum group.given ≡ length ids → new ≡ old ++ given_to group.relays relay ids → AreDealt group ids old new
+dealt_one group ids old new relay lt e all is =
+    let one : length ids ≡ 1 = sym all ∙ ap sum e ∙ one_sum relay lt in
+    record {
+      more = given_to group.relays relay ids;
+      behind = is;
+      ids_ok = ids_given group.relays relay ids;
+      loads = λ r. held_given group.relays relay r ids ∙ ap {B = ℕ} (λ n. cond (relay == r) n 0) one ∙ sym (ap (λ xs. get_or xs r 0) e ∙ one_get relay lt r);
+      fine = All-map (λ (s : Share). (s.relays ≡ group.relays) × (1 ≤ get_or group.given s.relay 0)) (λ i. record { id = i; relays = group.relays; relay = relay }) ids
+          (λ k d fits. (refl, omega (arith, ap (λ xs. get_or xs relay 0) e, one_get relay lt relay, ap {B = ℕ} (λ b. cond b 1 0) (eq-eqb relay relay refl))));
+    }
 
 -- a relay with a load has a share
 found_held : (shares : List Share) (r : ℕ) → 1 ≤ held shares r → (s : Share) × Contains shares s × (s.relay ≡ r)

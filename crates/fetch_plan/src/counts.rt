@@ -1,6 +1,6 @@
 //! Counts: how many ids each relay is given.
 
-ghost use Rattle.std.specs.Prelude.{◌≡◌, ◌≢◌, ◌≤◌, ◌<◌, ◌+◌, ◌^◌, ◌==◌, ℕ, length, cond, IfOk, slice_index};
+ghost use Rattle.std.specs.Prelude.{◌≡◌, ◌≢◌, ◌≤◌, ◌<◌, ◌+◌, ◌^◌, ◌==◌, ℕ, length, cond, IfOk, IfSome, slice_index};
 ghost use Rattle.std.specs.List.{sum};
 ghost use Rattle.sharing.specs.declared.TheConstants.{MOST_IDS};
 ghost use Rattle.fetch_plan.specs.Counts.{one_at};
@@ -60,6 +60,18 @@ impl Counts {
             u64::from(relay == self.alone)
         } else {
             u64::from(self.table[usize::from(relay)])
+        }
+    }
+
+    /// The relay that is given the one id, where there is no other.
+    pub(crate) fn lone(&self) -> Option<u16>
+        ensures one { IfSome result (λ relay. self.now ≡ one_at relay) }
+        ensures small { IfSome result (λ relay. relay < RELAYS) }
+    {
+        if self.table.is_empty() {
+            Some(self.alone)
+        } else {
+            None
         }
     }
 

@@ -41,6 +41,9 @@ fn deal(group: &Group, ids: &[Id], shares: &mut Vec<Share>) -> Result<(), AllocE
     requires { sum group.now.given ≡ length ids.now }
     ensures { OnOk result (AreDealt group.now ids.now shares.old.items shares.new.items) }
 {
+    if let Some(relay) = group.given.lone() {
+        return give(ids, group.relays, relay, shares);
+    }
     let mut relay = 0;
     let mut dealt = 0;
     while dealt < ids.len() {
@@ -78,6 +81,6 @@ pub(crate) fn hand_out(
     ensures handed { IfOk result (λ shares. AreHanded groups.now shares.items) }
 {
     let mut shares = deal_all(alloc, table, groups)?;
-    shares.sort_unstable_by_key(|share| share.id);
+    shares.sort_unstable_by(|a, b| a.id.cmp(&b.id));
     Ok(shares)
 }

@@ -1,7 +1,5 @@
-use Rattle.std.proofs.Common.{◌≡◌, ◌<◌, ◌+◌, refl, ℕ, cond, ◌==◌, ap, sym, ◌∙◌, subst, arith, get_or, inl, inr, true}
-use Rattle.std.specs.List.{sum}
+use Rattle.std.proofs.Common.{◌+◌, refl, ℕ, cond, ap, sym, ◌∙◌, arith, get_or, inl, inr}
 use Rattle.std.proofs.lemmas.Bool.{cases_eq, ne_eqb}
-use Rattle.sharing.specs.declared.TheConstants.{RELAYS}
 use Rattle.sharing.specs.Sharing.{is_among}
 use Rattle.fetch_plan.proofs.Gives.{more_at}
 use Rattle.fetch_plan.proofs.Counted.{one_get, one_sum, one_long}

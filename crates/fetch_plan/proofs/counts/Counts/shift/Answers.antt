@@ -1,9 +1,8 @@
-use Rattle.std.proofs.Common.{◌≡◌, ◌<◌, ◌+◌, ◌==◌, ℕ, cond, length, sym, ap, ◌∙◌, arith, get_or, inl, inr}
+use Rattle.std.proofs.Common.{◌≡◌, length, sym, ap, ◌∙◌, arith, get_or}
 use Rattle.std.specs.List.{sum}
-use Rattle.std.proofs.lemmas.Bool.{eqb-true, eq-eqb, ne_eqb, cases_eq}
+use Rattle.std.proofs.lemmas.Bool.{eqb-true}
 use Rattle.fetch_plan.specs.Counts.{one_at, counts_in}
-use Rattle.fetch_plan.proofs.Counted.{one_get, one_sum, one_long, in_one}
-use Rattle.std.specs.Prelude.{List}
+use Rattle.fetch_plan.proofs.Counted.{one_sum, one_long, in_one}
 use Rattle.fetch_plan.proofs.Counted.{one_moves}
 use Rattle.fetch_plan.proofs.counts.Counts.shift.Goals as goal
 
