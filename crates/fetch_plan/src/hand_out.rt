@@ -55,13 +55,25 @@ fn deal(group: &Group, ids: &[Id], shares: &mut Vec<Share>) -> Result<(), AllocE
     Ok(())
 }
 
+/// The number of offered ids.
+fn count_of(table: &OfferTable) -> usize
+    ensures { result ≡ length table.now.offers }
+{
+    let mut count = 0;
+    for place in 0..table.groups() {
+        let (_relays, ids) = table.group_at(place);
+        count += ids.len();
+    }
+    count
+}
+
 /// Gives the ids of each group to relays, as many to each as its count.
 fn deal_all(alloc: Global, table: &OfferTable, groups: &[Group]) -> Result<Vec<Share>, AllocError>
     requires { AreTabled (groups_of table.now.offers) groups.now }
     ensures handed { IfOk result (λ shares. AreHanded groups.now shares.items) }
     ensures table { IfOk result (λ shares. AreOfTable table.now.offers shares.items) }
 {
-    let mut shares = Vec::new(alloc);
+    let mut shares = Vec::with_capacity(alloc, count_of(table))?;
     for place in 0..table.groups() {
         let (_relays, ids) = table.group_at(place);
         deal(&groups[place], ids, &mut shares)?;
