@@ -1,221 +1,270 @@
 -- Single ids, handed out by the counts of their groups.
-use Rattle.std.proofs.Common.{◌≡◌, ℕ, ◌+◌, ◌-◌, ◌<◌, ◌≤◌, ◌==◌, cond, List, [], ◌∷◌, ◌++◌, length, get_or, set, take, drop, refl, sym, ap, ◌∙◌, subst, arith, inl, inr}
+use Rattle.std.proofs.Common.{◌≡◌, ◌≢◌, ◌||◌, append-nil, ℕ, zero, suc, ◌+◌, ◌-◌, ◌<◌, ◌≤◌, ◌==◌, Bool, true, false, cond, List, [], ◌∷◌, ◌++◌, length, map, get_or, take, drop, refl, sym, ap, ◌∙◌, subst, arith, inl, inr}
+use Rattle.std.specs.List.{sum, count_by, All, Contains}
+use Rattle.std.specs.declared.cmp.Ordering.TheVariants.{Less}
+use Rattle.std.proofs.lemmas.Bool.{cases_lt, cases_eq, cases_Bool, eq-eqb, ne_eqb, eqb-true, or_left, or_right}
+use Rattle.std.proofs.lemmas.List.{map-append, append_assoc, get_or-drop, length-take, length-drop, take_all}
+use Rattle.std.proofs.lemmas.List.Elements.{All-nil, All-cons, All-append, All-map, All-tail, All-head, All-weaker, All-contains, Contains-append_left, Contains-append_right}
+use Rattle.std.proofs.lemmas.List.Sums.{sum_by-cons, sum_by-append, sum_by_more, sum_by-take-le, sum_by-take-drop}
+use Rattle.neg_codec.specs.declared.Id.{Id}
 use Rattle.sharing.specs.declared.TheConstants.{RELAYS}
-use Rattle.std.specs.List.{sum}
-use Rattle.std.proofs.lemmas.Bool.{cases_lt, cases_eq, eq-eqb, ne_eqb}
-use Rattle.std.proofs.lemmas.List.{get_or-set_same, get_or-set_other, length-set, get_or_push, length_push, get_or_past, map-append, take_more}
-use Rattle.std.proofs.Math.ListN.{get_or-append}
-use Rattle.std.proofs.lemmas.List.Sums.{sum_by-set, sum_by_push, sum_by-drop_more}
+use Rattle.sharing.specs.Offers.{relays_of, is_id, id_cmp, Ascend}
+use Rattle.sharing.proofs.Looks.{map_twice, map_itself}
+use Rattle.sharing.proofs.Orders.{id_itself, id_apart, id_flips, same_id, head_sorted, tail_sorted, All-unmap}
+use Rattle.offer_table.specs.Groups.{is_listed}
+use Rattle.offer_table.specs.Groups as tabled
 use Rattle.fetch_plan.specs.declared.groups.Group.{Group}
-use Rattle.fetch_plan.specs.declared.groups.Seat.{Seat}
 use Rattle.fetch_plan.specs.declared.hand_out.Share.{Share}
-use Rattle.fetch_plan.specs.Shares.{given, offered, held, no_share, offers_of}
-use Rattle.fetch_plan.specs.Groups.{amount, shared_by, total, load_of, no_group, AreGroups, AreEmpty, seated, offers_for}
-use Rattle.fetch_plan.specs.Handed.{IsOfGroup, AreHanded}
-use Rattle.fetch_plan.proofs.Trails.{get_or_any, shared_is, amount_is, total_is, amount-le-total}
-use Rattle.fetch_plan.proofs.Walks.{amount_here, amount_there, shared_after, total_here, total_there, load_after, groups_after}
-use Rattle.fetch_plan.proofs.Gives.{none_load}
+use Rattle.fetch_plan.specs.Shares.{held}
+use Rattle.fetch_plan.specs.Groups.{amount, shared_by, load_of, no_group, row_relays, row_ids, AreTabled}
+use Rattle.fetch_plan.specs.Handed.{given_to, AreDealt, IsCounted, HasShare, AreHanded, AreOfTable}
+use Rattle.fetch_plan.proofs.Gives.{at-le-sum}
+use Rattle.fetch_plan.specs.Counts.{one_at}
+use Rattle.fetch_plan.proofs.Counted.{one_get, one_sum}
 
--- one fewer at a place of a list
-abbrev pub one_less : List ℕ → ℕ → List ℕ
-one_less xs slot = set xs slot (get_or xs slot 0 - 1)
+abbrev Rows : Type 0
+Rows = List (List ℕ × List Id)
 
-module _ (xs : List ℕ) (slot : ℕ) (lt : slot < length xs) (some : 0 < get_or xs slot 0) where
-  pub less_at : (r : ℕ) → get_or (one_less xs slot) r 0 + cond (slot == r) 1 0 ≡ get_or xs r 0
-  less_at r =
-      elim (cases_eq r slot) [
-        | inl e ↦
-            (let a : get_or (one_less xs slot) r 0 ≡ get_or xs slot 0 - 1 = ap (λ r. get_or (one_less xs slot) r 0) e ∙ get_or-set_same xs slot (get_or xs slot 0 - 1) 0 lt in
-            omega (arith, a, some, ap (λ r. get_or xs r 0) e, ap {B = ℕ} (λ b. cond b 1 0) (eq-eqb slot r (sym e))))
-        | inr ne ↦
-            (let a : get_or (one_less xs slot) r 0 ≡ get_or xs r 0 = get_or-set_other xs slot r (get_or xs slot 0 - 1) 0 ne in
-            omega (arith, a, ap {B = ℕ} (λ b. cond b 1 0) (ne_eqb slot r (λ e. ne (sym e)))))
+-- where the first ones have it all, nothing is behind them
+rest_zero : (xs : List ℕ) (n r : ℕ) → sum xs ≤ sum (take n xs) → n ≤ r → get_or xs r 0 ≡ 0
+rest_zero xs n r all le =
+    let e : n + (r - n) ≡ r = omega arith in
+    let at : get_or (drop n xs) (r - n) 0 ≡ get_or xs r 0 = get_or-drop n xs (r - n) 0 ∙ ap (λ k. get_or xs k 0) e in
+    omega (arith, all, at, at-le-sum (drop n xs) (r - n), sum_by-take-drop (λ x. x) xs n)
+
+pub take_parts : {X : Type 0} (n k : ℕ) (xs : List X) → take n xs ++ take k (drop n xs) ≡ take (n + k) xs
+take_parts zero k xs = ap (λ m. take m xs) (let e : k ≡ zero + k = omega arith in e)
+take_parts (suc n) zero [] = sym (take_all (suc n + zero) [] (omega arith))
+take_parts (suc n) (suc k) [] = sym (take_all (suc n + suc k) [] (omega arith))
+take_parts (suc n) k (x ∷ xs) = ap (λ ys. x ∷ ys) (take_parts n k xs) ∙ ap (λ m. take m (x ∷ xs)) (let e : suc (n + k) ≡ suc n + k = omega arith in e)
+
+-- the next so many
+module _ {X : Type 0} (xs : List X) (n k : ℕ) (le : n + k ≤ length xs) where
+  abbrev pub next_part : List X
+  next_part = take (n + k - n) (drop n xs)
+
+  pub part_long : length next_part ≡ k
+  part_long = omega (arith, length-take (n + k - n) (drop n xs), length-drop n xs)
+
+  pub part_next : take n xs ++ next_part ≡ take (n + k) xs
+  part_next = ap (λ m. take n xs ++ take m (drop n xs)) (let e : n + k - n ≡ k = omega arith in e) ∙ take_parts n k xs
+
+cond_zero : (b : Bool) → cond {A = ℕ} b 0 0 ≡ 0
+cond_zero true = refl
+cond_zero false = refl
+
+module _ (relays : List ℕ) (relay : ℕ) where
+  one_given : Id → Share
+  one_given i = record { id = i; relays = relays; relay = relay }
+
+  held_given : (r : ℕ) (ids : List Id) → held (given_to relays relay ids) r ≡ cond (relay == r) (length ids) 0
+  held_given r [] = sym (cond_zero (relay == r))
+  held_given r (i ∷ is) =
+      let more : held (given_to relays relay (i ∷ is)) r ≡ cond (relay == r) 1 0 + held (given_to relays relay is) r = sum_by-cons (λ (s : Share). cond (s.relay == r) 1 0) (record { id = i; relays = relays; relay = relay }) (given_to relays relay is) in
+      elim (cases_Bool (relay == r)) [
+        | inl t ↦ omega (arith, more, held_given r is, ap {B = ℕ} (λ b. cond b 1 0) t, ap {B = ℕ} (λ b. cond b (length is) 0) t, ap {B = ℕ} (λ b. cond b (length (i ∷ is)) 0) t)
+        | inr f ↦ omega (arith, more, held_given r is, ap {B = ℕ} (λ b. cond b 1 0) f, ap {B = ℕ} (λ b. cond b (length is) 0) f, ap {B = ℕ} (λ b. cond b (length (i ∷ is)) 0) f)
       ]
 
-  pub sum_less : sum (one_less xs slot) + 1 ≡ sum xs
-  sum_less = omega (arith, some, sum_by-set (λ x. x) xs slot (get_or xs slot 0 - 1) 0 lt)
+  ids_given : (ids : List Id) → map (λ (s : Share). s.id) (given_to relays relay ids) ≡ ids
+  ids_given ids = map_twice (λ (s : Share). s.id) (λ i. record { id = i; relays = relays; relay = relay }) ids ∙ map_itself ids
 
-module _ (shares : List Share) (s : Share) where
-  given_before : (k : ℕ) → k < length shares → given (shares ++ s ∷ []) k ≡ given shares k
-  unfolding given
-  given_before k lt = ap (λ (x : Share). x.relay) (get_or-append shares (s ∷ []) no_share k lt)
+-- of the ids of a group so many are dealt, to the relays below this one
+pub record Dealing (group : Group) (ids : List Id) (old now : List Share) (dealt relay : ℕ) : Type 0 where
+  pub within : dealt ≤ length ids
+  pub so_far : dealt ≡ sum (take relay group.given)
+  pub more : List Share
+  pub behind : now ≡ old ++ more
+  pub ids_ok : map (λ s. s.id) more ≡ take dealt ids
+  pub before : (r : ℕ) → r < relay → held more r ≡ get_or group.given r 0
+  pub later : (r : ℕ) → relay ≤ r → held more r ≡ 0
+  pub fine : All (λ s. (s.relays ≡ group.relays) × (1 ≤ get_or group.given s.relay 0)) more
 
-  offered_before : (k : ℕ) → k < length shares → offered (shares ++ s ∷ []) k ≡ offered shares k
-  unfolding offered
-  offered_before k lt = ap (λ (x : Share). x.relays) (get_or-append shares (s ∷ []) no_share k lt)
-
-  given_last : (k : ℕ) → length shares ≡ k → given (shares ++ s ∷ []) k ≡ s.relay
-  unfolding given
-  given_last k e = ap (λ (x : Share). x.relay) (get_or_push shares s no_share k e)
-
-  offered_last : (k : ℕ) → length shares ≡ k → offered (shares ++ s ∷ []) k ≡ s.relays
-  unfolding offered
-  offered_last k e = ap (λ (x : Share). x.relays) (get_or_push shares s no_share k e)
-
--- the group that a share is of
-abbrev pub Counted : List Group → List Share → ℕ → Type 0
-Counted groups shares j = (k : ℕ) × (k < length groups) × (1 ≤ amount groups k (given shares j)) × (offered shares j ≡ shared_by groups k)
-
--- the first n seats are handed out, and the counts are of the others
-pub record Handing (seats : List Seat) (old groups : List Group) (shares : List Share) (n : ℕ) : Type 0 where
-  pub long : length groups ≡ length old
-  pub relays : (k : ℕ) → shared_by groups k ≡ shared_by old k
-  pub groups_ok : AreGroups groups
-  pub totals : (k : ℕ) → total groups k ≡ seated (drop n seats) k
-  pub offers : offers_of shares ≡ offers_for old (take n seats)
-  pub loads : (r : ℕ) → held shares r + load_of groups r ≡ load_of old r
-  pub less : (k r : ℕ) → amount groups k r ≤ amount old k r
-  pub counted : (j : ℕ) → j < length shares → Counted old shares j
-  pub shared : (k r : ℕ) → k < length old → amount groups k r < amount old k r → (j : ℕ) × IsOfGroup old shares j k r
-
-pub handing_none : (seats : List Seat) (groups : List Group) → AreGroups groups → ((k : ℕ) → total groups k ≡ seated seats k) → Handing seats groups groups [] 0
-handing_none seats groups ok totals = record {
-  long = refl;
-  relays = λ k. refl;
-  groups_ok = ok;
-  totals = totals;
-  offers = refl;
-  loads = λ r. omega arith;
-  less = λ k r. omega arith;
-  counted = λ j lt. absurd (omega arith);
-  shared = λ k r lt more. absurd (omega arith);
+pub dealing_none : (group : Group) (ids : List Id) (old : List Share) → Dealing group ids old old 0 0
+dealing_none group ids old = record {
+  within = omega arith;
+  so_far = refl;
+  more = [];
+  behind = sym (append-nil old);
+  ids_ok = refl;
+  before = λ r lt. absurd (omega arith);
+  later = λ r le. refl;
+  fine = All-nil (λ (s : Share). (s.relays ≡ group.relays) × (1 ≤ get_or group.given s.relay 0));
 }
 
--- some of the group's ids are left
-pub some_left : (seats : List Seat) (old groups : List Group) (shares : List Share) (n : ℕ) (d : Seat) → Handing seats old groups shares n → n < length seats → 0 < total groups (get_or seats n d).group
-some_left seats old groups shares n d h lt =
-    let place : ℕ = (get_or seats n d).group in
-    omega (arith, h.totals place, sum_by-drop_more (λ (s : Seat). cond (s.group == place) 1 0) seats n d lt, ap {B = ℕ} (λ b. cond b 1 0) (eq-eqb place place refl))
-
-module _ (seats : List Seat) (old groups : List Group) (shares : List Share) (n : ℕ) (d : Seat) (h : Handing seats old groups shares n) (lt : n < length seats)
-    (group : Group) (relay : ℕ) (placed : (get_or seats n d).group < length groups) (some : 0 < amount groups (get_or seats n d).group relay)
-    (relays : group.relays ≡ shared_by groups (get_or seats n d).group) (long : length group.given ≡ RELAYS)
-    (sums : sum group.given + 1 ≡ total groups (get_or seats n d).group)
-    (counts : (r : ℕ) → get_or group.given r 0 + cond (relay == r) 1 0 ≡ amount groups (get_or seats n d).group r) where
-  abbrev pub place : ℕ
-  place = (get_or seats n d).group
-
-  abbrev pub now : List Group
-  now = set groups place group
-
-  abbrev pub share : Share
-  share = record { id = (get_or seats n d).id; relays = group.relays; relay = relay }
-
-  abbrev pub after : List Share
-  after = shares ++ share ∷ []
-
-  shared_now : (k : ℕ) → shared_by now k ≡ shared_by groups k
-  shared_now k = shared_after groups place group placed relays k
-
-  amount_now : (k r : ℕ) → amount now k r + cond (k == place) (cond (relay == r) 1 0) 0 ≡ amount groups k r
-  amount_now k r =
-      elim (cases_eq k place) [
-        | inl e ↦ omega (arith, ap (λ k. amount now k r) e, ap (λ k. amount groups k r) e, amount_here groups place group placed relays r, counts r, ap {B = ℕ} (λ b. cond b (cond (relay == r) 1 0) 0) (eq-eqb k place e))
-        | inr ne ↦ omega (arith, amount_there groups place group placed relays k r ne, ap {B = ℕ} (λ b. cond b (cond (relay == r) 1 0) 0) (ne_eqb k place ne))
-      ]
-
-  totals_now : (k : ℕ) → total now k ≡ seated (drop (n + 1) seats) k
-  totals_now k =
-      let rest : seated (drop n seats) k ≡ cond (place == k) 1 0 + seated (drop (n + 1) seats) k = sum_by-drop_more (λ (s : Seat). cond (s.group == k) 1 0) seats n d lt in
-      elim (cases_eq k place) [
-        | inl e ↦ omega (arith, rest, h.totals k, ap (total now) e, ap (total groups) e, total_here groups place group placed relays, sums, ap {B = ℕ} (λ b. cond b 1 0) (eq-eqb place k (sym e)))
-        | inr ne ↦ omega (arith, rest, h.totals k, total_there groups place group placed relays k ne, ap {B = ℕ} (λ b. cond b 1 0) (ne_eqb place k (λ f. ne (sym f))))
-      ]
-
-  offers_now : offers_of after ≡ offers_for old (take (n + 1) seats)
-  offers_now =
-      map-append (λ (s : Share). (s.id, s.relays)) shares (share ∷ [])
-      ∙ ap (λ xs. xs ++ (share.id, share.relays) ∷ []) h.offers
-      ∙ ap (λ rs. offers_for old (take n seats) ++ (share.id, rs) ∷ []) (relays ∙ h.relays place)
-      ∙ sym (map-append (λ (s : Seat). (s.id, shared_by old s.group)) (take n seats) (get_or seats n d ∷ []))
-      ∙ ap (offers_for old) (sym (take_more seats n d lt))
-
-  here : (j : ℕ) → length shares ≡ j → IsOfGroup old after j place relay
-  here j e = (omega (arith, length_push shares share), given_last shares share j e, offered_last shares share j e ∙ relays ∙ h.relays place)
-
-  still : (j k r : ℕ) → IsOfGroup old shares j k r → IsOfGroup old after j k r
-  still j k r w = (omega (arith, w.0, length_push shares share), given_before shares share j w.0 ∙ w.1, offered_before shares share j w.0 ∙ w.2)
-
-  counted_now : (j : ℕ) → j < length after → Counted old after j
-  counted_now j below =
-      elim (cases_lt j (length shares)) [
-        | inl before ↦
-            (let w : Counted old shares j = h.counted j before in
-            (w.0, w.1, subst (λ r. 1 ≤ amount old w.0 r) (sym (given_before shares share j before)) w.2, offered_before shares share j before ∙ w.3))
-        | inr past ↦
-            (let e : length shares ≡ j = omega (arith, length_push shares share) in
-            (place, omega (arith, placed, h.long), subst (λ r. 1 ≤ amount old place r) (sym (given_last shares share j e)) (omega (arith, some, h.less place relay)), (here j e).2))
-      ]
-
-  shared_still : (k r : ℕ) → k < length old → amount now k r < amount old k r → (j : ℕ) × IsOfGroup old after j k r
-  shared_still k r inside more =
-      elim (cases_lt (amount groups k r) (amount old k r)) [
-        | inl before ↦ (let w : (j : ℕ) × IsOfGroup old shares j k r = h.shared k r inside before in (w.0, still w.0 k r w.1))
-        | inr same ↦ elim (cases_eq k place) [
-          | inl e ↦ elim (cases_eq relay r) [
-            | inl is ↦ (length shares, subst (λ r. IsOfGroup old after (length shares) k r) is (subst (λ k. IsOfGroup old after (length shares) k relay) (sym e) (here (length shares) refl)))
-            | inr other ↦ absurd (omega (arith, more, same, amount_now k r, ap {B = ℕ} (λ b. cond b (cond (relay == r) 1 0) 0) (eq-eqb k place e), ap {B = ℕ} (λ b. cond b 1 0) (ne_eqb relay r other)))
-          ]
-          | inr ne ↦ absurd (omega (arith, more, same, amount_now k r, ap {B = ℕ} (λ b. cond b (cond (relay == r) 1 0) 0) (ne_eqb k place ne)))
-        ]
-      ]
-
-  pub handing_step : Handing seats old now after (n + 1)
-  handing_step = record {
-    long = length-set groups place group ∙ h.long;
-    relays = λ k. shared_now k ∙ h.relays k;
-    groups_ok = groups_after groups place group placed relays long h.groups_ok;
-    totals = totals_now;
-    offers = offers_now;
-    loads = λ r. omega (arith, h.loads r, load_after groups place group placed relays r, counts r, sum_by_push (λ (x : Share). cond (x.relay == r) 1 0) shares share);
-    less = λ k r. omega (arith, amount_now k r, h.less k r);
-    counted = counted_now;
-    shared = shared_still;
-  }
-
--- as the code has it
-pub handing_one : (seats : List Seat) (old groups : List Group) (shares : List Share) (n : ℕ) (d : Seat) (g : Group) (relay : ℕ) → Handing seats old groups shares n → n < length seats →
-    (get_or seats n d).group < length groups → relay < RELAYS → 0 < get_or (get_or groups (get_or seats n d).group g).given relay 0 →
-    Handing seats old
-    (set groups (get_or seats n d).group (record { relays = (get_or groups (get_or seats n d).group g).relays; given = one_less (get_or groups (get_or seats n d).group g).given relay }))
-    (shares ++ record { id = (get_or seats n d).id; relays = (get_or groups (get_or seats n d).group g).relays; relay = relay } ∷ []) (n + 1)
-handing_one seats old groups shares n d g relay h lt placed small some =
-    let place : ℕ = (get_or seats n d).group in
-    let counts : List ℕ = (get_or groups place g).given in
-    let long : length counts ≡ RELAYS = ap (λ (g : Group). length g.given) (get_or_any groups place g no_group placed) ∙ h.groups_ok.wide place placed in
-    let fits : relay < length counts = omega arith in
-    let is : (r : ℕ) → amount groups place r ≡ get_or counts r 0 = λ r. amount_is groups place r (get_or groups place g) g placed refl in
-    handing_step seats old groups shares n d h lt (record { relays = (get_or groups place g).relays; given = one_less counts relay }) relay placed
-    (omega (arith, some, is relay))
-    (sym (shared_is groups place g placed))
-    (length-set counts relay (get_or counts relay 0 - 1) ∙ long)
-    (sum_less counts relay fits some ∙ sym (total_is groups place (get_or groups place g) g placed refl))
-    (λ r. less_at counts relay fits some r ∙ sym (is r))
-
-past_relays : (groups : List Group) (k r : ℕ) → length (get_or groups k no_group).given ≤ r → amount groups k r ≡ 0
-unfolding amount
-past_relays groups k r le = get_or_past (get_or groups k no_group).given r 0 le
-
-past_groups : (groups : List Group) (k r : ℕ) → length groups ≤ k → amount groups k r ≡ 0
-unfolding amount
-past_groups groups k r le = ap (λ (g : Group). get_or g.given r 0) (get_or_past groups k no_group le)
-
--- nothing is left once all are handed out
-none_left : (seats : List Seat) (old groups : List Group) (shares : List Share) (n : ℕ) → Handing seats old groups shares n → drop n seats ≡ [] → AreEmpty groups
-none_left seats old groups shares n h done k r =
-    elim (cases_lt k (length groups)) [
-      | inl lt ↦ elim (cases_lt r RELAYS) [
-        | inl small ↦ omega (arith, amount-le-total groups k r h.groups_ok lt small, h.totals k, ap (λ xs. seated xs k) done)
-        | inr past ↦ past_relays groups k r (omega (arith, h.groups_ok.wide k lt))
-      ]
-      | inr past ↦ past_groups groups k r past
+-- while ids are left, so are relays
+pub relay_left : (group : Group) (ids : List Id) (old now : List Share) (dealt relay : ℕ) → Dealing group ids old now dealt relay → sum group.given ≡ length ids → dealt < length ids → relay < length group.given
+relay_left group ids old now dealt relay h all lt =
+    elim (cases_lt relay (length group.given)) [
+      | inl below ↦ below
+      | inr above ↦ absurd (omega (arith, all, h.so_far, ap sum (take_all relay group.given above)))
     ]
 
-pub handed : (seats : List Seat) (old groups : List Group) (shares : List Share) (n : ℕ) → Handing seats old groups shares n → drop n seats ≡ [] → AreHanded old shares
-handed seats old groups shares n h done =
-    let empty : AreEmpty groups = none_left seats old groups shares n h done in
+pub count_fits : (group : Group) (ids : List Id) (old now : List Share) (dealt relay : ℕ) → Dealing group ids old now dealt relay → sum group.given ≡ length ids → relay < length group.given → dealt + get_or group.given relay 0 ≤ length ids
+count_fits group ids old now dealt relay h all lt = omega (arith, all, h.so_far, sum_by_more (λ x. x) group.given relay 0 lt, sum_by-take-le (λ x. x) group.given (relay + 1))
+
+pub dealing_step : (group : Group) (ids : List Id) (old now later : List Share) (dealt relay count : ℕ) (part : List Id) → Dealing group ids old now dealt relay → sum group.given ≡ length ids → relay < length group.given → count ≡ get_or group.given relay 0 →
+    length part ≡ count → take dealt ids ++ part ≡ take (dealt + count) ids → later ≡ now ++ given_to group.relays relay part → Dealing group ids old later (dealt + count) (relay + 1)
+dealing_step group ids old now later dealt relay count part h all lt is long parts e =
+    let news : List Share = given_to group.relays relay part in
+    let both : (r : ℕ) → held (h.more ++ news) r ≡ held h.more r + cond (relay == r) (length part) 0 = λ r.
+    sum_by-append (λ (s : Share). cond (s.relay == r) 1 0) h.more news ∙ ap (λ n. held h.more r + n) (held_given group.relays relay r part) in
     record {
-      loads = λ r. omega (arith, h.loads r, none_load groups r empty);
-      counted = h.counted;
-      shared = λ k r lt some. h.shared k r lt (omega (arith, empty k r, some));
+      within = omega (arith, is, count_fits group ids old now dealt relay h all lt);
+      so_far = omega (arith, is, h.so_far, sum_by_more (λ x. x) group.given relay 0 lt);
+      more = h.more ++ news;
+      behind = e ∙ ap (λ xs. xs ++ news) h.behind ∙ append_assoc old h.more news;
+      ids_ok = map-append (λ (s : Share). s.id) h.more news ∙ ap (λ xs. xs ++ map (λ (s : Share). s.id) news) h.ids_ok ∙ ap (λ xs. take dealt ids ++ xs) (ids_given group.relays relay part) ∙ parts;
+      before = λ r below. elim (cases_eq r relay) [
+        | inl same ↦ omega (arith, both r, h.later r (omega arith), long, is, ap (λ r. get_or group.given r 0) same, ap {B = ℕ} (λ b. cond b (length part) 0) (eq-eqb relay r (sym same)))
+        | inr ne ↦ omega (arith, both r, h.before r (omega arith), ap {B = ℕ} (λ b. cond b (length part) 0) (ne_eqb relay r (λ f. ne (sym f))))
+      ];
+      later = λ r le. (let ne : r ≢ relay = omega arith in omega (arith, both r, h.later r (omega arith), ap {B = ℕ} (λ b. cond b (length part) 0) (ne_eqb relay r (λ f. ne (sym f)))));
+      fine = All-append (λ (s : Share). (s.relays ≡ group.relays) × (1 ≤ get_or group.given s.relay 0)) h.more news h.fine
+          (All-map (λ (s : Share). (s.relays ≡ group.relays) × (1 ≤ get_or group.given s.relay 0)) (λ i. record { id = i; relays = group.relays; relay = relay }) part (λ k d fits. (refl, omega (arith, is, long))));
     }
+
+pub dealt_all : (group : Group) (ids : List Id) (old now : List Share) (dealt relay : ℕ) → Dealing group ids old now dealt relay → sum group.given ≡ length ids → length ids ≤ dealt → AreDealt group ids old now
+dealt_all group ids old now dealt relay h all done = record {
+  more = h.more;
+  behind = h.behind;
+  ids_ok = h.ids_ok ∙ take_all dealt ids done;
+  loads = λ r. elim (cases_lt r relay) [
+    | inl below ↦ h.before r below
+    | inr above ↦ h.later r above ∙ sym (rest_zero group.given relay r (omega (arith, all, h.so_far)) above)
+  ];
+  fine = h.fine;
+}
+
+-- the one id of a group is dealt
+pub dealt_one : (group : Group) (ids : List Id) (old new : List Share) (relay : ℕ) → relay < RELAYS → group.given ≡ one_at relay → sum group.given ≡ length ids → new ≡ old ++ given_to group.relays relay ids → AreDealt group ids old new
+dealt_one group ids old new relay lt e all is =
+    let one : length ids ≡ 1 = sym all ∙ ap sum e ∙ one_sum relay lt in
+    record {
+      more = given_to group.relays relay ids;
+      behind = is;
+      ids_ok = ids_given group.relays relay ids;
+      loads = λ r. held_given group.relays relay r ids ∙ ap {B = ℕ} (λ n. cond (relay == r) n 0) one ∙ sym (ap (λ xs. get_or xs r 0) e ∙ one_get relay lt r);
+      fine = All-map (λ (s : Share). (s.relays ≡ group.relays) × (1 ≤ get_or group.given s.relay 0)) (λ i. record { id = i; relays = group.relays; relay = relay }) ids
+          (λ k d fits. (refl, omega (arith, ap (λ xs. get_or xs relay 0) e, one_get relay lt relay, ap {B = ℕ} (λ b. cond b 1 0) (eq-eqb relay relay refl))));
+    }
+
+-- a relay with a load has a share
+found_held : (shares : List Share) (r : ℕ) → 1 ≤ held shares r → (s : Share) × Contains shares s × (s.relay ≡ r)
+found_held [] r some = absurd (omega arith)
+found_held (s ∷ ss) r some =
+    elim (cases_Bool (s.relay == r)) [
+      | inl t ↦ (s, (0, omega arith, refl), eqb-true s.relay r t)
+      | inr f ↦
+          (let w : (x : Share) × Contains ss x × (x.relay ≡ r) = found_held ss r (omega (arith, some, sum_by-cons (λ (x : Share). cond (x.relay == r) 1 0) s ss, ap {B = ℕ} (λ b. cond b 1 0) f)) in
+          (w.0, (suc w.1.0, omega (arith, w.1.1), w.1.2), w.2))
+    ]
+
+-- each of these is listed
+listed_itself : (ids : List Id) → All (λ i. is_listed ids i ≡ true) ids
+listed_itself [] = All-nil (λ i. is_listed [] i ≡ true)
+listed_itself (x ∷ xs) =
+    All-cons (λ i. is_listed (x ∷ xs) i ≡ true) x xs (or_left (is_id x x) (is_listed xs x) (id_itself x))
+    (All-weaker (λ i. is_listed xs i ≡ true) (λ i. is_listed (x ∷ xs) i ≡ true) (λ i h. or_right (is_id i x) (is_listed xs i) h) xs (listed_itself xs))
+
+none_listed : (xs : List Id) (i : Id) → All (λ y. is_id i y ≡ false) xs → count_by (is_id i) xs ≡ 0
+none_listed [] i h = refl
+none_listed (x ∷ xs) i h = omega (arith, sum_by-cons (λ y. cond (is_id i y) 1 0) x xs, ap {B = ℕ} (λ b. cond b 1 0) (All-head (λ y. is_id i y ≡ false) x xs h), none_listed xs i (All-tail (λ y. is_id i y ≡ false) x xs h))
+
+-- ids in order stand once
+pub counted_once : (xs : List Id) (i : Id) → Ascend xs → count_by (is_id i) xs ≡ cond (is_listed xs i) 1 0
+counted_once [] i h = refl
+counted_once (x ∷ xs) i h =
+    let more : count_by (is_id i) (x ∷ xs) ≡ cond (is_id i x) 1 0 + count_by (is_id i) xs = sum_by-cons (λ y. cond (is_id i y) 1 0) x xs in
+    elim (cases_Bool (is_id i x)) [
+      | inl t ↦
+          (let e : i ≡ x = same_id i x t in
+          let apart : All (λ y. is_id i y ≡ false) xs = subst (λ z. All (λ y. is_id z y ≡ false) xs) (sym e) (All-weaker (λ y. id_cmp x y ≡ Less) (λ y. is_id x y ≡ false) (λ y less. id_flips y x (id_apart x y less)) xs (head_sorted id_cmp x xs h)) in
+          omega (arith, more, ap {B = ℕ} (λ b. cond b 1 0) t, none_listed xs i apart, ap {B = ℕ} (λ b. cond b 1 0) (or_left (is_id i x) (is_listed xs i) t)))
+      | inr f ↦ omega (arith, more, ap {B = ℕ} (λ b. cond b 1 0) f, counted_once xs i (tail_sorted id_cmp x xs h), ap {B = ℕ} (λ b. cond (b || is_listed xs i) 1 0) f)
+    ]
+
+pub count_mapped : (shares : List Share) (i : Id) → count_by (is_id i) (map (λ s. s.id) shares) ≡ count_by (λ s. is_id i s.id) shares
+count_mapped [] i = refl
+count_mapped (s ∷ ss) i = omega (arith, count_mapped ss i, sum_by-cons (λ y. cond (is_id i y) 1 0) s.id (map (λ (s : Share). s.id) ss), sum_by-cons (λ (x : Share). cond (is_id i x.id) 1 0) s ss)
+
+-- the ids of the first groups are dealt
+pub record DealtSome (offers : List (Id × List ℕ)) (rows : Rows) (groups : List Group) (shares : List Share) (place : ℕ) : Type 0 where
+  pub loads : (r : ℕ) → held shares r ≡ load_of (take place groups) r
+  pub counted : All (IsCounted groups) shares
+  pub shared : (k r : ℕ) → k < place → 1 ≤ amount groups k r → HasShare groups shares k r
+  pub once : (i : Id) → count_by (λ s. is_id i s.id) shares ≡ count_by (λ row. is_listed row.1 i) (take place rows)
+  pub looked : All (λ s. s.relays ≡ relays_of offers s.id) shares
+
+pub some_none : (offers : List (Id × List ℕ)) (rows : Rows) (groups : List Group) → DealtSome offers rows groups [] 0
+some_none offers rows groups = record {
+  loads = λ r. refl;
+  counted = All-nil (IsCounted groups);
+  shared = λ k r lt. absurd (omega arith);
+  once = λ i. refl;
+  looked = All-nil (λ (s : Share). s.relays ≡ relays_of offers s.id);
+}
+
+module _ (offers : List (Id × List ℕ)) (rows : Rows) (groups : List Group) (old new : List Share) (place : ℕ) (of_table : tabled.AreGroups offers rows) (same : AreTabled rows groups) (lt : place < length groups) where
+  here : Group
+  here = get_or groups place no_group
+
+  pub row_lt : place < length rows
+  row_lt = omega (arith, lt, same.long)
+
+  ids_ascend : Ascend (row_ids rows place)
+  unfolding row_ids
+  ids_ascend = of_table.ascend place ([], []) row_lt
+
+  ids_looked : All (λ i. relays_of offers i ≡ row_relays rows place) (row_ids rows place)
+  unfolding row_ids row_relays
+  ids_looked = All-weaker (λ i. is_listed (row_ids rows place) i ≡ true) (λ i. relays_of offers i ≡ row_relays rows place) (λ i h. of_table.offer place ([], []) row_lt i h) (row_ids rows place) (listed_itself (row_ids rows place))
+
+  -- one group more is dealt
+  pub some_more : DealtSome offers rows groups old place → AreDealt (get_or groups place no_group) (row_ids rows place) old new → DealtSome offers rows groups new (place + 1)
+  unfolding amount shared_by row_ids
+  some_more h d =
+      let p : (r : ℕ) → held new r ≡ held old r + held d.more r = λ r. ap (λ xs. held xs r) d.behind ∙ sum_by-append (λ (s : Share). cond (s.relay == r) 1 0) old d.more in
+      let relays_here : (get_or groups place no_group).relays ≡ row_relays rows place = same.relays place lt in
+      record {
+        loads = λ r. omega (arith, p r, h.loads r, d.loads r, sum_by_more (λ (g : Group). get_or g.given r 0) groups place no_group lt);
+        counted = subst (All (IsCounted groups)) (sym d.behind)
+            (All-append (IsCounted groups) old d.more h.counted
+            (All-weaker (λ s. (s.relays ≡ (get_or groups place no_group).relays) × (1 ≤ get_or (get_or groups place no_group).given s.relay 0)) (IsCounted groups) (λ s f. (place, lt, f.1, f.0)) d.more d.fine));
+        shared = λ k r below some. subst (λ xs. HasShare groups xs k r) (sym d.behind)
+            (elim (cases_eq k place) [
+              | inl e ↦
+                  (let w : (s : Share) × Contains d.more s × (s.relay ≡ r) = found_held d.more r (omega (arith, some, d.loads r, ap (λ k. get_or (get_or groups k no_group).given r 0) e)) in
+                  let f = All-contains (λ s. (s.relays ≡ (get_or groups place no_group).relays) × (1 ≤ get_or (get_or groups place no_group).given s.relay 0)) d.more w.0 d.fine w.1 in
+                  (w.0, Contains-append_right old d.more w.0 w.1, w.2, f.0 ∙ ap (λ k. (get_or groups k no_group).relays) (sym e)))
+              | inr ne ↦ (let w = h.shared k r (omega arith) some in (w.0, Contains-append_left old d.more w.0 w.1, w.2, w.3))
+            ]);
+        once = λ i.
+            let one : count_by (λ s. is_id i s.id) d.more ≡ cond (is_listed (row_ids rows place) i) 1 0 = sym (count_mapped d.more i) ∙ ap (count_by (is_id i)) d.ids_ok ∙ counted_once (row_ids rows place) i ids_ascend in
+            omega (
+              arith,
+              ap (count_by (λ s. is_id i s.id)) d.behind,
+              sum_by-append (λ (s : Share). cond (is_id i s.id) 1 0) old d.more,
+              h.once i,
+              one,
+              sum_by_more (λ (row : List ℕ × List Id). cond (is_listed row.1 i) 1 0) rows place ([], []) row_lt,
+            );
+        looked = subst (All (λ s. s.relays ≡ relays_of offers s.id)) (sym d.behind)
+            (All-append (λ s. s.relays ≡ relays_of offers s.id) old d.more h.looked
+            (λ k e fits. (d.fine k e fits).0 ∙ relays_here ∙ sym (All-unmap (λ i. relays_of offers i ≡ row_relays rows place) (λ (s : Share). s.id) d.more (subst (All (λ i. relays_of offers i ≡ row_relays rows place)) (sym d.ids_ok) ids_looked) k e fits)));
+      }
+
+-- all groups are dealt
+module _ (offers : List (Id × List ℕ)) (rows : Rows) (groups : List Group) (shares : List Share) (place : ℕ) (of_table : tabled.AreGroups offers rows) (same : AreTabled rows groups) (h : DealtSome offers rows groups shares place) (all : length groups ≤ place) where
+  pub some_handed : AreHanded groups shares
+  some_handed = record {
+    loads = λ r. h.loads r ∙ ap (λ gs. load_of gs r) (take_all place groups all);
+    counted = h.counted;
+    shared = λ k r lt some. h.shared k r (omega arith) some;
+  }
+
+  pub some_of_table : AreOfTable offers shares
+  some_of_table = record {
+    once = λ i. h.once i ∙ ap (count_by (λ row. is_listed row.1 i)) (take_all place rows (omega (arith, same.long))) ∙ of_table.once i;
+    looked = h.looked;
+  }

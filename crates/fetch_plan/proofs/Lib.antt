@@ -2,9 +2,11 @@ pub mod Trails
 pub mod Moves
 pub mod Walks
 pub mod Settling
-pub mod Seats
+pub mod Members
 pub mod Gives
 pub mod Hands
+pub mod Ordered
 pub mod Shared
 pub mod Planned
 pub mod Searched
+pub mod Counted

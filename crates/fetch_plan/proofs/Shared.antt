@@ -1,7 +1,6 @@
 -- From counts that are settled to single ids that are.
-use Rattle.std.proofs.Common.{◌≡◌, ◌≢◌, ℕ, suc, ◌<◌, ◌≤◌, ◌==◌, Bool, true, cond, List, [], ◌∷◌, length, get_or, refl, sym, ap, ◌∙◌, subst, arith, inl, inr}
+use Rattle.std.proofs.Common.{◌≡◌, ◌≢◌, ℕ, suc, ◌<◌, ◌≤◌, ◌==◌, Bool, cond, List, [], ◌∷◌, length, get_or, refl, sym, ap, ◌∙◌, subst, arith, inl, inr}
 use Rattle.sharing.specs.declared.TheConstants.{RELAYS}
-use Rattle.std.specs.List.{All}
 use Rattle.std.proofs.lemmas.Bool.{cases_lt, eq-eqb, ne_eqb}
 use Rattle.std.proofs.lemmas.List.Sums.{sum_by-cons}
 use Rattle.sharing.specs.Sharing.{is_among}
@@ -9,9 +8,7 @@ use Rattle.sharing.proofs.Looks.{among_each}
 use Rattle.fetch_plan.specs.declared.groups.Group.{Group}
 use Rattle.fetch_plan.specs.declared.hand_out.Share.{Share}
 use Rattle.fetch_plan.specs.Shares.{given, offered, held, no_share, AreOffered, AreLoads, IsSettled}
-use Rattle.fetch_plan.specs.Groups.{shared_by, AreGiven, AreLoadsOf, AreSame, Keeps, offers_for}
-use Rattle.fetch_plan.specs.declared.groups.Seat.{Seat}
-use Rattle.fetch_plan.proofs.Seats.{seats_kept}
+use Rattle.fetch_plan.specs.Groups.{amount, shared_by, AreGiven, AreLoadsOf}
 use Rattle.fetch_plan.specs.Handed.{AreHanded}
 use Rattle.fetch_plan.specs.Trail.{AreSettled}
 use Rattle.fetch_plan.proofs.Trails.{get_or_any}
@@ -43,16 +40,26 @@ pub some_held : (shares : List Share) (most : ℕ) (marked : List Bool) → IsSe
 some_held shares most marked h some = omega (arith, held_first shares some, h.greatest.0 (given shares 0))
 
 module _ (groups : List Group) (shares : List Share) (h : AreHanded groups shares) where
+  -- the group of a share
+  group_of : (j : ℕ) → j < length shares → (k : ℕ) × (k < length groups) × (1 ≤ amount groups k (given shares j)) × (offered shares j ≡ shared_by groups k)
+  unfolding given offered
+  group_of j lt = h.counted j no_share lt
+
+  -- a share of a group, by its place
+  share_of : (k r : ℕ) → k < length groups → 1 ≤ amount groups k r → (j : ℕ) × (j < length shares) × (given shares j ≡ r) × (offered shares j ≡ shared_by groups k)
+  unfolding given offered
+  share_of k r lt some =
+      let w = h.shared k r lt some in
+      let e : get_or shares w.1.0 no_share ≡ w.0 = get_or_any shares w.1.0 no_share w.0 w.1.1 ∙ w.1.2 in
+      (w.1.0, w.1.1, ap (λ (s : Share). s.relay) e ∙ w.2, ap (λ (s : Share). s.relays) e ∙ w.3)
+
   pub shares_offered : AreGiven groups → AreOffered shares
-  shares_offered ok =
-      let offers : (j : ℕ) → j < length shares → is_among (offered shares j) (given shares j) ≡ true =
-      λ j lt. (let w = h.counted j lt in ap (λ rs. is_among rs (given shares j)) w.3 ∙ ok.offer w.0 (given shares j) w.1 w.2) in
-      record {
-        offer = offers;
-        small = λ j lt.
-            (let w = h.counted j lt in
-            among_each (λ r. r < RELAYS) (shared_by groups w.0) (given shares j) (ok.groups_ok.relays w.0 w.1).small (ok.offer w.0 (given shares j) w.1 w.2));
-      }
+  shares_offered ok = record {
+    offer = λ j lt. (let w = group_of j lt in ap (λ rs. is_among rs (given shares j)) w.3 ∙ ok.offer w.0 (given shares j) w.1 w.2);
+    small = λ j lt.
+        (let w = group_of j lt in
+        among_each (λ r. r < RELAYS) (shared_by groups w.0) (given shares j) (ok.groups_ok.relays w.0 w.1).small (ok.offer w.0 (given shares j) w.1 w.2));
+  }
 
   pub shares_loads : (loads : List ℕ) → AreLoadsOf groups loads → AreLoads shares loads
   shares_loads loads are r lt = are r lt ∙ sym (h.loads r)
@@ -61,18 +68,13 @@ module _ (groups : List Group) (shares : List Share) (h : AreHanded groups share
   shares_settled most marked s = record {
     greatest = (λ r. omega (arith, s.greatest.0 r, h.loads r), (s.greatest.1.0, h.loads s.greatest.1.0 ∙ s.greatest.1.1));
     busiest = λ r lt e. s.busiest r lt (sym (h.loads r) ∙ e);
-    closed = λ k r lt m among. (let w = h.counted k lt in s.closed w.0 (given shares k) r w.1 m w.2 (ap (λ rs. is_among rs r) (sym w.3) ∙ among));
+    closed = λ k r lt m among. (let w = group_of k lt in s.closed w.0 (given shares k) r w.1 m w.2 (ap (λ rs. is_among rs r) (sym w.3) ∙ among));
     high = λ r m. omega (arith, s.high r m, h.loads r);
     least = λ test begin keeps r m.
         s.least test (λ r e. begin r (h.loads r ∙ e))
-        (λ k t r lt pass some among. (let w = h.shared k t lt some in keeps w.0 r w.1.0 (ap test w.1.1 ∙ pass) (ap (λ rs. is_among rs r) w.1.2 ∙ among)))
+        (λ k t r lt pass some among. (let w = share_of k t lt some in keeps w.0 r w.1 (ap test w.2 ∙ pass) (ap (λ rs. is_among rs r) w.3 ∙ among)))
         r m;
   }
-
--- the groups keep the relays that offer them while ids are given and moved
-pub same_offers : (old given groups : List Group) (seats : List Seat) → Keeps old given → AreSame given groups → All (λ s. s.group < length old) seats → offers_for groups seats ≡ offers_for old seats
-same_offers old given groups seats keeps same placed =
-    seats_kept old groups seats (record { longer = omega (arith, keeps.longer, same.long); relays = λ k lt. same.relays k ∙ keeps.relays k lt }) placed
 
 -- the settled greatest load is the one that the table of loads has
 pub settled_at : (shares : List Share) (loads : List ℕ) (least_max : ℕ) (marked : List Bool) → AreLoads shares loads → AreOffered shares → ((r : ℕ) → r < RELAYS → get_or loads r 0 ≤ least_max) → (r : ℕ) × (r < RELAYS) × (get_or loads r 0 ≡ least_max) →

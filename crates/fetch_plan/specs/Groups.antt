@@ -1,13 +1,11 @@
 -- Ids in groups that the same relays offer: how many of each group are given to each relay.
-use Rattle.std.specs.Prelude.{◌≡◌, ℕ, ◌+◌, ◌<◌, ◌≤◌, ◌==◌, true, List, [], length, slice_index_or, count_by, cond, sum_by, map, Option, Some}
+use Rattle.std.specs.Prelude.{◌≡◌, ℕ, ◌+◌, ◌<◌, ◌≤◌, ◌==◌, true, List, [], length, slice_index_or, cond, sum_by}
 use Rattle.std.specs.List.{sum, All}
 use Rattle.sharing.specs.declared.TheConstants.{RELAYS, MOST_IDS}
 use Rattle.sharing.specs.Sharing.{is_among}
 use Rattle.sharing.specs.Offers.{AreRelays}
-use Rattle.offer_table.specs.Relays.{members}
 use Rattle.neg_codec.specs.declared.Id.{Id}
 use Rattle.fetch_plan.specs.declared.groups.Group.{Group}
-use Rattle.fetch_plan.specs.declared.groups.Seat.{Seat}
 
 abbrev pub no_group : Group
 no_group = record { relays = []; given = [] }
@@ -69,28 +67,30 @@ pub record AreSame (old new : List Group) : Type 0 where
 abbrev pub IsMoved : List Group → List Group → ℕ → ℕ → ℕ → Type 0
 IsMoved old new from to some = (r : ℕ) → load_of new r + cond (from == r) some 0 ≡ load_of old r + cond (to == r) some 0
 
--- the number of ids of group k among these
-abbrev pub seated : List Seat → ℕ → ℕ
-seated seats k = count_by (λ s. s.group == k) seats
+-- the relays of a row, and how many ids it has
+unfoldable pub row_relays : List (List ℕ × List Id) → ℕ → List ℕ
+row_relays rows k = (slice_index_or rows k ([], [])).0
 
--- the ids with the relays that offer their groups
-abbrev pub offers_for : List Group → List Seat → List (Id × List ℕ)
-offers_for groups seats = map (λ s. (s.id, shared_by groups s.group)) seats
+unfoldable pub row_ids : List (List ℕ × List Id) → ℕ → List Id
+row_ids rows k = (slice_index_or rows k ([], [])).1
 
--- no id is given to a relay
-abbrev pub AreEmpty : List Group → Type 0
-AreEmpty groups = (k r : ℕ) → amount groups k r ≡ 0
+-- each group has the relays of a row, and as many ids
+pub record AreTabled (rows : List (List ℕ × List Id)) (groups : List Group) : Type 0 where
+  pub long : length groups ≡ length rows
+  pub relays : (k : ℕ) → k < length groups → shared_by groups k ≡ row_relays rows k
+  pub totals : (k : ℕ) → k < length groups → total groups k ≡ length (row_ids rows k)
 
--- the earlier groups are still there
-pub record Keeps (old new : List Group) : Type 0 where
-  pub longer : length old ≤ length new
-  pub relays : (k : ℕ) → k < length old → shared_by new k ≡ shared_by old k
+-- so many ids that these relays offer, each given to one of them
+pub record IsGroup (relays : List ℕ) (count : ℕ) (group : Group) : Type 0 where
+  pub relays_ok : group.relays ≡ relays
+  pub wide : length group.given ≡ RELAYS
+  pub counted : sum group.given ≡ count
+  pub offer : (r : ℕ) → 0 < slice_index_or group.given r 0 → is_among relays r ≡ true
 
--- these relays offer group k
-pub record IsPlaced (groups : List Group) (relays : List ℕ) (k : ℕ) : Type 0 where
-  pub within : k < length groups
-  pub relays_ok : shared_by groups k ≡ relays
-
--- where a set of relays stands, by its number
-abbrev pub ArePlaces : List Group → (ℕ → Option ℕ) → Type 0
-ArePlaces groups places = (n k : ℕ) → places n ≡ Some k → IsPlaced groups (members n) k
+-- so many ids of a group are still to be given
+pub record GivingOut (relays : List ℕ) (count : ℕ) (before loads given : List ℕ) (left : ℕ) : Type 0 where
+  pub wide : length given ≡ RELAYS
+  pub wide_loads : length loads ≡ RELAYS
+  pub counted : sum given + left ≡ count
+  pub offer : (r : ℕ) → 0 < slice_index_or given r 0 → is_among relays r ≡ true
+  pub loads_ok : (r : ℕ) → slice_index_or loads r 0 ≡ slice_index_or before r 0 + slice_index_or given r 0

@@ -97,10 +97,10 @@ fn add_from(
     ensures stay { OnOk result (StayMarked marked.old marked.new) }
     ensures closed { OnOk result (IsClosedAt level.now.some groups.now (length groups.now) (relay_at steps.old.items next) marked.new) }
 {
-    let slot = usize::from(steps[next].relay);
+    let relay = steps[next].relay;
     let mut others = unmarked(marked);
     for place in &level.places {
-        if sets[*place].meets(others) && groups[*place].given[slot] >= level.some {
+        if sets[*place].meets(others) && groups[*place].given.get(relay) >= level.some {
             let link = Link {
                 parent: next,
                 place: *place,
@@ -220,12 +220,9 @@ fn walk(some: u64, groups: &mut [Group], steps: &[Step], end: usize) -> u16
     let mut at = end;
     while let Some(link) = steps[at].from {
         let group = &mut groups[link.place];
-        shift(
-            &mut group.given,
-            steps[link.parent].relay,
-            steps[at].relay,
-            some,
-        );
+        group
+            .given
+            .shift(steps[link.parent].relay, steps[at].relay, some);
         at = link.parent;
     }
     steps[at].relay

@@ -1,7 +1,6 @@
 //! Levels: how many ids move at once, and which groups have as many.
 
 ghost use Rattle.std.specs.Prelude.{◌≡◌, ◌≤◌, ◌<◌, ℕ, List, length, IfOk, slice_index};
-ghost use Rattle.std.specs.List.{sum};
 ghost use Rattle.sharing.specs.declared.TheConstants.{MOST_IDS};
 ghost use Rattle.fetch_plan.specs.declared.groups.Group.{Group};
 ghost use Rattle.fetch_plan.specs.Groups.{total, AreCounts, AreSets, AreLarge};
@@ -17,18 +16,6 @@ pub(crate) struct Level {
     pub places: Vec<usize>,
 }
 
-/// The number of a group's ids.
-fn count_of(group: &Group) -> u64
-    requires { sum group.now.given ≤ MOST_IDS }
-    ensures { result ≡ sum group.now.given }
-{
-    let mut count = 0;
-    for given in &group.given {
-        count += *given;
-    }
-    count
-}
-
 /// The number of each group's ids.
 pub(crate) fn counts_of(alloc: Global, groups: &[Group]) -> Result<Vec<u64>, AllocError>
     requires { (k : ℕ) → k < length groups.now → total groups.now k ≤ MOST_IDS }
@@ -36,7 +23,7 @@ pub(crate) fn counts_of(alloc: Global, groups: &[Group]) -> Result<Vec<u64>, All
 {
     let mut counts = Vec::new(alloc);
     for group in groups {
-        counts.push(count_of(group))?;
+        counts.push(group.given.total())?;
     }
     Ok(counts)
 }

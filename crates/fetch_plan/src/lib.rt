@@ -1,18 +1,18 @@
 //! Sharing the offered ids out among the relays, so that the busiest relay has as few as possible.
 #![tactic(auto)]
 
-ghost use Rattle.std.specs.Prelude.{◌≡◌, ◌<◌, ◌≤◌, ℕ, length, slice_index, IfOk};
-ghost use Rattle.std.specs.List.{All};
-ghost use Rattle.sharing.specs.declared.TheConstants.{MOST_IDS};
+ghost use Rattle.std.specs.Prelude.{◌≡◌, ℕ, slice_index, IfOk};
 ghost use Rattle.sharing.specs.Sharing.{is_among, NoneSmaller};
 ghost use Rattle.sharing.specs.Offers.{AreRelays};
 ghost use Rattle.offer_table.specs.Table.{IsTable};
+ghost use Rattle.offer_table.specs.Groups.{groups_of};
+ghost use Rattle.fetch_plan.specs.Groups.{AreGiven, AreTabled, AreLoadsOf};
 ghost use Rattle.fetch_plan.specs.Shares.{is_marked, offers_of, AreOffered, AreLoads, IsSettled};
-ghost use Rattle.fetch_plan.specs.Groups.{AreGroups, AreEmpty, offers_for};
 ghost use Rattle.fetch_plan.specs.Plan.{IsPlanOf};
 
 mod cell;
 mod chains;
+mod counts;
 mod groups;
 mod hand_out;
 mod levels;
@@ -20,7 +20,7 @@ mod outcome;
 
 pub use cell::Cell;
 use chains::{greatest, settle};
-use groups::{Group, Seat, give_all, seat_all};
+use groups::{Group, give_all};
 use hand_out::{Share, hand_out};
 use offer_table::{OfferTable, RelaySet};
 pub use outcome::Plan;
@@ -41,26 +41,25 @@ fn set_of(marked: &[bool; SLOTS]) -> RelaySet
     relays
 }
 
-/// Shares the seated ids out. It answers to which relays, and which ones chains of moves reach.
-fn share_seats(
+/// Shares the ids of the groups out, which count for a relay each. It answers to which relays they go, and which
+/// ones chains of moves reach.
+fn share_groups(
     alloc: Global,
-    seats: &[Seat],
+    table: &OfferTable,
     groups: &mut [Group],
     loads: &mut [u64; SLOTS],
 ) -> Result<(Vec<Share>, [bool; SLOTS]), AllocError>
-    requires groups { AreGroups groups.old }
-    requires empty { AreEmpty groups.old }
-    requires placed { All (λ s. s.group < length groups.old) seats.now }
-    requires few { length seats.now ≤ MOST_IDS }
-    requires loads { (r : ℕ) → slice_index loads.old r ≡ 0 }
-    ensures offers { IfOk result (λ out. offers_of out.0.items ≡ offers_for groups.old seats.now) }
+    requires given { AreGiven groups.old }
+    requires tabled { AreTabled (groups_of table.now.offers) groups.old }
+    requires loads { AreLoadsOf groups.old loads.old }
+    requires table { IsTable table.now }
+    ensures offers { IfOk result (λ out. offers_of out.0.items ≡ table.now.offers) }
     ensures offered { IfOk result (λ out. AreOffered out.0.items) }
     ensures loads { IfOk result (λ out. AreLoads out.0.items loads.new) }
     ensures settled { IfOk result (λ out. (most : ℕ) × IsSettled out.0.items most out.1) }
 {
-    give_all(seats, groups, loads);
     let marked = settle(alloc, groups, loads)?;
-    let shares = hand_out(alloc, seats, groups)?;
+    let shares = hand_out(alloc, table, groups)?;
     Ok((shares, marked))
 }
 
@@ -77,9 +76,8 @@ fn share_out(
     ensures settled { IfOk result (λ out. (most : ℕ) × IsSettled out.0.items most out.1) }
     ensures table { IsTable table.now }
 {
-    let mut groups = Vec::new(alloc);
-    let seats = seat_all(alloc, table, &mut groups)?;
-    share_seats(alloc, &seats, &mut groups, loads)
+    let mut groups = give_all(alloc, table, loads)?;
+    share_groups(alloc, table, &mut groups, loads)
 }
 
 /// Shares the ids out, so that the busiest relay has as few as possible, by chains of moves from a busiest

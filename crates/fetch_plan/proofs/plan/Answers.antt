@@ -5,7 +5,7 @@ use Rattle.sharing.proofs.Counting.{none_smaller}
 use Rattle.fetch_plan.specs.declared.hand_out.Share.{Share}
 use Rattle.fetch_plan.specs.Shares.{IsSettled}
 use Rattle.fetch_plan.proofs.Shared.{some_held, settled_at}
-use Rattle.fetch_plan.proofs.Seats.{none_counted}
+use Rattle.fetch_plan.proofs.Gives.{none_counted}
 use Rattle.fetch_plan.proofs.Planned.{settled_plan, nothing_planned}
 use Rattle.fetch_plan.proofs.plan.Goals as goal
 

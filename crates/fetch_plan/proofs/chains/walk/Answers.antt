@@ -77,7 +77,7 @@ loop-at-preserved c =
     (sym (shared_is c.loop-at.groups link.place c.index-groups-link.result lt))
     (λ r. c.shift.ensures.moved r ∙ ap {B = ℕ} (λ x. x + cond (relay_at c.args.steps.now c.loop-at.at == r) c.args.some 0) (sym (amount_is c.loop-at.groups link.place r _ c.index-groups-link.result lt refl)))
     (c.shift.ensures.total ∙ sym (total_is c.loop-at.groups link.place _ c.index-groups-link.result lt refl))
-    c.shift.array_long
+    c.shift.ensures.wide
 
 pub returns-clause-start : goal.returns-clause-start
 unfolding from_at relay_at

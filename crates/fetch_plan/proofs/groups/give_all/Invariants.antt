@@ -1,5 +1,6 @@
+use Rattle.offer_table.specs.Groups.{groups_of}
 use Rattle.fetch_plan.proofs.Gives.{Giving}
 use Rattle.fetch_plan.proofs.groups.give_all.Given as goal
 
-abbrev pub invariant-loop-seat : goal.invariant-loop-seat
-invariant-loop-seat l = Giving l.seats l.initial.groups l.groups l.loads l.seat-index
+abbrev pub invariant-loop-place : goal.invariant-loop-place
+invariant-loop-place l = Giving (groups_of l.table.offers) l.groups.items l.loads l.place

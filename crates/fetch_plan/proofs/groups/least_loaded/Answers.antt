@@ -1,20 +1,14 @@
-use Rattle.std.proofs.Common.{◌<◌, sym, ◌∙◌, inl, inr, arith}
-use Rattle.std.proofs.lemmas.Bool.{false≢true}
-use Rattle.sharing.specs.declared.TheConstants.{RELAYS}
-use Rattle.sharing.proofs.Looks.{among_each}
-use Rattle.fetch_plan.proofs.Seats.{first_member}
+use Rattle.std.proofs.Common.{◌≡◌, arith, inl, inr}
+use Rattle.std.specs.Int.{bit_at}
+use Rattle.std.proofs.lemmas.Bool.{cases_lt}
+use Rattle.fetch_plan.proofs.Members.{first_member, member_is_bit, bit_is_member}
 use Rattle.fetch_plan.proofs.groups.least_loaded.Goals as goal
 
-pub returns-clause-small : goal.returns-clause-small
-returns-clause-small c =
-    let inv = c.loop-relay.invariant in
-    elim inv.best [
-      | inl lt ↦ lt
-      | inr none ↦
-          (let w = first_member c.args.relays c.requires.some in
-          let lt : w.0 < RELAYS = among_each (λ r. r < RELAYS) c.args.relays w.0 c.requires.relays.small w.1 in
-          absurd (false≢true (sym (inv.none none w.0 (omega arith)) ∙ w.1)))
-    ]
+pub least_bit-requires : goal.least_bit-requires
+least_bit-requires c =
+    let w = first_member c.args.relays c.requires.some in
+    let one : bit_at c.number.result w.0 ≡ 1 = member_is_bit c.args.relays c.number.result c.number.ensures.members w.0 w.1 in
+    elim (cases_lt 0 c.number.result) [ inl lt ↦ lt | inr le ↦ absurd (grind (arith, one)) ]
 
 pub returns-clause-member : goal.returns-clause-member
-returns-clause-member c = c.loop-relay.invariant.member (returns-clause-small c)
+returns-clause-member c = bit_is_member c.args.relays c.number.result c.number.ensures.members c.least_bit.result c.least_bit.ensures.small c.least_bit.ensures.set

@@ -6,8 +6,8 @@ use Rattle.fetch_plan.specs.Groups.{total}
 use Rattle.fetch_plan.proofs.Trails.{total_is}
 use Rattle.fetch_plan.proofs.levels.counts_of.Goals as goal
 
-pub count_of-requires : goal.count_of-requires
-count_of-requires c =
+pub total-requires : goal.total-requires
+total-requires c =
     omega (arith, c.requires c.loop-group.group-index c.loop-group-test.true, total_is c.args.groups.now c.loop-group.group-index c.group-item.result c.group-item.result c.loop-group-test.true c.group-item.is)
 
 pub loop-group-preserved : goal.loop-group-preserved
@@ -15,8 +15,8 @@ loop-group-preserved c =
     let inv = c.loop-group.invariant in
     let i : ℕ = c.loop-group.group-index in
     let counts : List ℕ = c.loop-group.counts.items in
-    let count : ℕ = c.count_of.result in
-    let here : total c.args.groups.now i ≡ count = total_is c.args.groups.now i c.group-item.result c.group-item.result c.loop-group-test.true c.group-item.is ∙ sym c.count_of.ensures in
+    let count : ℕ = c.total.result in
+    let here : total c.args.groups.now i ≡ count = total_is c.args.groups.now i c.group-item.result c.group-item.result c.loop-group-test.true c.group-item.is ∙ sym c.total.ensures in
     rw c.in_ok-push.ensures.items (record {
       long = length_push counts count ∙ ap (λ n. n + 1) inv.long;
       totals = λ k lt. elim (cases_eq k i) [

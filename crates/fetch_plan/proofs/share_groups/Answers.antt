@@ -1,9 +1,5 @@
-use Rattle.std.proofs.Common.{◌∙◌}
-use Rattle.fetch_plan.proofs.Shared.{shares_offered, shares_loads, shares_settled, same_offers}
-use Rattle.fetch_plan.proofs.share_seats.Goals as goal
-
-pub returns-clause-offers : goal.returns-clause-offers
-returns-clause-offers c = c.in_ok-shares.ensures.offers ∙ same_offers _ _ _ c.args.seats.now c.give_all.ensures.keeps c.in_ok-marked.ensures.same c.requires.placed
+use Rattle.fetch_plan.proofs.Shared.{shares_offered, shares_loads, shares_settled}
+use Rattle.fetch_plan.proofs.share_groups.Goals as goal
 
 pub returns-clause-offered : goal.returns-clause-offered
 returns-clause-offered c = shares_offered _ _ c.in_ok-shares.ensures.handed c.in_ok-marked.ensures.given

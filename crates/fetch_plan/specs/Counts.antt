@@ -1,0 +1,16 @@
+-- How many ids each relay is given, for one id and for many.
+use Rattle.std.specs.Prelude.{◌≡◌, ℕ, ◌<◌, ◌==◌, ◌⊎◌, List, length, cond, replicate, slice_set}
+use Rattle.sharing.specs.declared.TheConstants.{RELAYS}
+
+-- one id, which is given to this relay
+abbrev pub one_at : ℕ → List ℕ
+one_at relay = slice_set (replicate RELAYS 0) relay 1
+
+-- the table, or one id where there is none
+abbrev pub counts_in : ℕ → List ℕ → List ℕ
+counts_in alone table = cond (length table == 0) (one_at alone) table
+
+-- a relay that is given the one id, or a table of all relays
+pub record AreCounted (alone : ℕ) (table : List ℕ) : Type 0 where
+  pub small : alone < RELAYS
+  pub wide : (length table ≡ 0) ⊎ (length table ≡ RELAYS)
