@@ -8,7 +8,7 @@ use crate::{Id, Item};
 use std::cmp::Ordering;
 
 /// That an array has its length, of bytes.
-fn is_whole(bytes: &[u8; 32])
+pub(crate) fn is_whole(bytes: &[u8; 32])
     ensures { IsId (id_of_bytes bytes.now) }
 {
     let _ = bytes.as_slice();

@@ -5,7 +5,7 @@ use std::alloc::{AllocError, AllocFailed};
 use thiserror::Error;
 
 /// The id of a record: 32 bytes, ordered byte by byte.
-#[derive(Clone, Copy, Debug, PartialEq, Eq, PartialOrd, Ord)]
+#[derive(Clone, Copy, Debug, PartialEq, Eq, PartialOrd)]
 pub struct Id(pub [u8; 32]);
 
 /// A record's time in seconds and its id. Items are ordered by time, then by id.
@@ -15,6 +15,7 @@ pub struct Item {
     pub id: Id,
 }
 
+mod id_order;
 mod key;
 
 pub use key::Key;

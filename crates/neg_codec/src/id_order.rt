@@ -1,0 +1,44 @@
+//! The order of ids.
+
+ghost use Rattle.std.specs.Prelude.{◌≡◌, take};
+ghost use Rattle.neg_codec.specs.Keys.{number_of_bytes};
+
+use crate::Id;
+use crate::items::is_whole;
+use std::cmp::Ordering;
+
+/// The first eight bytes of an id as a number, the first byte the highest.
+fn first_word(id: &Id) -> u64
+    ensures { result ≡ number_of_bytes (take 8 id.now.0) }
+{
+    let bytes = &id.0;
+    u64::from_be_bytes([
+        bytes[0], bytes[1], bytes[2], bytes[3], bytes[4], bytes[5], bytes[6], bytes[7],
+    ])
+}
+
+/// Byte by byte. The first eight are compared as one number, which tells most ids apart.
+impl Ord for Id {
+    ghost use Rattle.std.specs.Prelude.{refl};
+    ghost use Rattle.neg_codec.specs.declared.Id.{Id as AnId};
+    ghost use Rattle.std.specs.Ordering.{nat_cmp};
+    ghost use Rattle.std.specs.Cmp.{on_total};
+    ghost use Rattle.std.specs.Cmp.Lexicographic.{slice_cmp, nat_list_cmp_total, lists_agrees, texts_ties};
+
+    ghost cmp = { λ a b. slice_cmp nat_cmp a.0 b.0 };
+
+    ghost total = { on_total (λ (i : AnId). i.0) nat_list_cmp_total };
+
+    ghost matches_partial_cmp = { λ a b. lists_agrees (λ x y. refl) a.0 b.0 };
+
+    ghost matches_eq = { λ a b. texts_ties a.0 b.0 };
+
+    fn cmp(&self, other: &Id) -> Ordering {
+        is_whole(&self.0);
+        is_whole(&other.0);
+        match first_word(self).cmp(&first_word(other)) {
+            Ordering::Equal => self.0.cmp(&other.0),
+            order => order,
+        }
+    }
+}
