@@ -5,12 +5,12 @@ use Rattle.std.proofs.lemmas.Bool.{cases_lt, false≢true}
 use Rattle.plan_check.specs.declared.faults.PlanFault.{PlanFault}
 use Rattle.plan_check.specs.declared.faults.PlanFault.TheVariants.{Line, Order, NotOffered, Missing, Stranger, GroupTooSmall, Memory}
 use Rattle.plan_check.specs.File.{File, IsFile}
-use Rattle.plan_check.specs.Lines.{malformed_at, misplaced_at, misplaced_fault, file_fault}
+use Rattle.plan_check.specs.Lines.{misplaced_at, misplaced_fault}
 use Rattle.plan_check.specs.TextLines.{lines_of}
 use Rattle.plan_check.specs.PlanText.{plan_lines, plan_text, IsOfForm, IsTextOf}
 use Rattle.std.proofs.lemmas.List.{take-take}
 use Rattle.plan_check.specs.PlanReading.{Begins, IsFirstWrong, IsOutOfOrder, IsReadFault, Reads, RoundTrip}
-use Rattle.plan_check.proofs.InOrder.{form_ok, in_order}
+use Rattle.plan_check.proofs.InOrder.{in_order}
 use Rattle.plan_check.proofs.TextLemmas.{lines_of-plan}
 use Rattle.plan_check.proofs.OneText.{one_file_each}
 
@@ -41,16 +41,11 @@ read_back text file (Err GroupTooSmall) told read = absurd read
 read_back text file (Err Memory) told read = inr refl
 
 -- what is made of lists of the form
-made_by : (text : List ℕ) (file : File) (o : Option ℕ) (result : Result File PlanFault) → IsOfForm file → text ≡ plan_text file → misplaced_at file ≡ o
+pub made_by : (text : List ℕ) (file : File) (o : Option ℕ) (result : Result File PlanFault) → IsOfForm file → text ≡ plan_text file → misplaced_at file ≡ o
     → MatchOption (misplaced_fault o) (IsOk result) (λ f. result ≡ Err f) → IfOk result (λ f. f ≡ file) → IfOk result IsFile → Reads text result
 made_by text file None (Ok made) form is e ok keeps ordered = subst (IsTextOf text) (sym keeps) (record { form = form; ordered = subst IsFile keeps ordered; is = is })
 made_by text file None (Err f) form is e ok keeps ordered = absurd (false≢true ok)
 made_by text file (Some n) result form is e fault keeps ordered = subst (Reads text) (sym fault) (file, form, is, ap misplaced_fault e)
-
-pub made_reads : (text : List ℕ) (file : File) (result : Result File PlanFault) → IsOfForm file → text ≡ plan_text file
-    → MatchOption (file_fault (malformed_at file) (misplaced_at file)) (IsOk result) (λ f. result ≡ Err f) → IfOk result (λ f. f ≡ file) → IfOk result IsFile → Reads text result
-made_reads text file result form is fault keeps ordered =
-    made_by text file (misplaced_at file) result form is refl (subst (λ m. MatchOption (file_fault m (misplaced_at file)) (IsOk result) (λ f. result ≡ Err f)) (form_ok file form) fault) keeps ordered
 
 pub reads_ok : (text : List ℕ) (result : Result File PlanFault) → Reads text result → IfOk result (IsTextOf text)
 reads_ok text (Ok file) h = h

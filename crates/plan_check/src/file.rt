@@ -1,8 +1,8 @@
 //! Plan files.
 
-ghost use Rattle.std.specs.Prelude.{◌≡◌, map, length, MatchOption, IsOk, IfOk, Err};
+ghost use Rattle.std.specs.Prelude.{◌≡◌, map, length, MatchOption, IsOk, IfOk, Err, None};
 ghost use Rattle.plan_check.specs.File.{File, IsFile};
-ghost use Rattle.plan_check.specs.Lines.{file_fault, malformed_at, misplaced_at};
+ghost use Rattle.plan_check.specs.Lines.{file_fault, misplaced_fault, malformed_at, misplaced_at};
 
 use crate::PlanFault;
 use crate::order::{
@@ -45,6 +45,20 @@ impl PlanFile {
         if let Some(place) = malformed(&offers, &gives, &group) {
             return Err(PlanFault::Line(place.saturating_add(2)));
         }
+        PlanFile::of_form(offers, gives, group)
+    }
+
+    /// The file of these lists, whose lines are of the form.
+    pub(crate) fn of_form(
+        offers: Vec<(Id, Vec<u16>)>,
+        gives: Vec<(Id, u16)>,
+        group: Vec<u16>,
+    ) -> Result<PlanFile, PlanFault>
+        requires { malformed_at (record { offers = map (λ o. (o.0, o.1.items)) offers.items; gives = gives.items; group = group.items }) ≡ None }
+        ensures fault { let file : File = record { offers = map (λ o. (o.0, o.1.items)) offers.items; gives = gives.items; group = group.items } in MatchOption (misplaced_fault (misplaced_at file)) (IsOk result) (λ f. result ≡ Err f) }
+        ensures keeps { IfOk result (λ file. file ≡ record { offers = map (λ o. (o.0, o.1.items)) offers.items; gives = gives.items; group = group.items }) }
+        ensures file { IfOk result IsFile }
+    {
         if let Some(place) = misplaced(&offers, &gives, &group) {
             return Err(PlanFault::Order(place.saturating_add(2)));
         }

@@ -124,5 +124,5 @@ pub fn read_plan(alloc: Global, text: &str) -> Result<PlanFile, PlanFault>
     ensures refused { (fault : AFault) → IsReadFault text.now fault → fault ≢ memory → (result ≡ Err fault) ⊎ (result ≡ Err memory) }
 {
     let lists = read_lists(alloc, text.as_bytes())?;
-    PlanFile::of(lists.offers, lists.gives, lists.group)
+    PlanFile::of_form(lists.offers, lists.gives, lists.group)
 }
