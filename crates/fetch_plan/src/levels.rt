@@ -21,7 +21,7 @@ pub(crate) fn counts_of(alloc: Global, groups: &[Group]) -> Result<Vec<u64>, All
     requires { (k : ℕ) → k < length groups.now → total groups.now k ≤ MOST_IDS }
     ensures { IfOk result (λ counts. AreCounts groups.now counts.items) }
 {
-    let mut counts = Vec::new(alloc);
+    let mut counts = Vec::with_capacity(alloc, groups.len())?;
     for group in groups {
         counts.push(group.given.total())?;
     }
@@ -32,7 +32,7 @@ pub(crate) fn counts_of(alloc: Global, groups: &[Group]) -> Result<Vec<u64>, All
 pub(crate) fn sets_of(alloc: Global, groups: &[Group]) -> Result<Vec<RelaySet>, AllocError>
     ensures { IfOk result (λ sets. AreSets groups.now sets.items) }
 {
-    let mut sets = Vec::new(alloc);
+    let mut sets = Vec::with_capacity(alloc, groups.len())?;
     for group in groups {
         sets.push(group.relays)?;
     }

@@ -1,9 +1,8 @@
-use Rattle.std.proofs.Common.{◌≡◌, ◌<◌, ◌≤◌, ◌+◌, ℕ, List, length, take, ap, sym, ◌∙◌, arith}
+use Rattle.std.proofs.Common.{◌<◌, ℕ, List, length, ap, ◌∙◌, arith}
 use Rattle.std.specs.List.{sum_by}
 use Rattle.std.proofs.lemmas.List.{take_all}
 use Rattle.neg_codec.specs.declared.Id.{Id}
 use Rattle.offer_table.specs.Groups.{groups_of}
-use Rattle.fetch_plan.specs.Groups.{row_ids}
 use Rattle.fetch_plan.proofs.Gives.{many, row_is, rows_more, rows_more_le}
 use Rattle.fetch_plan.proofs.hand_out.count_of.Goals as goal
 
