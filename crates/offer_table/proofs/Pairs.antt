@@ -1,15 +1,15 @@
 -- Ids in order, each beside relays: one of them is read or changed.
-use Rattle.std.proofs.Common.{◌≡◌, ℕ, suc, ◌<◌, ◌==◌, Bool, true, false, cond, List, [], ◌∷◌, ◌++◌, length, get_or, set, take, drop, map, Some, None, refl, sym, ap, ◌∙◌, subst, arith, inl, inr, take-append-drop}
+use Rattle.std.proofs.Common.{◌≡◌, ℕ, suc, ◌<◌, Bool, true, false, cond, List, [], ◌∷◌, ◌++◌, length, get_or, set, take, drop, map, Some, None, refl, sym, ap, ◌∙◌, subst, arith, inl, inr, take-append-drop}
 use Rattle.std.specs.Prelude.{is_some, unwrap_or}
 use Rattle.std.specs.declared.cmp.Ordering.TheVariants.{Less}
 use Rattle.std.specs.Ordering.{is_eq}
-use Rattle.std.specs.List.{All, filter}
+use Rattle.std.specs.List.{All}
 use Rattle.std.specs.List.Sorted.{IsStrictlySortedBy}
 use Rattle.std.proofs.lemmas.Bool.{false≢true, cases_Bool}
 use Rattle.std.proofs.lemmas.List.{map-append, set_split}
-use Rattle.std.proofs.lemmas.List.Elements.{All-head, All-tail, All-nil, All-cons, All-filter, filter-append}
+use Rattle.std.proofs.lemmas.List.Elements.{All-head, All-tail, All-filter, filter-append}
 use Rattle.neg_codec.specs.declared.Id.{Id}
-use Rattle.sharing.specs.Offers.{Ascend, id_cmp, is_id, beside, relays_of}
+use Rattle.sharing.specs.Offers.{Ascend, id_cmp, beside, relays_of}
 use Rattle.sharing.proofs.Orders.{same_id, id_itself, id_apart, id_flips, head_sorted, tail_sorted, All-unmap}
 use Rattle.offer_table.specs.Places.{IsHit, IsMiss}
 use Rattle.offer_table.specs.Entries.{has_some, offered, IsChanged}
@@ -130,7 +130,3 @@ pub pairs_sorted : (xs : Offers) → Ascend (map id_of xs) → IsStrictlySortedB
 unfolding IsStrictlySortedBy
 pairs_sorted [] h = tt
 pairs_sorted (x ∷ xs) h = sorted_cons (by_key id_of id_cmp) x xs (All-unmap (λ i. id_cmp x.0 i ≡ Less) id_of xs (head_sorted id_cmp x.0 (map id_of xs) h)) (pairs_sorted xs (tail_sorted id_cmp x.0 (map id_of xs) h))
-
--- a pair that counts stands in front
-pub first_counts : (xs : Offers) (o : Id × List ℕ) (os : Offers) → xs ≡ o ∷ os → has_some o.1 ≡ true → offered xs ≡ o ∷ offered os
-first_counts xs o os e h = ap offered e ∙ ap (λ b. cond b (o ∷ offered os) (offered os)) h

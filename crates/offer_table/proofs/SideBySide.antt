@@ -1,5 +1,5 @@
 -- Two lists of offers, walked side by side.
-use Rattle.std.proofs.Common.{◌≡◌, ℕ, ◌+◌, ◌<◌, ◌≤◌, ◌==◌, ◌||◌, ◌&&◌, not, Bool, true, false, cond, List, [], ◌∷◌, ◌++◌, length, map, Some, None, refl, sym, ap, ◌∙◌, subst, arith, inl, inr}
+use Rattle.std.proofs.Common.{◌≡◌, ℕ, ◌+◌, ◌<◌, ◌≤◌, ◌||◌, ◌&&◌, not, Bool, true, false, cond, List, [], ◌∷◌, ◌++◌, length, map, Some, refl, sym, ap, ◌∙◌, subst, arith, inl, inr}
 use Rattle.std.specs.Prelude.{is_some, unwrap_or}
 use Rattle.std.specs.declared.cmp.Ordering.TheVariants.{Less}
 use Rattle.std.specs.List.{All, list_any}
@@ -12,7 +12,7 @@ use Rattle.std.proofs.lemmas.List.Elements.{All-head, All-tail, All-nil, All-con
 use Rattle.neg_codec.specs.declared.Id.{Id}
 use Rattle.sharing.specs.Sharing.{is_among}
 use Rattle.sharing.specs.Offers.{AreRelays, Ascend, IsOffers, id_cmp, is_id, beside, relays_of}
-use Rattle.sharing.proofs.Orders.{id_total, same_id, id_itself, id_apart, id_flips, head_sorted, tail_sorted, sorted_push, among_head, All-unmap}
+use Rattle.sharing.proofs.Orders.{id_total, same_id, id_itself, id_apart, head_sorted, tail_sorted, sorted_push, among_head, All-unmap}
 use Rattle.offer_table.specs.Table.{new_in}
 use Rattle.offer_table.specs.Entries.{has_some}
 use Rattle.offer_table.specs.Joined.{led, IsLeast}

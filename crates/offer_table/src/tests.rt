@@ -233,3 +233,19 @@ fn the_last_offer_takes_the_id_away(rt: HostRuntime) -> Result<(), Fail> {
     assert!(rt; table.reported().has(0));
     Ok(())
 }
+
+#[test]
+fn struck_ids_are_passed_over(rt: HostRuntime) -> Result<(), Fail> {
+    let mut table = report(rt.alloc(), 0, &[1, 2, 3, 4])?;
+    for number in [1, 3, 4] {
+        assert!(rt; table.strike(&numbered(number), 0)?);
+    }
+    let listed = table.ids().copied().collect::<Vec<Id>>(rt.alloc())?;
+    assert!(rt; listed.as_slice() == [numbered(2)].as_slice());
+    let both = merged(table, report(rt.alloc(), 1, &[1, 2])?)?;
+    assert_eq!(rt; both.ids().count(), 2);
+    assert_eq!(rt; both.groups(), 2);
+    assert!(rt; is_group(&both, 0, &[1], &[1]));
+    assert!(rt; is_group(&both, 1, &[0, 1], &[2]));
+    Ok(())
+}

@@ -1,4 +1,4 @@
-use Rattle.std.proofs.Common.{◌≡◌, ◌+◌, arith}
+use Rattle.std.proofs.Common.{arith}
 use Rattle.offer_table.proofs.SideBySide.{total_step}
 use Rattle.offer_table.proofs.joined.count_both.Goals as goal
 

@@ -1,4 +1,4 @@
-use Rattle.std.proofs.Common.{◌≡◌, ◌+◌, length}
+use Rattle.std.proofs.Common.{◌≡◌, ◌+◌}
 use Rattle.offer_table.proofs.SideBySide.{total}
 use Rattle.offer_table.proofs.joined.count_both.Given as goal
 

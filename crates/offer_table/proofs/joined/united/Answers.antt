@@ -1,4 +1,4 @@
-use Rattle.std.proofs.Common.{◌≡◌, ◌+◌, List, [], sym, ap, ◌∙◌, subst, arith}
+use Rattle.std.proofs.Common.{[], sym, subst, arith}
 use Rattle.offer_table.proofs.Runs.{Offers}
 use Rattle.offer_table.proofs.SideBySide.{Joining, joining_none, joining_step, joined_member, total_step}
 use Rattle.offer_table.proofs.joined.united.Goals as goal

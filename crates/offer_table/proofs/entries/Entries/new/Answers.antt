@@ -1,4 +1,4 @@
-use Rattle.std.proofs.Common.{sym, ap, subst, map}
+use Rattle.std.proofs.Common.{sym, subst, map}
 use Rattle.sharing.specs.Offers.{Ascend}
 use Rattle.offer_table.proofs.IdRows.{none_ascends}
 use Rattle.offer_table.proofs.Runs.{Offers, id_of}

@@ -1,14 +1,13 @@
 use Rattle.std.proofs.Common.{◌≡◌, ◌<◌, ◌==◌, ◌||◌, ◌≤◌, ◌++◌, ◌∷◌, [], ℕ, List, map, length, sym, ap, ◌∙◌, subst, arith}
 use Rattle.std.specs.Map.Iter.{deref}
-use Rattle.std.specs.BTreeMap.{insert_entry}
 use Rattle.sharing.specs.declared.TheConstants.{MOST_IDS}
 use Rattle.sharing.specs.Sharing.{is_among}
 use Rattle.offer_table.specs.Table.{Table, IsTable}
-use Rattle.std.proofs.lemmas.Map.Iter.{rest_more, rest_so_far, iter_end}
+use Rattle.std.proofs.lemmas.Map.Iter.{iter_end}
 use Rattle.std.proofs.lemmas.List.{map-append}
 use Rattle.neg_codec.specs.declared.Id.{Id}
-use Rattle.sharing.specs.Offers.{AreRelays, Ascend, id_cmp}
-use Rattle.offer_table.proofs.Tables.{each_with, each_with_more, ids-each_with, All-each_with, length-each_with, just_one}
+use Rattle.sharing.specs.Offers.{AreRelays, Ascend}
+use Rattle.offer_table.proofs.Tables.{each_with, ids-each_with, All-each_with, length-each_with, just_one}
 use Rattle.offer_table.proofs.table.OfferTable.of_report.Goals as goal
 
 pub loop-id-preserved : goal.loop-id-preserved

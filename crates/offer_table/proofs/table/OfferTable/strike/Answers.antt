@@ -1,6 +1,6 @@
-use Rattle.std.proofs.Common.{◌≡◌, ◌≢◌, ◌==◌, ◌&&◌, not, Bool, true, false, ℕ, List, [], ◌∷◌, cond, Some, None, refl, sym, ap, ◌∙◌, subst, inl, inr}
+use Rattle.std.proofs.Common.{◌≡◌, ◌==◌, ◌&&◌, not, Bool, true, ℕ, List, [], ◌∷◌, cond, Some, None, refl, sym, ap, ◌∙◌, subst}
 use Rattle.std.specs.Prelude.{is_some, unwrap_or}
-use Rattle.std.proofs.lemmas.Bool.{false≢true, cases_Bool}
+use Rattle.std.proofs.lemmas.Bool.{false≢true}
 use Rattle.neg_codec.specs.declared.Id.{Id}
 use Rattle.sharing.specs.Sharing.{is_among}
 use Rattle.sharing.specs.Offers.{AreRelays, relays_of, beside, is_id}
@@ -9,8 +9,6 @@ use Rattle.offer_table.specs.Relays.{bits_of}
 use Rattle.offer_table.specs.Rows.{ids_at, with_id, without_id}
 use Rattle.offer_table.specs.Entries.{has_some, IsChanged}
 use Rattle.offer_table.proofs.Runs.{Offers}
-use Rattle.offer_table.proofs.RowEdits.{Rows}
-use Rattle.offer_table.proofs.Pairs.{none_left}
 use Rattle.offer_table.proofs.Struck.{struck, changed_table, changed_beside, lesser}
 use Rattle.offer_table.proofs.Tables.{strike_none, strike_step, offered_there}
 use Rattle.offer_table.proofs.table.OfferTable.strike.Goals as goal
