@@ -8,6 +8,7 @@ ghost use Rattle.plan_check.specs.TextLines.{ended};
 ghost use Rattle.plan_run.specs.declared.lines.TheConstants.{LONGEST_LINE};
 ghost use Rattle.plan_check.specs.PlanText.{relay_text, relays_text, offer_line, give_line, group_line};
 
+use id_text::digits_of;
 use neg_codec::Id;
 
 /// The most bytes of a line: that of an id which all relays offer.
@@ -32,11 +33,7 @@ fn set_id(line: &mut [u8], at: usize, id: &Id) -> usize
     ensures end { result ≡ at + 64 }
     ensures room { length line.new ≡ length line.old }
 {
-    let end = at + 64;
-    let Ok(()) = hex::encode_to_slice(id.0, &mut line[at..end]) else {
-        unreachable!();
-    };
-    end
+    set_word(line, at, &digits_of(id))
 }
 
 /// Sets a space and a relay from a place on.
