@@ -1,6 +1,8 @@
 //! The order of ids.
 
 ghost use Rattle.std.specs.Prelude.{◌≡◌, take};
+ghost use Rattle.std.specs.Ordering.{nat_cmp};
+ghost use Rattle.std.specs.Cmp.Lexicographic.{slice_cmp};
 ghost use Rattle.neg_codec.specs.Keys.{number_of_bytes};
 
 use crate::Id;
@@ -8,6 +10,7 @@ use crate::items::is_whole;
 use std::cmp::Ordering;
 
 /// The first eight bytes of an id as a number, the first byte the highest.
+#[inline(always)]
 fn first_word(id: &Id) -> u64
     ensures { result ≡ number_of_bytes (take 8 id.now.0) }
 {
@@ -15,6 +18,14 @@ fn first_word(id: &Id) -> u64
     u64::from_be_bytes([
         bytes[0], bytes[1], bytes[2], bytes[3], bytes[4], bytes[5], bytes[6], bytes[7],
     ])
+}
+
+/// Compares all bytes in turn.
+#[inline(never)]
+fn compare_bytes(id: &Id, other: &Id) -> Ordering
+    ensures { result ≡ slice_cmp nat_cmp id.now.0 other.now.0 }
+{
+    id.0.cmp(&other.0)
 }
 
 /// Byte by byte. The first eight are compared as one number, which tells most ids apart.
@@ -33,11 +44,12 @@ impl Ord for Id {
 
     ghost matches_eq = { λ a b. texts_ties a.0 b.0 };
 
+    #[inline(always)]
     fn cmp(&self, other: &Id) -> Ordering {
         is_whole(&self.0);
         is_whole(&other.0);
         match first_word(self).cmp(&first_word(other)) {
-            Ordering::Equal => self.0.cmp(&other.0),
+            Ordering::Equal => compare_bytes(self, other),
             order => order,
         }
     }
