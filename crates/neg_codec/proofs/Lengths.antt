@@ -1,16 +1,16 @@
 -- How many bytes the parts of a message take.
-use Rattle.std.proofs.Common.{◌≡◌, ℕ, zero, suc, ◌+◌, ◌*◌, ◌/◌, ◌%◌, ◌^◌, ◌<◌, ◌≤◌, ◌-◌, inl, inr, Bool, true, false, cond, eqb, List, [], ◌∷◌, ◌++◌, length, refl, sym, ap, ◌∙◌, arith}
+use Rattle.std.proofs.Common.{◌≡◌, ℕ, zero, suc, ◌+◌, ◌*◌, ◌/◌, ◌%◌, ◌^◌, ◌<◌, ◌≤◌, ◌-◌, inl, inr, Bool, true, false, cond, eqb, List, [], ◌∷◌, ◌++◌, length, refl, ap, ◌∙◌, arith}
 use Rattle.std.specs.Prelude.{All}
 use Rattle.std.specs.List.{flat_map}
 use Rattle.std.proofs.Math.Nat.{pow-suc}
-use Rattle.std.proofs.lemmas.Bool.{lt-ltb, eqb-true}
+use Rattle.std.proofs.lemmas.Bool.{lt-ltb}
 use Rattle.std.proofs.lemmas.List.{length-append, length-take}
 use Rattle.std.proofs.lemmas.List.Elements.{All-head, All-tail}
 use Rattle.neg_varint.specs.Spelling.{marked_digits, spelling}
 use Rattle.neg_codec.specs.declared.Id.{Id}
 use Rattle.neg_codec.specs.declared.Item.{Item}
 use Rattle.neg_codec.specs.Keys.{endless, infinity, IsId}
-use Rattle.neg_codec.specs.Ranges.{Claim, skip, print, ids, Span, IsEdge, IsClaim}
+use Rattle.neg_codec.specs.Ranges.{skip, print, ids, Span, IsEdge}
 use Rattle.neg_codec.specs.Encoding.{length_kept, bytes_kept, bound_text, claim_text, range_text, ranges_text, text_of, IsShort}
 use Rattle.neg_codec.proofs.Writes.{kept}
 

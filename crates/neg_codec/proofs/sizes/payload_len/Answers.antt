@@ -1,4 +1,4 @@
-use Rattle.std.proofs.Common.{rules, ◌≡◌, ℕ, ◌+◌, ◌*◌, ◌<◌, List, ap, subst, sym, ◌∙◌, length, arith}
+use Rattle.std.proofs.Common.{rules, ◌≡◌, ℕ, List, ap, subst, sym, ◌∙◌, length, arith}
 use Rattle.std.specs.Prelude.{All}
 use Rattle.neg_varint.specs.Spelling.{spelling}
 use Rattle.neg_codec.specs.declared.Id.{Id}

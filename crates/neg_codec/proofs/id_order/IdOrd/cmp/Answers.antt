@@ -1,4 +1,4 @@
-use Rattle.std.proofs.Common.{◌≡◌, ap, ◌∙◌}
+use Rattle.std.proofs.Common.{ap, ◌∙◌}
 use Rattle.std.specs.Ordering.{nat_cmp}
 use Rattle.neg_codec.proofs.Words.{by_words}
 use Rattle.neg_codec.proofs.id_order.IdOrd.cmp.Goals as goal
