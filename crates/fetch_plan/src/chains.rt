@@ -85,7 +85,8 @@ fn add_from(
     steps: &mut Vec<Step>,
     marked: &mut [bool; SLOTS],
 ) -> Result<(), AllocError>
-    requires groups { AreGroups groups.now }
+    requires some { 0 < level.now.some }
+    requires given { AreGiven groups.now }
     requires large { AreLarge level.now.some groups.now level.now.places.items }
     requires sets { AreSets groups.now sets.now }
     requires next { next < length steps.old.items }
@@ -100,7 +101,8 @@ fn add_from(
     let relay = steps[next].relay;
     let mut others = unmarked(marked);
     for place in &level.places {
-        if sets[*place].meets(others) && groups[*place].given.get(relay) >= level.some {
+        let set = sets[*place];
+        if set.has(relay) && set.meets(others) && groups[*place].given.get(relay) >= level.some {
             let link = Link {
                 parent: next,
                 place: *place,
@@ -163,7 +165,8 @@ fn search(
     steps: &mut Vec<Step>,
     marked: &mut [bool; SLOTS],
 ) -> Result<Option<usize>, AllocError>
-    requires groups { AreGroups groups.now }
+    requires some { 0 < level.now.some }
+    requires given { AreGiven groups.now }
     requires large { AreLarge level.now.some groups.now level.now.places.items }
     requires sets { AreSets groups.now sets.now }
     requires bound { (r : ℕ) → r < RELAYS → slice_index loads.now r ≤ most }

@@ -93,6 +93,6 @@ pub(crate) fn hand_out(
     ensures handed { IfOk result (λ shares. AreHanded groups.now shares.items) }
 {
     let mut shares = deal_all(alloc, table, groups)?;
-    shares.sort_unstable_by(|a, b| a.id.cmp(&b.id));
+    shares.sort_by(|a, b| a.id.cmp(&b.id))?;
     Ok(shares)
 }

@@ -31,5 +31,5 @@ loop-next-preserved c =
           (let all : RELAYS ≤ length c.loop-next.steps.items = omega (arith, w.if-len-lt-SLOTS.false) in
           rw (w.steps-is, w.marked-is)
           (searching_step _ _ _ _ _ _ _ _ _ _ next inv lt high inv.trail inv.marks (extends_refl _) (λ r m. m)
-          (all_closed _ c.args.groups.now (length c.args.groups.now) _ c.loop-next.steps.items _ c.requires.groups (omega arith) inv.marks all)))
+          (all_closed _ c.args.groups.now (length c.args.groups.now) _ c.loop-next.steps.items _ c.requires.given.groups_ok (omega arith) inv.marks all)))
     ]
