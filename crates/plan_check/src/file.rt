@@ -64,7 +64,7 @@ impl PlanFile {
         PlanFile::in_order(first, offers, gives, group)
     }
 
-    /// The file of these lists, whose lines are of the form, by the first offer that is out of order.
+    /// The file of these lists, whose lines are of the form, where the first offer that is out of order is known.
     fn in_order(
         first: Option<usize>,
         offers: Vec<(Id, Vec<u16>)>,
@@ -120,7 +120,7 @@ impl PlanFile {
     }
 }
 
-/// The place of the first line that is not of the form, by that of the first such offer.
+/// The place of the first line that is not of the form, where that of the first such offer is known.
 fn malformed(
     first: Option<usize>,
     offers: &Vec<(Id, Vec<u16>)>,
@@ -143,7 +143,7 @@ fn malformed(
     }
 }
 
-/// The place of the first line that is out of order, by that of the first such offer.
+/// The place of the first line that is out of order, where that of the first such offer is known.
 fn misplaced(
     first: Option<usize>,
     offers: &Vec<(Id, Vec<u16>)>,
