@@ -5,6 +5,7 @@ pub mod Judged
 pub mod Spans
 pub mod LineLemmas
 pub mod RelayLemmas
+pub mod Digits
 pub mod IdLemmas
 pub mod KindLemmas
 pub mod FormLemmas

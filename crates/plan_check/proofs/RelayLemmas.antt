@@ -59,17 +59,6 @@ pub some_text : (relays : List ℕ) → 0 < length relays → 0 < length (relays
 some_text [] some = absurd (omega arith)
 some_text (r ∷ rs) some = omega arith
 
--- a relay is written with one digit, or with two
-pub one_digit : (start : List ℕ) (r : ℕ) → r < 10 → (start ++ 32 ∷ []) ++ (48 + r % 10) ∷ [] ≡ start ++ relay_text r
-one_digit start r small =
-    let same : r % 10 ≡ r = omega arith in
-    append_assoc start (32 ∷ []) ((48 + r % 10) ∷ []) ∙ ap (λ n. start ++ 32 ∷ (48 + n) ∷ []) same ∙ ap (λ t. start ++ 32 ∷ t) (sym (decimal_digit r small))
-
-pub two_digits : (start : List ℕ) (r : ℕ) → 10 ≤ r → r < RELAYS → ((start ++ 32 ∷ []) ++ (48 + r / 10) ∷ []) ++ (48 + r % 10) ∷ [] ≡ start ++ relay_text r
-two_digits start r large small =
-    let digits : decimal r ≡ (48 + r / 10) ∷ (48 + r % 10) ∷ [] = decimal_step r large (relay_small r small) ∙ ap (λ t. t ++ (48 + r % 10) ∷ []) (decimal_digit (r / 10) (omega arith)) in
-    append_assoc (start ++ 32 ∷ []) ((48 + r / 10) ∷ []) ((48 + r % 10) ∷ []) ∙ append_assoc start (32 ∷ []) ((48 + r / 10) ∷ (48 + r % 10) ∷ []) ∙ ap (λ t. start ++ 32 ∷ t) (sym digits)
-
 -- ---- the digits at the front of a text
 pub digits_front : (r : ℕ) (rest : List ℕ) → r < RELAYS
     → ((r < 10) × (decimal r ++ rest ≡ (48 + r) ∷ rest)) ⊎ ((10 ≤ r) × (decimal r ++ rest ≡ (48 + r / 10) ∷ (48 + r % 10) ∷ rest))

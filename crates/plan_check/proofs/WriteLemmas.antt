@@ -1,5 +1,5 @@
 -- What is written, part by part.
-use Rattle.std.proofs.Common.{◌≡◌, ℕ, ◌+◌, ◌<◌, List, [], ◌∷◌, ◌++◌, length, take, get_or, map, flat_map, codes, refl, ap, sym, ◌∙◌, subst, append_assoc}
+use Rattle.std.proofs.Common.{◌≡◌, ℕ, ◌+◌, ◌<◌, List, [], ◌∷◌, ◌++◌, length, take, get_or, map, flat_map, refl, ap, sym, ◌∙◌, subst, append_assoc}
 use Rattle.std.specs.List.{All}
 use Rattle.std.specs.Global.{Vec}
 use Rattle.std.proofs.lemmas.Grind.{flat_map-append}
@@ -9,7 +9,7 @@ use Rattle.neg_codec.specs.declared.Id.{Id}
 use Rattle.neg_codec.specs.Keys.{IsId}
 use Rattle.plan_check.specs.File.{File, IsFile, pairs_of}
 use Rattle.plan_check.specs.TextLines.{ended}
-use Rattle.plan_check.specs.PlanText.{header_line, relays_text, plan_text, IsOfForm, IsTextOf}
+use Rattle.plan_check.specs.PlanText.{header_line, plan_text, IsOfForm, IsTextOf}
 use Rattle.plan_check.proofs.FormLemmas.{offered, given, grouped, plan_lines-is}
 use Rattle.plan_check.proofs.TextLemmas.{joined, plan_text-is}
 
@@ -39,14 +39,11 @@ plan_text-parts file =
     flat_map-append id (map offered file.offers) (map given file.gives ++ grouped file.group ∷ []) ∙ ap (λ t. t ++ joined (map given file.gives ++ grouped file.group ∷ [])) (flat_map-map id offered file.offers) ∙ ap (λ t. flat_map offered file.offers ++ t) last in
     plan_text-is file ∙ ap joined (plan_lines-is file) ∙ ap (λ t. ended header_line ++ t) body
 
-pub whole_text : (file : File) (t0 t1 t2 t3 t4 t5 : List ℕ) → t0 ≡ ended header_line → t1 ≡ t0 ++ flat_map offered file.offers → t2 ≡ t1 ++ flat_map given file.gives
-    → t3 ≡ t2 ++ codes "group" → t4 ≡ t3 ++ relays_text file.group → t5 ≡ t4 ++ 10 ∷ [] → t5 ≡ plan_text file
-whole_text file t0 t1 t2 t3 t4 t5 e0 e1 e2 e3 e4 e5 =
+pub whole_text : (file : File) (t0 t1 t2 t3 : List ℕ) → t0 ≡ ended header_line → t1 ≡ t0 ++ flat_map offered file.offers → t2 ≡ t1 ++ flat_map given file.gives → t3 ≡ t2 ++ grouped file.group → t3 ≡ plan_text file
+whole_text file t0 t1 t2 t3 e0 e1 e2 e3 =
     let os = flat_map offered file.offers in
     let gs = flat_map given file.gives in
-    let last : t5 ≡ t2 ++ grouped file.group =
-    e5 ∙ ap (λ t. t ++ 10 ∷ []) (e4 ∙ ap (λ t. t ++ relays_text file.group) e3 ∙ append_assoc t2 (codes "group") (relays_text file.group)) ∙ append_assoc t2 (codes "group" ++ relays_text file.group) (10 ∷ []) in
-    last ∙ ap (λ t. t ++ grouped file.group) (e2 ∙ ap (λ t. t ++ gs) (e1 ∙ ap (λ t. t ++ os) e0))
+    e3 ∙ ap (λ t. t ++ grouped file.group) (e2 ∙ ap (λ t. t ++ gs) (e1 ∙ ap (λ t. t ++ os) e0))
     ∙ append_assoc (ended header_line ++ os) gs (grouped file.group) ∙ append_assoc (ended header_line) os (gs ++ grouped file.group) ∙ sym (plan_text-parts file)
 
 -- a plan file whose ids are ids

@@ -4,6 +4,7 @@
 mod faults;
 mod file;
 mod laws;
+mod lines;
 mod order;
 mod reading;
 mod records;
@@ -15,6 +16,7 @@ mod writing;
 pub use faults::PlanFault;
 pub use file::PlanFile;
 pub use laws::{one_answer, one_fault, one_file, round_trip};
+pub use lines::{LONGEST_LINE, set_give, set_group, set_offer};
 pub use reading::read_plan;
 pub use verdict::check;
 pub use writing::write_plan;

@@ -32,7 +32,7 @@ pub(crate) fn do_rise(relays: &[u16]) -> bool
 }
 
 /// The place of the first offer that has no relay, or a number that is no relay.
-pub(crate) fn malformed_offer(offers: &[(Id, Vec<u16>)]) -> Option<usize>
+fn malformed_offer(offers: &[(Id, Vec<u16>)]) -> Option<usize>
     ensures { result ≡ first_at (λ o. is_empty o.1.items || not (are_relays o.1.items)) 0 offers.now }
 {
     for (place, offer) in offers.iter().enumerate() {
@@ -41,6 +41,36 @@ pub(crate) fn malformed_offer(offers: &[(Id, Vec<u16>)]) -> Option<usize>
         }
     }
     None
+}
+
+/// Whether all offers are of the form and in order.
+fn are_fine(offers: &[(Id, Vec<u16>)]) -> bool
+    ensures formed { result ≡ true → first_at (λ o. is_empty o.1.items || not (are_relays o.1.items)) 0 offers.now ≡ None }
+    ensures placed { result ≡ true → first_out (λ o. o.0) (λ o. rises o.1.items) None 0 offers.now ≡ None }
+{
+    let mut before = None;
+    for offer in offers {
+        if offer.1.is_empty() || !are_all_relays(&offer.1) {
+            return false;
+        }
+        if !comes_behind(before, offer.0) || !do_rise(&offer.1) {
+            return false;
+        }
+        before = Some(offer.0);
+    }
+    true
+}
+
+/// The place of the first offer that is not of the form, and that of the first that is out of order.
+pub(crate) fn faulty_offers(offers: &[(Id, Vec<u16>)]) -> (Option<usize>, Option<usize>)
+    ensures formed { result.0 ≡ first_at (λ o. is_empty o.1.items || not (are_relays o.1.items)) 0 offers.now }
+    ensures placed { result.1 ≡ first_out (λ o. o.0) (λ o. rises o.1.items) None 0 offers.now }
+{
+    if are_fine(offers) {
+        (None, None)
+    } else {
+        (malformed_offer(offers), misplaced_offer(offers))
+    }
 }
 
 /// The place of the first give to a number that is no relay.

@@ -1,6 +1,8 @@
 //! Plan texts: worked examples, and texts that are refused.
 
-use crate::{PlanFault, PlanFile, check, read_plan, write_plan};
+use crate::{
+    LONGEST_LINE, PlanFault, PlanFile, check, read_plan, set_give, set_group, set_offer, write_plan,
+};
 use neg_codec::Id;
 use std::alloc::{AllocError, Global};
 use std::test::Fail;
@@ -211,5 +213,23 @@ fn a_made_file_is_written(rt: HostRuntime) -> Result<(), Fail> {
         text.as_str()
             == "nostr-plan 1\noffer abababababababababababababababababababababababababababababababab 3 40\ngroup\n"
     );
+    Ok(())
+}
+
+#[test]
+fn lines_are_set_over_others(rt: HostRuntime) -> Result<(), Fail> {
+    let alloc = rt.alloc();
+    let text = text_of(alloc, "nostr-plan 1\ngroup 0 9 10 63\n")?;
+    let file = read_plan(alloc, text.as_str()).ok().ok_or("not read")?;
+    let offer = text_of(alloc, "offer A 0 9 10 63\n")?;
+    let give = text_of(alloc, "give A 7\n")?;
+    let id = Id([0x0a; 32]);
+    let mut line = [b'x'; LONGEST_LINE];
+    let end = set_offer(&mut line, &id, file.group());
+    assert_eq!(rt; &line[..end], offer.as_str().as_bytes());
+    let end = set_give(&mut line, &id, 7);
+    assert_eq!(rt; &line[..end], give.as_str().as_bytes());
+    let end = set_group(&mut line, file.group());
+    assert_eq!(rt; &line[..end], b"group 0 9 10 63\n".as_slice());
     Ok(())
 }

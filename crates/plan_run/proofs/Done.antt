@@ -10,7 +10,8 @@ use Rattle.plan_check.specs.File.{File, IsFile}
 use Rattle.plan_check.specs.PlanText.{plan_text, IsTextOf}
 use Rattle.plan_run.specs.Planned.{IsPlannedFrom}
 use Rattle.plan_run.specs.Jobs.{IsPlanWritten}
-use Rattle.plan_run.proofs.Spelled.{spelled_from, utf8_of}
+use Rattle.plan_check.proofs.Ascii.{text_utf8}
+use Rattle.plan_run.proofs.Spelled.{spelled_from}
 
 -- the file of a plan's gives and group
 pub planned_from : (read made : File) (offers : List (Id × List ℕ)) (plan : Planned) → offers ≡ read.offers → made ≡ record { offers = read.offers; gives = plan.gives; group = plan.group } → IsPlanOf offers plan → IsPlannedFrom read made
@@ -35,6 +36,6 @@ plan_written (Ok u) (Some input) old new read made told planned ok written =
     let spelled : IsTextOf (plan_text made) made = spelled_from read made told.form planned ok in
     record {
       text = plan_text made;
-      plans = record { read = read; made = made; told = told; planned = planned; spelled = spelled; utf8 = utf8_of made spelled.form };
+      plans = record { read = read; made = made; told = told; planned = planned; spelled = spelled; utf8 = text_utf8 (plan_text made) made spelled };
       written = written;
     }

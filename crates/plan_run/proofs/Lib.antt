@@ -1,5 +1,4 @@
 pub mod Gathered
-pub mod Digits
 pub mod Written
 pub mod Spelled
 pub mod Done

@@ -3,7 +3,6 @@
 
 mod checking;
 mod laws;
-mod lines;
 mod parts;
 mod planning;
 mod printing;

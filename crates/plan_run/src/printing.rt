@@ -10,11 +10,10 @@ ghost use Rattle.plan_check.specs.File.{IsFile, pairs_of};
 ghost use Rattle.plan_check.specs.TextLines.{ended};
 ghost use Rattle.plan_check.specs.PlanText.{offer_line, give_line, group_line, plan_text};
 
-use crate::lines::{LONGEST_LINE, set_give, set_group, set_offer};
 use mirror_run::Refusal;
 use mirror_run::waiting::{put, send};
 use neg_codec::Id;
-use plan_check::PlanFile;
+use plan_check::{LONGEST_LINE, PlanFile, set_give, set_group, set_offer};
 use std::alloc::Global;
 use std::io;
 use std::io::Write;

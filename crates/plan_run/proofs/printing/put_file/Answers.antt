@@ -3,9 +3,9 @@ use Rattle.std.specs.List.{All}
 use Rattle.std.proofs.lemmas.Result.{on_ok_weaker}
 use Rattle.neg_codec.specs.declared.Id.{Id}
 use Rattle.sharing.specs.Offers.{AreRelays}
-use Rattle.plan_check.specs.TextLines.{ended}
-use Rattle.plan_check.specs.PlanText.{group_line}
-use Rattle.plan_run.proofs.Written.{Appends-both, Appends-same, offered, given, plan_text-parts}
+use Rattle.plan_check.proofs.FormLemmas.{offered, given, grouped}
+use Rattle.plan_check.proofs.WriteLemmas.{plan_text-parts}
+use Rattle.plan_run.proofs.Written.{Appends-both, Appends-same}
 use Rattle.plan_run.proofs.printing.put_file.Goals as goal
 
 pub put_offers-requires : goal.put_offers-requires
@@ -17,6 +17,6 @@ returns-clause-text g c =
     let gives = Appends-same _ _ _ _ (ap (flat_map given) c.gives.ensures.value) c.in_ok-put_gives.ensures in
     on_ok_weaker c.put_group.result
     (λ last.
-    let group = Appends-same _ _ _ _ (ap (λ rs. ended (group_line rs)) c.group.ensures.value) last in
+    let group = Appends-same _ _ _ _ (ap grouped c.group.ensures.value) last in
     Appends-same _ _ _ _ (sym (plan_text-parts c.args.file.now)) (Appends-both _ _ _ _ _ c.in_ok-put.ensures (Appends-both _ _ _ _ _ offers (Appends-both _ _ _ _ _ gives group))))
     c.put_group.ensures

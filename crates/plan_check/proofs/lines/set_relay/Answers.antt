@@ -1,5 +1,5 @@
-use Rattle.plan_run.proofs.Digits.{one_digit_set, two_digits_set}
-use Rattle.plan_run.proofs.lines.set_relay.Goals as goal
+use Rattle.plan_check.proofs.Digits.{one_digit_set, two_digits_set}
+use Rattle.plan_check.proofs.lines.set_relay.Goals as goal
 
 pub returns-then-number-lt10-clause-text : goal.returns-then-number-lt10-clause-text
 returns-then-number-lt10-clause-text c = one_digit_set c.args.line.now c.args.at c.args.relay c.requires.room c.if-number-lt10.true

@@ -1,18 +1,19 @@
-//! Lines of a plan text, put together in memory that was lent.
+//! The lines of a plan text, put together in memory that was lent.
 
 ghost use Rattle.std.specs.Prelude.{◌≡◌, ◌≤◌, ◌<◌, ◌+◌, ◌*◌, ◌++◌, All, length, take};
 ghost use Rattle.hex.specs.Hex.{encode_lower};
+ghost use Rattle.neg_codec.specs.Keys.{IsId};
 ghost use Rattle.sharing.specs.declared.TheConstants.{RELAYS};
 ghost use Rattle.sharing.specs.Offers.{AreRelays};
 ghost use Rattle.plan_check.specs.TextLines.{ended};
-ghost use Rattle.plan_run.specs.declared.lines.TheConstants.{LONGEST_LINE};
 ghost use Rattle.plan_check.specs.PlanText.{relay_text, relays_text, offer_line, give_line, group_line};
+ghost use Rattle.plan_check.specs.declared.lines.TheConstants.{LONGEST_LINE};
 
 use id_text::digits_of;
 use neg_codec::Id;
 
-/// The most bytes of a line: that of an id which all relays offer.
-pub(crate) const LONGEST_LINE: usize = 263;
+/// Bytes that are enough for each line: for that of an id which all relays offer, with three bytes for each relay.
+pub const LONGEST_LINE: usize = 263;
 
 /// Sets bytes from a place on, and answers the place behind them.
 fn set_word(line: &mut [u8], at: usize, word: &[u8]) -> usize
@@ -32,6 +33,7 @@ fn set_id(line: &mut [u8], at: usize, id: &Id) -> usize
     ensures text { take result line.new ≡ take at line.old ++ encode_lower id.now.0 }
     ensures end { result ≡ at + 64 }
     ensures room { length line.new ≡ length line.old }
+    ensures id { IsId id.now }
 {
     set_word(line, at, &digits_of(id))
 }
@@ -72,12 +74,13 @@ fn set_relays(line: &mut [u8], at: usize, relays: &[u16]) -> usize
 }
 
 /// Sets the line of an offer, and answers where it ends.
-pub(crate) fn set_offer(line: &mut [u8], id: &Id, relays: &[u16]) -> usize
+pub fn set_offer(line: &mut [u8], id: &Id, relays: &[u16]) -> usize
     requires relays { AreRelays relays.now }
     requires room { LONGEST_LINE ≤ length line.old }
     ensures text { take result line.new ≡ ended (offer_line (id.now, relays.now)) }
     ensures end { result ≤ length line.new }
     ensures room { length line.new ≡ length line.old }
+    ensures id { IsId id.now }
 {
     let word = set_word(line, 0, b"offer ");
     let name = set_id(line, word, id);
@@ -86,12 +89,13 @@ pub(crate) fn set_offer(line: &mut [u8], id: &Id, relays: &[u16]) -> usize
 }
 
 /// Sets the line of a give, and answers where it ends.
-pub(crate) fn set_give(line: &mut [u8], id: &Id, relay: u16) -> usize
+pub fn set_give(line: &mut [u8], id: &Id, relay: u16) -> usize
     requires relay { relay < RELAYS }
     requires room { LONGEST_LINE ≤ length line.old }
     ensures text { take result line.new ≡ ended (give_line (id.now, relay)) }
     ensures end { result ≤ length line.new }
     ensures room { length line.new ≡ length line.old }
+    ensures id { IsId id.now }
 {
     let word = set_word(line, 0, b"give ");
     let name = set_id(line, word, id);
@@ -100,7 +104,7 @@ pub(crate) fn set_give(line: &mut [u8], id: &Id, relay: u16) -> usize
 }
 
 /// Sets the line of a group, and answers where it ends.
-pub(crate) fn set_group(line: &mut [u8], relays: &[u16]) -> usize
+pub fn set_group(line: &mut [u8], relays: &[u16]) -> usize
     requires relays { AreRelays relays.now }
     requires room { LONGEST_LINE ≤ length line.old }
     ensures text { take result line.new ≡ ended (group_line relays.now) }

@@ -1,6 +1,6 @@
 use Rattle.std.proofs.Common.{arith}
-use Rattle.plan_run.proofs.Digits.{relays_more}
-use Rattle.plan_run.proofs.lines.set_relays.Goals as goal
+use Rattle.plan_check.proofs.Digits.{relays_more}
+use Rattle.plan_check.proofs.lines.set_relays.Goals as goal
 
 pub loop-relay-preserved : goal.loop-relay-preserved
 loop-relay-preserved c = record {

@@ -1,6 +1,6 @@
 use Rattle.std.proofs.Common.{◌≡◌, ◌+◌, ◌*◌, ◌≤◌, ◌++◌, length, take}
 use Rattle.plan_check.specs.PlanText.{relays_text}
-use Rattle.plan_run.proofs.lines.set_relays.Given as goal
+use Rattle.plan_check.proofs.lines.set_relays.Given as goal
 
 abbrev pub invariant-loop-relay : goal.invariant-loop-relay
 invariant-loop-relay l = record {
