@@ -67,7 +67,7 @@ module _ {K J : Type 0} (key : K → J) (R : J → J → Ordering) (o : IsTotalO
       searchable_from_sorted o key xs x (λ k d low high.
       ap is_lt (flipped (key (get_or xs k d)) (key (get_or xs (k + 1) d)) Less Greater (Less-from_sorted (by_key key R) xs k (k + 1) d s (omega arith) high) refl))
 
-  hit : (xs : List K) (x : J) (i : ℕ) (d : K) → IsStrictlySortedBy (by_key key R) xs → i < length xs → ((d : K) → R (key (get_or xs i d)) x ≡ Equal) → IsHit key R xs x i
+  pub hit : (xs : List K) (x : J) (i : ℕ) (d : K) → IsStrictlySortedBy (by_key key R) xs → i < length xs → ((d : K) → R (key (get_or xs i d)) x ≡ Equal) → IsHit key R xs x i
   hit xs x i d s lt same =
       let y : K = get_or xs i d in
       let cut : IsStrictlySortedBy (by_key key R) (take i xs ++ y ∷ drop (suc i) xs) = subst (IsStrictlySortedBy (by_key key R)) (cut_at xs i d lt) s in

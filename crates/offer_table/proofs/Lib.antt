@@ -11,3 +11,5 @@ pub mod Grouped
 pub mod Partition
 pub mod Pairs
 pub mod SideBySide
+pub mod Chunked
+pub mod Searches

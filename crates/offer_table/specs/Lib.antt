@@ -7,3 +7,4 @@ pub mod Rows
 pub mod Places
 pub mod Entries
 pub mod Joined
+pub mod Chunks

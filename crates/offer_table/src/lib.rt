@@ -1,6 +1,7 @@
 //! Who offers what: tables of ids, each with the set of relays that offer it.
 #![tactic(auto)]
 
+mod chunks;
 mod entries;
 mod faults;
 mod groups;

@@ -129,7 +129,7 @@ impl OfferTable {
     /// Takes one offer away, and the id with its last offer. False where there was none.
     ///
     /// Beside two searches in the ids it moves the ids that stand behind this one in its old group and in its
-    /// new one, 32 bytes each, and, where a group comes or goes, the list of groups behind it. The first id of
+    /// new one, 32 bytes each, and, where a group comes or goes, some hundred groups behind it. The first id of
     /// a group leaves, and the last one of a group comes, without a move: ids in ascending order are quick.
     pub fn strike(&mut self, id: &Id, relay: u16) -> Result<bool, AllocError>
         ensures found { IfOk result (λ b. b ≡ is_among (relays_of self.old.offers id.now) relay) }

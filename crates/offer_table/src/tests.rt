@@ -249,3 +249,86 @@ fn struck_ids_are_passed_over(rt: HostRuntime) -> Result<(), Fail> {
     assert!(rt; is_group(&both, 1, &[0, 1], &[2]));
     Ok(())
 }
+
+/// Ids 0 to 5,999, which relays 0 and 1 offer, and two each those that half the id counts as a number from relay 2 on.
+fn many_groups(alloc: Global) -> Result<OfferTable, Fail> {
+    let mut table = OfferTable::empty(alloc);
+    for relay in 0..14u16 {
+        let mut ids = BTreeSet::new(alloc);
+        for k in 0..6_000u32 {
+            if (((k / 2) * 4 + 3) >> relay) & 1 == 1 {
+                ids.insert(numbered(k))?;
+            }
+        }
+        table = merged(table, table_of(alloc, relay, &ids)?)?;
+    }
+    Ok(table)
+}
+
+/// Whether a group has the set with this number, and the ids of just these numbers.
+fn is_numbered(table: &OfferTable, k: usize, number: u64, numbers: &[u32]) -> bool {
+    if k >= table.groups() {
+        return false;
+    }
+    let (set, ids) = table.group_at(k);
+    set.number() == number
+        && ids.len() == numbers.len()
+        && ids
+            .iter()
+            .zip(numbers)
+            .all(|(id, number)| *id == numbered(*number))
+}
+
+#[test]
+fn thousands_of_groups_come_and_go(rt: HostRuntime) -> Result<(), Fail> {
+    let mut table = many_groups(rt.alloc())?;
+    assert_eq!(rt; table.groups(), 3_000);
+    for k in 0..3_000u32 {
+        assert!(rt;
+            is_numbered(&table, k as usize, k as u64 * 4 + 3, &[2 * k, 2 * k + 1]),
+            "at {k}"
+        );
+    }
+    for k in (0..3_000u32).rev() {
+        assert!(rt; table.strike(&numbered(2 * k), 0)?);
+    }
+    assert_eq!(rt; table.groups(), 6_000);
+    for k in 0..3_000u32 {
+        let at = 2 * k as usize;
+        assert!(rt;
+            is_numbered(&table, at, k as u64 * 4 + 2, &[2 * k]),
+            "at {k}"
+        );
+        assert!(rt;
+            is_numbered(&table, at + 1, k as u64 * 4 + 3, &[2 * k + 1]),
+            "at {k}"
+        );
+    }
+    for k in 0..3_000u32 {
+        assert!(rt; table.strike(&numbered(2 * k + 1), 1)?);
+    }
+    assert_eq!(rt; table.groups(), 6_000);
+    for k in 0..3_000u32 {
+        let at = 2 * k as usize;
+        assert!(rt;
+            is_numbered(&table, at, k as u64 * 4 + 1, &[2 * k + 1]),
+            "at {k}"
+        );
+        assert!(rt;
+            is_numbered(&table, at + 1, k as u64 * 4 + 2, &[2 * k]),
+            "at {k}"
+        );
+    }
+    for k in 0..3_000u32 {
+        assert!(rt; table.strike(&numbered(2 * k), 1)?);
+        assert!(rt; table.strike(&numbered(2 * k + 1), 0)?);
+    }
+    assert_eq!(rt; table.groups(), 2_999);
+    for k in 1..3_000u32 {
+        assert!(rt;
+            is_numbered(&table, k as usize - 1, k as u64 * 4, &[2 * k, 2 * k + 1]),
+            "at {k}"
+        );
+    }
+    Ok(())
+}
