@@ -330,5 +330,11 @@ fn thousands_of_groups_come_and_go(rt: HostRuntime) -> Result<(), Fail> {
             "at {k}"
         );
     }
+    for relay in 2..14u16 {
+        for k in 0..6_000u32 {
+            table.strike(&numbered(k), relay)?;
+        }
+    }
+    assert_eq!(rt; (table.groups(), table.ids().count()), (0, 0));
     Ok(())
 }
