@@ -13,7 +13,7 @@ use std::alloc::{AllocError, Global};
 use std::marker::Model;
 
 /// As many rows as a chunk takes before it hands some on to the next.
-const MOST: usize = 1024;
+const MOST: usize = 2048;
 
 /// A list of rows in short chunks, so that a row that comes or goes moves few of the others.
 #[derive(Drop)]
