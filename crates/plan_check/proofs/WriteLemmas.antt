@@ -1,17 +1,18 @@
 -- What is written, part by part.
-use Rattle.std.proofs.Common.{◌≡◌, ℕ, ◌+◌, ◌<◌, List, [], ◌∷◌, ◌++◌, length, take, get_or, map, flat_map, refl, ap, sym, ◌∙◌, subst, append_assoc}
+use Rattle.std.proofs.Common.{◌≡◌, ℕ, ◌+◌, ◌-◌, ◌≤◌, ◌<◌, List, [], ◌∷◌, ◌++◌, length, take, get_or, map, flat_map, refl, ap, sym, ◌∙◌, subst, arith, append_assoc, length-append}
 use Rattle.std.specs.List.{All}
 use Rattle.std.specs.Global.{Vec}
+use Rattle.std.proofs.Math.Seq.{take-append_seam}
 use Rattle.std.proofs.lemmas.Grind.{flat_map-append}
 use Rattle.std.proofs.lemmas.List.{append-nil, take_more}
 use Rattle.std.proofs.lemmas.List.Elements.{All-push, All-map}
 use Rattle.neg_codec.specs.declared.Id.{Id}
 use Rattle.neg_codec.specs.Keys.{IsId}
 use Rattle.plan_check.specs.File.{File, IsFile, pairs_of}
-use Rattle.plan_check.specs.TextLines.{ended}
-use Rattle.plan_check.specs.PlanText.{header_line, plan_text, IsOfForm, IsTextOf}
+use Rattle.plan_check.specs.TextLines.{lines_of, ended}
+use Rattle.plan_check.specs.PlanText.{header_line, plan_text, offers_text, IsOfForm, IsTextOf}
 use Rattle.plan_check.proofs.FormLemmas.{offered, given, grouped, plan_lines-is}
-use Rattle.plan_check.proofs.TextLemmas.{joined, plan_text-is}
+use Rattle.plan_check.proofs.TextLemmas.{joined, joined_lines, plan_text-is}
 
 -- one element more
 pub written_more : {X : Type 0} (f : X → List ℕ) (xs : List X) (i : ℕ) (d : X) (start before after : List ℕ) → i < length xs → before ≡ start ++ flat_map f (take i xs) → after ≡ before ++ f (get_or xs i d)
@@ -38,6 +39,32 @@ plan_text-parts file =
     let body : joined (map offered file.offers ++ (map given file.gives ++ grouped file.group ∷ [])) ≡ flat_map offered file.offers ++ (flat_map given file.gives ++ grouped file.group) =
     flat_map-append id (map offered file.offers) (map given file.gives ++ grouped file.group ∷ []) ∙ ap (λ t. t ++ joined (map given file.gives ++ grouped file.group ∷ [])) (flat_map-map id offered file.offers) ∙ ap (λ t. flat_map offered file.offers ++ t) last in
     plan_text-is file ∙ ap joined (plan_lines-is file) ∙ ap (λ t. ended header_line ++ t) body
+
+offers_text-is : (offers : List (Id × List ℕ)) → offers_text offers ≡ ended header_line ++ flat_map offered offers
+unfolding offers_text
+offers_text-is offers = refl
+
+-- what stands behind the lines of the offers
+pub plan_text-behind : (file : File) → plan_text file ≡ offers_text file.offers ++ (flat_map given file.gives ++ grouped file.group)
+plan_text-behind file =
+    let behind = flat_map given file.gives ++ grouped file.group in
+    plan_text-parts file ∙ sym (append_assoc (ended header_line) (flat_map offered file.offers) behind) ∙ ap (λ t. t ++ behind) (sym (offers_text-is file.offers))
+
+-- a text in two parts: the lines of the offers, and what comes behind them
+pub text_split : (text rest : List ℕ) (offers : List (Id × List ℕ)) (lines : List (List ℕ)) → lines_of text ≡ ended header_line ∷ lines → lines ≡ map offered offers ++ lines_of rest → text ≡ offers_text offers ++ rest
+text_split text rest offers lines first e =
+    let id : List ℕ → List ℕ = λ line. line in
+    let body : joined lines ≡ flat_map offered offers ++ rest =
+    ap joined e ∙ flat_map-append id (map offered offers) (lines_of rest) ∙ ap (λ t. t ++ joined (lines_of rest)) (flat_map-map id offered offers) ∙ ap (λ t. flat_map offered offers ++ t) (joined_lines rest) in
+    sym (joined_lines text) ∙ ap joined first ∙ ap (λ t. ended header_line ++ t) body ∙ sym (append_assoc (ended header_line) (flat_map offered offers) rest) ∙ ap (λ t. t ++ rest) (sym (offers_text-is offers))
+
+pub split_room : (text front rest : List ℕ) → text ≡ front ++ rest → length rest ≤ length text
+split_room text front rest e = omega (arith, ap length e, length-append front rest)
+
+pub split_front : (text front rest : List ℕ) → text ≡ front ++ rest → take (length text - length rest) text ≡ front
+split_front text front rest e =
+    let at : length text - length rest ≡ length front = omega (arith, ap length e, length-append front rest) in
+    ap (λ n. take n text) at ∙ ap (take (length front)) e ∙ take-append_seam front rest
 
 pub whole_text : (file : File) (t0 t1 t2 t3 : List ℕ) → t0 ≡ ended header_line → t1 ≡ t0 ++ flat_map offered file.offers → t2 ≡ t1 ++ flat_map given file.gives → t3 ≡ t2 ++ grouped file.group → t3 ≡ plan_text file
 whole_text file t0 t1 t2 t3 e0 e1 e2 e3 =

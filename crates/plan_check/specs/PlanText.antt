@@ -37,6 +37,10 @@ plan_lines file =
 unfoldable pub plan_text : File → List ℕ
 plan_text file = flat_map (λ line. line) (plan_lines file)
 
+-- The text of a file up to its gives: the header, and a line for each offer.
+unfoldable pub offers_text : List (Id × List ℕ) → List ℕ
+offers_text offers = ended header_line ++ flat_map (λ o. ended (offer_line o)) offers
+
 -- an id of 32 bytes, and one relay or more that offer it
 pub record IsOffer (o : Id × List ℕ) : Type 0 where
   pub id : IsId o.0

@@ -95,14 +95,6 @@ impl PlanFile {
         &self.offers
     }
 
-    /// The offers alone, in the memory that they have.
-    pub fn into_offers(self) -> Vec<(Id, Vec<u16>)>
-        ensures value { map (λ o. (o.0, o.1.items)) result.items ≡ self.offers }
-        ensures file { IsFile self }
-    {
-        self.offers
-    }
-
     /// Each given id, ascending, with the relay that it is given to.
     pub fn gives(&self) -> &[(Id, u16)]
         ensures value { result.now ≡ self.now.gives }

@@ -17,7 +17,7 @@ pub use faults::PlanFault;
 pub use file::PlanFile;
 pub use laws::{one_answer, one_fault, one_file, round_trip};
 pub use lines::{LONGEST_LINE, set_give, set_group, set_offer};
-pub use reading::read_plan;
+pub use reading::{read_parts, read_plan};
 pub use verdict::check;
 pub use writing::write_plan;
 

@@ -1,12 +1,12 @@
 //! Plan files that are read from their texts.
 
-ghost use Rattle.std.specs.Prelude.{◌≡◌, ◌≢◌, ◌<◌, ◌++◌, ◌∷◌, ◌⊎◌, ℕ, List, map, All, IfOk, IfErr, IfSome, IfNone, Ok, Err};
+ghost use Rattle.std.specs.Prelude.{◌≡◌, ◌≢◌, ◌<◌, ◌≤◌, ◌++◌, ◌∷◌, ◌⊎◌, ℕ, List, length, take, map, All, IfOk, IfErr, IfSome, IfNone, Ok, Err};
 ghost use Rattle.sharing.specs.declared.TheConstants.{RELAYS};
 ghost use Rattle.plan_check.specs.declared.faults.PlanFault.{PlanFault as AFault};
 ghost use Rattle.plan_check.specs.declared.faults.PlanFault.TheVariants.{Memory as memory};
 ghost use Rattle.plan_check.specs.File.{File, pairs_of};
 ghost use Rattle.plan_check.specs.TextLines.{lines_of, ended, FirstIsNot};
-ghost use Rattle.plan_check.specs.PlanText.{header_line, offer_line, give_line, group_line, plan_lines, IsOffer, IsGive, IsOfForm, IsTextOf};
+ghost use Rattle.plan_check.specs.PlanText.{header_line, offer_line, give_line, group_line, plan_lines, offers_text, IsOffer, IsGive, IsOfForm, IsTextOf};
 ghost use Rattle.plan_check.specs.PlanParts.{IsOfferLine, IsGiveLine, IsGroupLine, IsFormFault};
 ghost use Rattle.plan_check.specs.PlanReading.{IsReadFault};
 
@@ -22,6 +22,8 @@ struct Lists {
     offers: Vec<(Id, Vec<u16>)>,
     gives: Vec<(Id, u16)>,
     group: Vec<u16>,
+    /// Where the lines of the offers end.
+    end: usize,
 }
 
 /// The text after the header.
@@ -92,12 +94,15 @@ fn take_group(alloc: Global, text: &[u8]) -> Result<Option<(Vec<u16>, &[u8])>, A
 fn read_lists(alloc: Global, text: &[u8]) -> Result<Lists, PlanFault>
     ensures lines { IfOk result (λ l. lines_of text.now ≡ plan_lines (record { offers = pairs_of l.offers.items; gives = l.gives.items; group = l.group.items })) }
     ensures form { IfOk result (λ l. IsOfForm (record { offers = pairs_of l.offers.items; gives = l.gives.items; group = l.group.items })) }
+    ensures end { IfOk result (λ l. take l.end text.now ≡ offers_text (pairs_of l.offers.items)) }
+    ensures within { IfOk result (λ l. l.end ≤ length text.now) }
     ensures err { IfErr result (IsFormFault (lines_of text.now)) }
 {
     let Some(rest) = skip_header(text) else {
         return Err(PlanFault::Line(1));
     };
     let (offers, rest) = take_offers(alloc, rest)?;
+    let end = text.len() - rest.len();
     let (gives, rest) = take_gives(alloc, rest)?;
     let Some((group, rest)) = take_group(alloc, rest)? else {
         return Err(PlanFault::Line(offers.len() + gives.len() + 2));
@@ -109,7 +114,23 @@ fn read_lists(alloc: Global, text: &[u8]) -> Result<Lists, PlanFault>
         offers,
         gives,
         group,
+        end,
     })
+}
+
+/// The plan file of a text, as [`read_plan`] reads it, and where the lines of its offers end in the text.
+pub fn read_parts(alloc: Global, text: &str) -> Result<(PlanFile, usize), PlanFault>
+    ensures ok { IfOk result (λ r. IsTextOf text.now r.0) }
+    ensures offers { IfOk result (λ r. take r.1 text.now ≡ offers_text r.0.offers) }
+    ensures within { IfOk result (λ r. r.1 ≤ length text.now) }
+    ensures err { IfErr result (IsReadFault text.now) }
+{
+    let lists = read_lists(alloc, text.as_bytes())?;
+    let end = lists.end;
+    match PlanFile::of_form(lists.offers, lists.gives, lists.group) {
+        Ok(file) => Ok((file, end)),
+        Err(fault) => Err(fault),
+    }
 }
 
 /// The plan file of a text, in time linear in the text's length.
@@ -123,6 +144,8 @@ pub fn read_plan(alloc: Global, text: &str) -> Result<PlanFile, PlanFault>
     ensures exact { (file : File) → IsTextOf text.now file → (result ≡ Ok file) ⊎ (result ≡ Err memory) }
     ensures refused { (fault : AFault) → IsReadFault text.now fault → fault ≢ memory → (result ≡ Err fault) ⊎ (result ≡ Err memory) }
 {
-    let lists = read_lists(alloc, text.as_bytes())?;
-    PlanFile::of_form(lists.offers, lists.gives, lists.group)
+    match read_parts(alloc, text) {
+        Ok((file, _)) => Ok(file),
+        Err(fault) => Err(fault),
+    }
 }

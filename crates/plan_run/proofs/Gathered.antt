@@ -1,24 +1,26 @@
 -- Lists made one after another.
-use Rattle.std.proofs.Common.{◌≡◌, ℕ, ◌+◌, ◌<◌, ◌≤◌, ◌==◌, ◌||◌, Bool, true, false, List, [], ◌∷◌, ◌++◌, length, get_or, take, Some, inl, inr, refl, sym, ap, ◌∙◌, subst, arith}
+use Rattle.std.proofs.Common.{◌≡◌, ℕ, ◌+◌, ◌<◌, ◌≤◌, ◌==◌, ◌||◌, Bool, true, false, List, [], ◌∷◌, ◌++◌, length, get_or, take, flat_map, Some, inl, inr, refl, sym, ap, ◌∙◌, subst, arith}
 use Rattle.std.specs.Prelude.{slice_get}
 use Rattle.std.specs.declared.cmp.Ordering.TheVariants.{Less}
 use Rattle.std.specs.Ordering.{nat_cmp}
 use Rattle.std.specs.List.{All}
 use Rattle.std.specs.List.Sorted.{IsStrictlySortedBy}
 use Rattle.std.proofs.lemmas.Bool.{cases_eq, eq-eqb, ne_eqb, or_from, or_left, or_right}
-use Rattle.std.proofs.lemmas.List.{take_more}
+use Rattle.std.proofs.lemmas.Grind.{flat_map-append}
+use Rattle.std.proofs.lemmas.List.{take_more, append-nil}
 use Rattle.std.proofs.lemmas.List.Elements.{All-nil, All-push, All-head, All-tail, All-weaker}
 use Rattle.std.proofs.lemmas.List.Folds.{list_any-append}
 use Rattle.std.proofs.lemmas.Option.{slice_get-get_or}
 use Rattle.sharing.specs.Sharing.{is_among}
 use Rattle.sharing.proofs.Orders.{sorted_push, less_from}
 
--- the element at the next place
-pub next_of : {X : Type 0} (all old new : List X) (i : ℕ) (x : X) → i < length all → slice_get all i ≡ Some x → old ≡ take i all → new ≡ old ++ x ∷ [] → new ≡ take (i + 1) all
-next_of all old new i x lt is front more =
+-- what is made of the element at the next place
+pub one_more : {X : Type 0} (f : X → List ℕ) (all : List X) (i : ℕ) (x : X) → i < length all → slice_get all i ≡ Some x → flat_map f (take i all) ++ f x ≡ flat_map f (take (i + 1) all)
+one_more f all i x lt is =
     let found : Some (get_or all i x) ≡ Some x = sym (slice_get-get_or all i x lt) ∙ is in
     let same : get_or all i x ≡ x = cc in
-    more ∙ ap (λ xs. xs ++ x ∷ []) front ∙ sym (take_more all i x lt ∙ ap (λ y. take i all ++ y ∷ []) same)
+    let front : take (i + 1) all ≡ take i all ++ x ∷ [] = take_more all i x lt ∙ ap (λ y. take i all ++ y ∷ []) same in
+    sym (ap (flat_map f) front ∙ flat_map-append f (take i all) (x ∷ []) ∙ ap (λ t. flat_map f (take i all) ++ t) (append-nil (f x)))
 
 -- no number is among smaller ones
 pub none_past : (xs : List ℕ) (n r : ℕ) → All (λ x. x < n) xs → n ≤ r → is_among xs r ≡ false

@@ -3,7 +3,7 @@
 
 mod checking;
 mod laws;
-mod parts;
+mod members;
 mod planning;
 mod printing;
 mod reading;

@@ -1,62 +1,46 @@
 //! The job `plan`.
 
-ghost use Rattle.std.specs.Prelude.{◌≡◌, ◌≢◌, ◌<◌, ◌⊎◌, length, map, IfOk, IfErr, OnOk, IfSome};
+ghost use Rattle.std.specs.Prelude.{◌≡◌, ◌≢◌, ◌<◌, ◌⊎◌, IfOk, IfErr, OnOk, IfSome};
 ghost use Rattle.std.specs.Io.KnownBytes.{Keeps};
-ghost use Rattle.sharing.specs.Offers.{IsOffers};
-ghost use Rattle.sharing.specs.declared.TheConstants.{MOST_IDS};
-ghost use Rattle.plan_check.specs.File.{pairs_of};
-ghost use Rattle.plan_run.specs.Planned.{IsPlannedFrom, IsTooMany, IsSharedAs};
+ghost use Rattle.fetch_plan.specs.Plan.{IsPlanOf};
+ghost use Rattle.plan_run.specs.Planned.{IsTooMany};
 ghost use Rattle.plan_run.specs.Jobs.{IsPlanWritten, IsPlanRefusal};
 
-use crate::parts::{gives_of, members_of};
-use crate::printing::write_file;
-use crate::reading::read_file;
-use fetch_plan::plan;
-use mirror_run::Refusal;
-use neg_codec::Id;
+use crate::printing::write_plan;
+use crate::reading::parts_of;
+use fetch_plan::{Plan, plan};
+use mirror_run::{Refusal, read_input};
 use offer_table::{OfferFault, OfferTable};
 use plan_check::PlanFile;
-use sharing::MOST_IDS;
-use std::alloc::{AllocError, Global};
+use std::alloc::Global;
 use std::io::{Read, Write};
 
-/// The gives of a least sharing of offers, and the group that shows it.
-fn share_out(
-    alloc: Global,
-    offers: &[(Id, Vec<u16>)],
-) -> Result<(Vec<(Id, u16)>, Vec<u16>), Refusal>
-    requires { IsOffers (pairs_of offers.now) }
-    ensures shared { IfOk result (λ s. IsSharedAs (pairs_of offers.now) s.0.items s.1.items) }
-    ensures err { IfErr result (λ e. (e ≡ Refusal.Memory) ⊎ ((e ≡ Refusal.TableFull) × (MOST_IDS < length (pairs_of offers.now)))) }
-{
-    let table = match OfferTable::of_offers(alloc, offers) {
-        Ok(table) => table,
-        Err(OfferFault::TableFull) => return Err(Refusal::TableFull),
-        Err(_) => return Err(Refusal::Memory),
-    };
-    let made = plan(alloc, &table)?;
-    let gives = gives_of(alloc, &made)?;
-    let group = members_of(alloc, made.group())?;
-    Ok((gives, group))
-}
-
-/// The file of the same offers, with a least sharing of them and the group that shows it. The gives and the
-/// group that the file has are forgotten.
-///
-/// Refused as `TableFull` for more than [`MOST_IDS`] ids, and for want of memory.
-pub fn plan_file(alloc: Global, file: PlanFile) -> Result<PlanFile, Refusal>
-    ensures planned { IfOk result (IsPlannedFrom file) }
+/// The table of a file's offers.
+fn table_of(alloc: Global, file: PlanFile) -> Result<OfferTable, Refusal>
+    ensures offers { IfOk result (λ table. table.offers ≡ file.offers) }
     ensures err { IfErr result (λ e. (e ≡ Refusal.Memory) ⊎ ((e ≡ Refusal.TableFull) × IsTooMany file)) }
 {
-    let offers = file.into_offers();
-    let (gives, group) = share_out(alloc, &offers)?;
-    match PlanFile::of(offers, gives, group) {
-        Ok(planned) => Ok(planned),
-        Err(_) => unreachable!(),
+    match OfferTable::of_offers(alloc, file.offers()) {
+        Ok(table) => Ok(table),
+        Err(OfferFault::TableFull) => Err(Refusal::TableFull),
+        Err(_) => Err(Refusal::Memory),
     }
 }
 
-/// Reads a plan text, and writes the plan text of the same offers with a least sharing of them.
+/// A least sharing of a file's offers, and a group that shows it. The gives and the group that the file has are
+/// forgotten.
+///
+/// Refused as `TableFull` for more than [`sharing::MOST_IDS`] ids, and for want of memory.
+pub fn plan_file(alloc: Global, file: PlanFile) -> Result<Plan, Refusal>
+    ensures planned { IfOk result (IsPlanOf file.offers) }
+    ensures err { IfErr result (λ e. (e ≡ Refusal.Memory) ⊎ ((e ≡ Refusal.TableFull) × IsTooMany file)) }
+{
+    let table = table_of(alloc, file)?;
+    Ok(plan(alloc, &table)?)
+}
+
+/// Reads a plan text, and writes the plan text of the same offers with a least sharing of them. The lines of the
+/// offers are written as they stand.
 pub fn run_plan<R: Read, W: Write>(
     alloc: Global,
     reader: &mut R,
@@ -67,7 +51,8 @@ pub fn run_plan<R: Read, W: Write>(
     ensures err { IfErr result (λ e. IfSome (R.remaining reader.old) (λ input. IsPlanRefusal input e)) }
     ensures unwritten { IfErr result (λ e. e ≢ Refusal.Write → Keeps (W.contents writer.old) (W.contents writer.new)) }
 {
-    let file = read_file(alloc, reader)?;
-    let planned = plan_file(alloc, file)?;
-    write_file(alloc, writer, &planned)
+    let text = read_input(alloc, reader)?;
+    let (file, end) = parts_of(alloc, text.as_str())?;
+    let made = plan_file(alloc, file)?;
+    write_plan(alloc, writer, &text.as_bytes()[..end], &made)
 }

@@ -300,10 +300,15 @@ fn a_file_is_read_and_planned(rt: HostRuntime) -> Result<(), Fail> {
         .ok()
         .ok_or("not read")?;
     let made = plan_file(alloc, file).ok().ok_or("not planned")?;
-    assert_eq!(rt; check(&made).ok(), Some(1));
-    assert_eq!(rt; (made.offers().len(), made.gives().len()), (2, 2));
-    assert!(rt; made.gives()[0].1 == 1 && made.gives()[1].1 == 0);
-    assert!(rt; made.group() == [0u16, 1].as_slice());
+    assert_eq!(rt; (made.len(), made.least_max()), (2, 1));
+    for (place, byte, relay) in [(0, 0x0a, 1u16), (1, 0x0b, 0)] {
+        if place < made.len() {
+            assert_eq!(rt; made.cell(place), (Id([byte; 32]), relay));
+        }
+    }
+    for relay in 0..66u16 {
+        assert_eq!(rt; made.group().has(relay), relay < 2, "relay {relay}");
+    }
     Ok(())
 }
 

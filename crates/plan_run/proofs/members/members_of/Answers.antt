@@ -3,8 +3,8 @@ use Rattle.std.proofs.lemmas.Bool.{cases_lt}
 use Rattle.sharing.specs.declared.TheConstants.{RELAYS}
 use Rattle.sharing.proofs.Orders.{same_sorted}
 use Rattle.plan_run.proofs.Gathered.{Gathers, gather_none, gather_member, gather_other, none_past}
-use Rattle.plan_run.proofs.parts.members_of.Goals as goal
-use Rattle.plan_run.proofs.parts.members_of.Goals.{then-has+in_ok-push, else-has}
+use Rattle.plan_run.proofs.members.members_of.Goals as goal
+use Rattle.plan_run.proofs.members.members_of.Goals.{then-has+in_ok-push, else-has}
 
 pub loop-relay-init : goal.loop-relay-init
 loop-relay-init c = subst (λ (xs : List ℕ). Gathers c.args.relays xs 0) (sym c.new-members.ensures.items) (gather_none c.args.relays)
