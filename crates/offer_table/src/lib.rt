@@ -15,7 +15,7 @@ mod walk;
 pub use faults::OfferFault;
 pub use relays::RelaySet;
 pub use table::OfferTable;
-pub use walk::Ids;
+pub use walk::{Ids, Walk};
 
 #[cfg(test)]
 mod tests;

@@ -169,6 +169,14 @@ impl OfferTable {
         Ids::of(self.offers.walk())
     }
 
+    /// A walk over the offers, in the order of the ids.
+    pub fn walk(&self) -> Walk<'_>
+        ensures value { result ≡ self.now.offers }
+        ensures table { IsTable self.now }
+    {
+        self.offers.walk()
+    }
+
     /// How many distinct sets of relays the offered ids have: each of them is a group.
     pub fn groups(&self) -> usize
         ensures count { result ≡ length (groups_of self.now.offers) }

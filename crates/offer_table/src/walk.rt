@@ -11,9 +11,10 @@ use neg_codec::Id;
 use std::iter::Iterator;
 use std::marker::Model;
 
-/// The offers that are left to walk over. Pairs without relays count for nothing.
+/// The offers of a table that are left to walk over, in the order of the ids.
 #[derive(Drop)]
-pub(crate) struct Walk<'a> {
+pub struct Walk<'a> {
+    /// Pairs without relays count for nothing.
     pairs: &'a [(Id, RelaySet)],
 }
 
@@ -36,7 +37,7 @@ impl<'a> Walk<'a> {
     }
 
     /// The first offer, and the walk over the others.
-    pub(crate) fn split_first(&self) -> Option<(&'a (Id, RelaySet), Walk<'a>)>
+    pub fn split_first(&self) -> Option<(&'a (Id, RelaySet), Walk<'a>)>
         ensures { MatchOption result (self.now ≡ []) (λ p. self.now ≡ p.0.now ∷ p.1) }
     {
         let (first, others) = skip(self.pairs).split_first()?;
