@@ -25,7 +25,34 @@ fn set_of(relays: &[u16]) -> RelaySet
     all
 }
 
+/// The relays that offer some id.
+fn all_of(offers: &[(Id, RelaySet)]) -> RelaySet
+    ensures { (r : ℕ) → is_among result r ≡ list_any (λ o. is_among o.1 r) offers.now }
+{
+    let mut all = RelaySet::empty();
+    for offer in offers {
+        all = all.union(offer.1);
+    }
+    all
+}
+
 impl OfferTable {
+    /// The table of these offers: ids in order, each with the set of relays that offer it. The relays that offer
+    /// an id are those that reported.
+    pub fn of_sets(alloc: Global, offers: Vec<(Id, RelaySet)>) -> Result<OfferTable, OfferFault>
+        requires { IsOffers offers.items }
+        ensures fault { MatchOption (offers_fault (length offers.items)) (IsOkUnless result Memory) (λ f. result ≡ Err f) }
+        ensures offers { IfOk result (λ t. t.offers ≡ offers.items) }
+        ensures reported { IfOk result (λ t. (r : ℕ) → is_among t.reported r ≡ list_any (λ o. is_among o.1 r) offers.items) }
+        ensures table { IfOk result IsTable }
+    {
+        if offers.len() > MOST_IDS {
+            return Err(OfferFault::TableFull);
+        }
+        let reported = all_of(&offers);
+        Ok(OfferTable::of_list(alloc, reported, offers)?)
+    }
+
     /// The table of these offers: ids in order, each with its relays in order. The relays that offer an id
     /// are those that reported.
     pub fn of_offers(alloc: Global, offers: &[(Id, Vec<u16>)]) -> Result<OfferTable, OfferFault>
