@@ -1,10 +1,10 @@
 //! Plan files that are read from their texts.
 
-ghost use Rattle.std.specs.Prelude.{◌≡◌, ◌≢◌, ◌<◌, ◌≤◌, ◌++◌, ◌∷◌, ◌⊎◌, ℕ, List, length, take, map, All, IfOk, IfErr, IfSome, IfNone, Ok, Err};
+ghost use Rattle.std.specs.Prelude.{◌≡◌, ◌≢◌, ◌<◌, ◌≤◌, ◌++◌, ◌∷◌, ◌⊎◌, [], ℕ, List, length, take, map, All, IfOk, IfErr, IfSome, IfNone, Ok, Err};
 ghost use Rattle.sharing.specs.declared.TheConstants.{RELAYS};
 ghost use Rattle.plan_check.specs.declared.faults.PlanFault.{PlanFault as AFault};
 ghost use Rattle.plan_check.specs.declared.faults.PlanFault.TheVariants.{Memory as memory};
-ghost use Rattle.plan_check.specs.File.{File, pairs_of};
+ghost use Rattle.plan_check.specs.File.{File, IsFile, pairs_of};
 ghost use Rattle.plan_check.specs.TextLines.{lines_of, ended, FirstIsNot};
 ghost use Rattle.plan_check.specs.PlanText.{header_line, offer_line, give_line, group_line, plan_lines, offers_text, IsOffer, IsGive, IsOfForm, IsTextOf};
 ghost use Rattle.plan_check.specs.PlanParts.{IsOfferLine, IsGiveLine, IsGroupLine, IsFormFault};
@@ -27,7 +27,7 @@ struct Lists {
 }
 
 /// The text after the header.
-fn skip_header(text: &[u8]) -> Option<&[u8]>
+pub fn skip_header(text: &[u8]) -> Option<&[u8]>
     ensures found { IfSome result (λ rest. lines_of text.now ≡ ended header_line ∷ lines_of rest.now) }
     ensures none { IfNone result (FirstIsNot (λ line. line ≡ ended header_line) (lines_of text.now)) }
 {
@@ -116,6 +116,26 @@ fn read_lists(alloc: Global, text: &[u8]) -> Result<Lists, PlanFault>
         group,
         end,
     })
+}
+
+/// The gives and the group of the lines behind a text's offers, as a plan file without offers; none where other lines
+/// stand there, or where these are out of order.
+pub fn read_tail(alloc: Global, text: &[u8]) -> Result<Option<PlanFile>, AllocError>
+    ensures lines { IfOk result (λ o. IfSome o (λ tail. lines_of text.now ≡ map (λ g. ended (give_line g)) tail.gives ++ ended (group_line tail.group) ∷ [])) }
+    ensures form { IfOk result (λ o. IfSome o IsOfForm) }
+    ensures file { IfOk result (λ o. IfSome o IsFile) }
+{
+    let (gives, rest) = take_gives(alloc, text)?;
+    let Some((group, rest)) = take_group(alloc, rest)? else {
+        return Ok(None);
+    };
+    if !rest.is_empty() {
+        return Ok(None);
+    }
+    match PlanFile::of_form(Vec::new(alloc), gives, group) {
+        Ok(tail) => Ok(Some(tail)),
+        Err(_) => Ok(None),
+    }
 }
 
 /// The plan file of a text, as [`read_plan`] reads it, and where the lines of its offers end in the text.

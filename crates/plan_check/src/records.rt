@@ -1,7 +1,9 @@
 //! What a line tells: an offer, a give or a group.
 
-ghost use Rattle.std.specs.Prelude.{◌≡◌, ◌≢◌, ◌<◌, ℕ, List, All, IfSome, IfNone, IfOk};
+ghost use Rattle.std.specs.Prelude.{◌≡◌, ◌≢◌, ◌<◌, ◌++◌, ℕ, List, All, IfSome, IfNone, IfOk, length, codes};
+ghost use Rattle.hex.specs.Hex.{encode_lower};
 ghost use Rattle.neg_codec.specs.declared.Id.{Id as AnId};
+ghost use Rattle.neg_codec.specs.Keys.{IsId};
 ghost use Rattle.sharing.specs.declared.TheConstants.{RELAYS};
 ghost use Rattle.plan_check.specs.PlanText.{offer_line, give_line, group_line, IsOffer, IsGive};
 
@@ -9,21 +11,31 @@ use crate::words::{cut_id, cut_relay, parse_relays, skip_word};
 use neg_codec::Id;
 use std::alloc::{AllocError, Global};
 
+/// The id of the offer of a line without its line feed, and the text of the relays behind it.
+pub fn cut_offer(line: &[u8]) -> Option<(Id, &[u8])>
+    ensures found { IfSome result (λ cut. line.now ≡ codes "offer " ++ encode_lower cut.0.0 ++ cut.1.now) }
+    ensures id { IfSome result (λ cut. IsId cut.0) }
+    ensures some { IfSome result (λ cut. 0 < length cut.1.now) }
+    ensures none { IfNone result ((o : AnId × List ℕ) → IsOffer o → line.now ≢ offer_line o) }
+{
+    let rest = skip_word(line, b"offer ")?;
+    let (id, rest) = cut_id(rest)?;
+    if rest.is_empty() {
+        None
+    } else {
+        Some((id, rest))
+    }
+}
+
 /// The offer of a line without its line feed.
 pub(crate) fn parse_offer(alloc: Global, line: &[u8]) -> Result<Option<(Id, Vec<u16>)>, AllocError>
     ensures found { IfOk result (λ r. IfSome r (λ o. line.now ≡ offer_line (o.0, o.1.items))) }
     ensures offer { IfOk result (λ r. IfSome r (λ o. IsOffer (o.0, o.1.items))) }
     ensures none { IfOk result (λ r. IfNone r ((o : AnId × List ℕ) → IsOffer o → line.now ≢ offer_line o)) }
 {
-    let Some(rest) = skip_word(line, b"offer ") else {
+    let Some((id, rest)) = cut_offer(line) else {
         return Ok(None);
     };
-    let Some((id, rest)) = cut_id(rest) else {
-        return Ok(None);
-    };
-    if rest.is_empty() {
-        return Ok(None);
-    }
     match parse_relays(alloc, rest)? {
         Some(relays) => Ok(Some((id, relays))),
         None => Ok(None),

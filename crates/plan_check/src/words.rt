@@ -108,7 +108,7 @@ fn cut_number(text: &[u8]) -> Option<(u16, &[u8])>
 }
 
 /// The relay behind the space at the front, and the text after it.
-pub(crate) fn cut_relay(text: &[u8]) -> Option<(u16, &[u8])>
+pub fn cut_relay(text: &[u8]) -> Option<(u16, &[u8])>
     ensures found { IfSome result (λ cut. text.now ≡ relay_text cut.0 ++ cut.1.now) }
     ensures small { IfSome result (λ cut. cut.0 < RELAYS) }
     ensures rest { IfSome result (λ cut. IsNextWord cut.1.now) }

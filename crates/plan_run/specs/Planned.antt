@@ -1,14 +1,14 @@
 -- The plan file that is made of the offers of another, and what the checker says of a file.
-use Rattle.std.specs.Prelude.{◌≡◌, ℕ, ◌<◌, List, length, Err}
+use Rattle.std.specs.Prelude.{◌≡◌, ℕ, ◌<◌, ◌≤◌, List, length, take, Err}
 use Rattle.neg_codec.specs.declared.Id.{Id}
 use Rattle.sharing.specs.declared.TheConstants.{MOST_IDS}
 use Rattle.sharing.specs.Sharing.{Shows}
 use Rattle.sharing.specs.Reached.{IsLeast}
 use Rattle.sharing.specs.Offers.{relay_in}
-use Rattle.fetch_plan.specs.Plan.{Planned as Plan, IsPlanOf}
 use Rattle.plan_check.specs.declared.faults.PlanFault.{PlanFault}
 use Rattle.plan_check.specs.declared.faults.PlanFault.TheVariants.{NotOffered, Missing, Stranger, GroupTooSmall}
 use Rattle.plan_check.specs.File.{File}
+use Rattle.plan_check.specs.PlanText.{offers_text, IsTextOf}
 use Rattle.plan_check.specs.Verdict.{IsSharedOut, Judges}
 
 -- The gives are a sharing of the offers with this busiest load, and the group shows that none has less. Just then
@@ -25,9 +25,13 @@ pub record IsPlannedFrom (read made : File) : Type 0 where
   pub least : IsLeast (relay_in made.gives) made.offers most made.group
   pub passes : Passes made most
 
--- the gives and the group are those of a plan of the offers
-abbrev pub IsSharedAs : List (Id × List ℕ) → List (Id × ℕ) → List ℕ → Type 0
-IsSharedAs offers gives group = (plan : Plan) × (gives ≡ plan.gives) × (group ≡ plan.group) × IsPlanOf offers plan
+-- the text is of a file with these offers, whose lines end at this place
+pub record IsFront (text : List ℕ) (offers : List (Id × List ℕ)) (end : ℕ) : Type 0 where
+  pub file : File
+  pub told : IsTextOf text file
+  pub offers_are : file.offers ≡ offers
+  pub front : take end text ≡ offers_text offers
+  pub within : end ≤ length text
 
 -- more ids are offered than a table takes
 abbrev pub IsTooMany : File → Type 0

@@ -4,6 +4,7 @@
 mod checking;
 mod laws;
 mod members;
+mod offers;
 mod planning;
 mod printing;
 mod reading;
@@ -11,7 +12,7 @@ mod writing;
 
 pub use checking::run_check;
 pub use laws::{faulty_lines_fail, faulty_texts_fail, least_texts_pass, planned_texts_pass};
-pub use planning::{plan_file, run_plan};
+pub use planning::run_plan;
 pub use reading::read_file;
 
 #[cfg(test)]

@@ -1,42 +1,46 @@
 //! The job `plan`.
 
-ghost use Rattle.std.specs.Prelude.{◌≡◌, ◌≢◌, ◌<◌, ◌⊎◌, IfOk, IfErr, OnOk, IfSome};
+ghost use Rattle.std.specs.Prelude.{◌≡◌, ◌≢◌, ◌≤◌, ◌⊎◌, length, IfOk, IfErr, OnOk, IfSome};
 ghost use Rattle.std.specs.Io.KnownBytes.{Keeps};
-ghost use Rattle.fetch_plan.specs.Plan.{IsPlanOf};
-ghost use Rattle.plan_run.specs.Planned.{IsTooMany};
+ghost use Rattle.plan_run.specs.Planned.{IsFront};
 ghost use Rattle.plan_run.specs.Jobs.{IsPlanWritten, IsPlanRefusal};
 
+use crate::offers::read_offers;
 use crate::printing::write_plan;
 use crate::reading::parts_of;
-use fetch_plan::{Plan, plan};
+use fetch_plan::plan;
 use mirror_run::{Refusal, read_input};
 use offer_table::{OfferFault, OfferTable};
-use plan_check::PlanFile;
 use std::alloc::Global;
 use std::io::{Read, Write};
 
-/// The table of a file's offers.
-fn table_of(alloc: Global, file: PlanFile) -> Result<OfferTable, Refusal>
-    ensures offers { IfOk result (λ table. table.offers ≡ file.offers) }
-    ensures err { IfErr result (λ e. (e ≡ Refusal.Memory) ⊎ ((e ≡ Refusal.TableFull) × IsTooMany file)) }
+/// Why offers make no table.
+fn refusal_of(fault: OfferFault) -> Refusal
+    ensures { (result ≡ Refusal.Memory) ⊎ ((result ≡ Refusal.TableFull) × (fault ≡ OfferFault.TableFull)) }
 {
-    match OfferTable::of_offers(alloc, file.offers()) {
-        Ok(table) => Ok(table),
-        Err(OfferFault::TableFull) => Err(Refusal::TableFull),
-        Err(_) => Err(Refusal::Memory),
+    match fault {
+        OfferFault::TableFull => Refusal::TableFull,
+        _ => Refusal::Memory,
     }
 }
 
-/// A least sharing of a file's offers, and a group that shows it. The gives and the group that the file has are
-/// forgotten.
-///
-/// Refused as `TableFull` for more than [`sharing::MOST_IDS`] ids, and for want of memory.
-pub fn plan_file(alloc: Global, file: PlanFile) -> Result<Plan, Refusal>
-    ensures planned { IfOk result (IsPlanOf file.offers) }
-    ensures err { IfErr result (λ e. (e ≡ Refusal.Memory) ⊎ ((e ≡ Refusal.TableFull) × IsTooMany file)) }
+/// The table of a text's offers, and where their lines end.
+fn table_of(alloc: Global, text: &str) -> Result<(OfferTable, usize), Refusal>
+    requires { length text.now ≤ 67108864 }
+    ensures front { IfOk result (λ r. IsFront text.now r.0.offers r.1) }
+    ensures err { IfErr result (IsPlanRefusal text.now) }
 {
-    let table = table_of(alloc, file)?;
-    Ok(plan(alloc, &table)?)
+    if let Some((offers, end)) = read_offers(alloc, text)? {
+        return match OfferTable::of_sets(alloc, offers) {
+            Ok(table) => Ok((table, end)),
+            Err(fault) => Err(refusal_of(fault)),
+        };
+    }
+    let (file, end) = parts_of(alloc, text)?;
+    match OfferTable::of_offers(alloc, file.offers()) {
+        Ok(table) => Ok((table, end)),
+        Err(fault) => Err(refusal_of(fault)),
+    }
 }
 
 /// Reads a plan text, and writes the plan text of the same offers with a least sharing of them. The lines of the
@@ -52,7 +56,7 @@ pub fn run_plan<R: Read, W: Write>(
     ensures unwritten { IfErr result (λ e. e ≢ Refusal.Write → Keeps (W.contents writer.old) (W.contents writer.new)) }
 {
     let text = read_input(alloc, reader)?;
-    let (file, end) = parts_of(alloc, text.as_str())?;
-    let made = plan_file(alloc, file)?;
+    let (table, end) = table_of(alloc, text.as_str())?;
+    let made = plan(alloc, &table)?;
     write_plan(alloc, writer, &text.as_bytes()[..end], &made)
 }

@@ -1,0 +1,16 @@
+use Rattle.std.proofs.Common.{◌≡◌, ◌<◌, ◌≤◌, ◌++◌, length, All}
+use Rattle.sharing.specs.declared.TheConstants.{RELAYS}
+use Rattle.sharing.specs.Offers.{AreRelays}
+use Rattle.plan_check.specs.PlanText.{relays_text}
+use Rattle.plan_run.proofs.offers.parse_set.Given as goal
+
+abbrev pub invariant-loop-relay : goal.invariant-loop-relay
+invariant-loop-relay l = record {
+  told : l.text ≡ relays_text l.relays ++ l.rest;
+  ordered : AreRelays l.relays;
+  below : All (λ r. r < l.next) l.relays;
+  small : l.next ≤ RELAYS;
+}
+
+abbrev pub decreases-loop-relay : goal.decreases-loop-relay
+decreases-loop-relay l = length l.rest
