@@ -1,0 +1,15 @@
+use Rattle.std.proofs.Common.{◌≡◌, ◌+◌, ◌-◌, List, length, set, drop, sym, ap, ◌∙◌, arith, rules}
+use Rattle.std.specs.List.{copy_within}
+use Rattle.std.proofs.lemmas.List.{with_items_is, places}
+use Rattle.neg_codec.specs.declared.Id.{Id}
+use Rattle.offer_table.proofs.Gaps.{gap_shorter}
+use Rattle.offer_table.proofs.row.open_in_front.Goals as goal
+
+pub returns-clause-rest : goal.returns-clause-rest
+returns-clause-rest c =
+    let xs : List Id = c.args.ids.now.items in
+    let gone = c.args.gone in
+    let at = c.args.at in
+    ap (λ (ys : List Id). drop (gone - 1) (set ys (gone - 1 + at) c.args.id))
+    (with_items_is c.args.ids.now c.copy_within.new.self (search (rules, places)) ∙ c.copy_within.ensures.after ∙ ap (λ (ys : List Id). copy_within ys gone (gone + at) (gone - 1)) c.as_mut_slice.ensures.value)
+    ∙ gap_shorter xs gone at c.requires.room c.requires.within c.args.id
