@@ -311,8 +311,8 @@ fn ids_come_and_go_on_both_sides_of_a_row(rt: HostRuntime) -> Result<(), Fail> {
 }
 
 #[test]
-fn a_giant_group_moves_in_descending_order(rt: HostRuntime) -> Result<(), Fail> {
-    let many = spread(rt.alloc(), 0, 200_000)?;
+fn a_large_group_moves_in_descending_order(rt: HostRuntime) -> Result<(), Fail> {
+    let many = spread(rt.alloc(), 0, 20_000)?;
     let a = table_of(rt.alloc(), 0, &many)?;
     let mut both = merged(a, table_of(rt.alloc(), 1, &many)?)?;
     let ids = many.iter().copied().collect::<Vec<Id>>(rt.alloc())?;
