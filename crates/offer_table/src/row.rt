@@ -42,7 +42,7 @@ fn close_in_front(ids: &mut Vec<Id>, gone: usize, at: usize)
     ensures rest { drop (gone + 1) ids.new.items ≡ remove (drop gone ids.old.items) at }
     ensures len { length ids.new.items ≡ length ids.old.items }
 {
-    ids.as_mut_slice().copy_within(gone..gone + at, gone + 1);
+    ids.slice_mut(gone..gone + at + 1).rotate_right(1);
 }
 
 /// Puts an id at a place among those behind the first so many: the ones in front of it move into the gap.
@@ -52,8 +52,8 @@ fn open_in_front(ids: &mut Vec<Id>, gone: usize, at: usize, id: Id)
     ensures rest { drop (gone - 1) ids.new.items ≡ insert (drop gone ids.old.items) at id }
     ensures len { length ids.new.items ≡ length ids.old.items }
 {
-    ids.as_mut_slice().copy_within(gone..gone + at, gone - 1);
-    ids[gone - 1 + at] = id;
+    ids[gone - 1] = id;
+    ids.slice_mut(gone - 1..gone + at).rotate_left(1);
 }
 
 /// Makes a gap in front of the ids that is as long as they are, and tells its length.

@@ -268,7 +268,12 @@ fn ids_come_and_go_on_both_sides_of_a_row(rt: HostRuntime) -> Result<(), Fail> {
         row.put(numbered(2 * k))?;
     }
     assert!(rt;
-        has_just(&row, &[2, 4, 6, 8, 10, 12, 14, 16, 18, 20, 22, 24, 26, 28, 30, 32, 34, 36, 38, 40])
+        has_just(
+            &row,
+            &[
+                2, 4, 6, 8, 10, 12, 14, 16, 18, 20, 22, 24, 26, 28, 30, 32, 34, 36, 38, 40
+            ]
+        )
     );
     for number in [1, 41, 11, 31, 0, 20, 5] {
         row.put(numbered(number))?;
@@ -277,8 +282,8 @@ fn ids_come_and_go_on_both_sides_of_a_row(rt: HostRuntime) -> Result<(), Fail> {
         has_just(
             &row,
             &[
-                0, 1, 2, 4, 5, 6, 8, 10, 11, 12, 14, 16, 18, 20, 22, 24, 26, 28, 30, 31, 32, 34, 36,
-                38, 40, 41,
+                0, 1, 2, 4, 5, 6, 8, 10, 11, 12, 14, 16, 18, 20, 22, 24, 26, 28, 30, 31, 32, 34,
+                36, 38, 40, 41,
             ]
         )
     );
@@ -288,7 +293,9 @@ fn ids_come_and_go_on_both_sides_of_a_row(rt: HostRuntime) -> Result<(), Fail> {
     assert!(rt;
         has_just(
             &row,
-            &[2, 4, 5, 8, 10, 11, 14, 16, 18, 22, 24, 26, 28, 31, 32, 34, 36, 38, 40]
+            &[
+                2, 4, 5, 8, 10, 11, 14, 16, 18, 22, 24, 26, 28, 31, 32, 34, 36, 38, 40
+            ]
         )
     );
     for number in [3, 0, 1, 9, 7, 13, 12] {

@@ -1,4 +1,4 @@
-use Rattle.std.proofs.Common.{◌≡◌, List, drop, ap, ◌∙◌, arith}
+use Rattle.std.proofs.Common.{drop, ap, ◌∙◌, arith}
 use Rattle.offer_table.proofs.IdRows.{gone_insert}
 use Rattle.offer_table.proofs.row.put_at.Goals as goal
 

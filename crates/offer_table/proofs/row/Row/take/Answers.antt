@@ -1,6 +1,4 @@
-use Rattle.std.proofs.Common.{◌≡◌, List, drop, sym, ap, ◌∙◌, subst, arith}
-use Rattle.std.specs.List.{remove}
-use Rattle.std.proofs.lemmas.List.{length-drop}
+use Rattle.std.proofs.Common.{List, drop, sym, ap, ◌∙◌, subst}
 use Rattle.neg_codec.specs.declared.Id.{Id}
 use Rattle.sharing.specs.Offers.{Ascend, id_cmp}
 use Rattle.offer_table.specs.Places.{IsHit}
