@@ -11,7 +11,7 @@ use neg_codec::Id;
 use std::alloc::{AllocError, Global};
 use std::marker::Model;
 
-/// A row of so many ids makes no gap in front of them: it moves all of them instead.
+/// A row of at most so many ids makes no gap in front of them: it moves them instead.
 const FEW: usize = 16;
 
 /// Ids in order, with room at both ends. An id that comes or goes moves the ids in front of it or those behind
