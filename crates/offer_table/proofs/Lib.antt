@@ -3,6 +3,7 @@ pub mod Tables
 mod Offered
 pub mod Cuts
 pub mod IdRows
+pub mod Gaps
 pub mod RowEdits
 pub mod Runs
 pub mod Numbers

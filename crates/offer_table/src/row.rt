@@ -1,6 +1,7 @@
 //! Ids in order.
 
-ghost use Rattle.std.specs.Prelude.{◌≡◌, ◌↔◌, ◌∷◌, [], IsTrue, map, IfOk, IfErr, OnOk, OnErr};
+ghost use Rattle.std.specs.Prelude.{◌≡◌, ◌↔◌, ◌∷◌, ◌<◌, ◌≤◌, ◌+◌, ◌-◌, [], IsTrue, length, drop, map, IfOk, IfErr, OnOk, OnErr};
+ghost use Rattle.std.specs.List.{insert, remove};
 ghost use Rattle.sharing.specs.Offers.{Ascend, id_cmp};
 ghost use Rattle.offer_table.specs.Places.{IsHit, IsMiss};
 ghost use Rattle.offer_table.specs.Rows.{with_id, without_id};
@@ -10,11 +11,16 @@ use neg_codec::Id;
 use std::alloc::{AllocError, Global};
 use std::marker::Model;
 
-/// Ids in order. The first of them leaves in constant time; another one moves what stands behind it.
+/// A row of at most so many ids makes no gap in front of them: it moves them instead.
+const FEW: usize = 16;
+
+/// Ids in order, with room at both ends. An id that comes or goes moves the ids in front of it or those behind
+/// it, whichever are fewer, 32 bytes each. A row with no gap in front copies itself first, to make one of its
+/// own length, so an id in front costs amortised constant time, as one at the end does. A gap is not given back.
 #[derive(Drop)]
 pub(crate) struct Row {
     ids: Vec<Id>,
-    /// How many of `ids` have left at the front.
+    /// How many of `ids` at the front are not in the row: they have left, or keep room.
     gone: usize,
 }
 
@@ -28,6 +34,69 @@ impl Model for Row {
     ghost view = { λ r. drop r.gone r.ids.items };
 
     ghost invariant = { λ r. record { within : r.gone ≤ length r.ids.items; ascend : Ascend (drop r.gone r.ids.items) } };
+}
+
+/// Takes the id at a place out of those behind the first so many: the ones in front of it move up to it.
+fn close_in_front(ids: &mut Vec<Id>, gone: usize, at: usize)
+    requires { gone + at < length ids.old.items }
+    ensures rest { drop (gone + 1) ids.new.items ≡ remove (drop gone ids.old.items) at }
+    ensures len { length ids.new.items ≡ length ids.old.items }
+{
+    ids.slice_mut(gone..gone + at + 1).rotate_right(1);
+}
+
+/// Puts an id at a place among those behind the first so many: the ones in front of it move into the gap.
+fn open_in_front(ids: &mut Vec<Id>, gone: usize, at: usize, id: Id)
+    requires room { 0 < gone }
+    requires within { gone + at ≤ length ids.old.items }
+    ensures rest { drop (gone - 1) ids.new.items ≡ insert (drop gone ids.old.items) at id }
+    ensures len { length ids.new.items ≡ length ids.old.items }
+{
+    ids[gone - 1] = id;
+    ids.slice_mut(gone - 1..gone + at).rotate_left(1);
+}
+
+/// Makes a gap in front of the ids that is as long as they are, and tells its length.
+fn make_gap(ids: &mut Vec<Id>) -> Result<usize, AllocError>
+    ensures rest { IfOk result (λ gap. drop gap ids.new.items ≡ ids.old.items) }
+    ensures gap { IfOk result (λ gap. gap ≡ length ids.old.items) }
+    ensures len { IfOk result (λ gap. length ids.new.items ≡ gap + length ids.old.items) }
+    ensures err { OnErr result (ids.new.items ≡ ids.old.items) }
+{
+    let len = ids.len();
+    ids.extend_from_within(0..len)?;
+    Ok(len)
+}
+
+/// Takes the id at a place out of those behind the first so many, and tells how many stand in front then.
+fn take_at(ids: &mut Vec<Id>, gone: usize, at: usize) -> usize
+    requires { gone + at < length ids.old.items }
+    ensures rest { drop result ids.new.items ≡ remove (drop gone ids.old.items) at }
+    ensures within { result ≤ length ids.new.items }
+{
+    if at < (ids.len() - gone) / 2 {
+        close_in_front(ids, gone, at);
+        return gone + 1;
+    }
+    ids.remove(gone + at);
+    gone
+}
+
+/// Puts an id at a place among those behind the first so many, and tells how many stand in front then.
+fn put_at(ids: &mut Vec<Id>, gone: usize, at: usize, id: Id) -> Result<usize, AllocError>
+    requires { gone + at ≤ length ids.old.items }
+    ensures rest { IfOk result (λ left. drop left ids.new.items ≡ insert (drop gone ids.old.items) at id) }
+    ensures within { IfOk result (λ left. left ≤ length ids.new.items) }
+    ensures err { OnErr result (ids.new.items ≡ ids.old.items) }
+{
+    let len = ids.len() - gone;
+    if at >= len / 2 || gone == 0 && len <= FEW {
+        ids.insert(gone + at, id)?;
+        return Ok(gone);
+    }
+    let gap = if gone == 0 { make_gap(ids)? } else { gone };
+    open_in_front(ids, gap, at, id);
+    Ok(gap - 1)
 }
 
 impl Row {
@@ -81,7 +150,10 @@ impl Row {
     {
         match self.place(&id) {
             Ok(_) => Ok(()),
-            Err(at) => Ok(self.ids.insert(self.gone + at, id)?),
+            Err(at) => {
+                self.gone = put_at(&mut self.ids, self.gone, at, id)?;
+                Ok(())
+            }
         }
     }
 
@@ -90,13 +162,7 @@ impl Row {
         ensures { self.new ≡ without_id id.now self.old }
     {
         match self.place(id) {
-            Ok(at) => {
-                if at == 0 {
-                    self.gone += 1;
-                } else {
-                    self.ids.remove(self.gone + at);
-                }
-            }
+            Ok(at) => self.gone = take_at(&mut self.ids, self.gone, at),
             Err(_) => {}
         }
     }

@@ -128,9 +128,10 @@ impl OfferTable {
 
     /// Takes one offer away, and the id with its last offer. False where there was none.
     ///
-    /// Beside two searches in the ids it moves the ids that stand behind this one in its old group and in its
-    /// new one, 32 bytes each, and, where a group comes or goes, some hundred groups behind it. The first id of
-    /// a group leaves, and the last one of a group comes, without a move: ids in ascending order are quick.
+    /// Beside two searches in the ids it moves, in this one's old group and in its new one, the ids in front of
+    /// it or those behind it, whichever are fewer, 32 bytes each, and, where a group comes or goes, some hundred
+    /// groups behind it. So ids in ascending and in descending order are quick, while in random order each
+    /// moves a quarter of a group on average. Now and then a group whose ids have no room copies them all.
     pub fn strike(&mut self, id: &Id, relay: u16) -> Result<bool, AllocError>
         ensures found { IfOk result (λ b. b ≡ is_among (relays_of self.old.offers id.now) relay) }
         ensures offers { OnOk result ((i : Id) (r : ℕ) → is_among (relays_of self.new.offers i) r ≡ (is_among (relays_of self.old.offers i) r && not (is_id id.now i && (r == relay)))) }

@@ -1,5 +1,6 @@
 //! Tables of a few reports, and of as many ids as a table takes.
 
+use crate::row::Row;
 use crate::{OfferFault, OfferTable, RelaySet};
 use neg_codec::Id;
 use std::alloc::{AllocError, Global};
@@ -247,6 +248,88 @@ fn struck_ids_are_passed_over(rt: HostRuntime) -> Result<(), Fail> {
     assert_eq!(rt; both.groups(), 2);
     assert!(rt; is_group(&both, 0, &[1], &[1]));
     assert!(rt; is_group(&both, 1, &[0, 1], &[2]));
+    Ok(())
+}
+
+/// Whether a row has the ids of just these numbers.
+fn has_just(row: &Row, numbers: &[u32]) -> bool {
+    let ids = row.as_slice();
+    ids.len() == numbers.len()
+        && ids
+            .iter()
+            .zip(numbers)
+            .all(|(id, number)| *id == numbered(*number))
+}
+
+#[test]
+fn ids_come_and_go_on_both_sides_of_a_row(rt: HostRuntime) -> Result<(), Fail> {
+    let mut row = Row::new(rt.alloc());
+    for k in (1..=20u32).rev() {
+        row.put(numbered(2 * k))?;
+    }
+    assert!(rt;
+        has_just(
+            &row,
+            &[
+                2, 4, 6, 8, 10, 12, 14, 16, 18, 20, 22, 24, 26, 28, 30, 32, 34, 36, 38, 40
+            ]
+        )
+    );
+    for number in [1, 41, 11, 31, 0, 20, 5] {
+        row.put(numbered(number))?;
+    }
+    assert!(rt;
+        has_just(
+            &row,
+            &[
+                0, 1, 2, 4, 5, 6, 8, 10, 11, 12, 14, 16, 18, 20, 22, 24, 26, 28, 30, 31, 32, 34,
+                36, 38, 40, 41,
+            ]
+        )
+    );
+    for number in [0, 41, 12, 30, 13, 20, 6, 1] {
+        row.take(&numbered(number));
+    }
+    assert!(rt;
+        has_just(
+            &row,
+            &[
+                2, 4, 5, 8, 10, 11, 14, 16, 18, 22, 24, 26, 28, 31, 32, 34, 36, 38, 40
+            ]
+        )
+    );
+    for number in [3, 0, 1, 9, 7, 13, 12] {
+        row.put(numbered(number))?;
+    }
+    assert!(rt;
+        has_just(
+            &row,
+            &[
+                0, 1, 2, 3, 4, 5, 7, 8, 9, 10, 11, 12, 13, 14, 16, 18, 22, 24, 26, 28, 31, 32, 34,
+                36, 38, 40,
+            ]
+        )
+    );
+    for number in 0..=40u32 {
+        row.take(&numbered(40 - number));
+    }
+    assert!(rt; row.is_empty());
+    Ok(())
+}
+
+#[test]
+fn a_large_group_moves_in_descending_order(rt: HostRuntime) -> Result<(), Fail> {
+    let many = spread(rt.alloc(), 0, 20_000)?;
+    let a = table_of(rt.alloc(), 0, &many)?;
+    let mut both = merged(a, table_of(rt.alloc(), 1, &many)?)?;
+    let ids = many.iter().copied().collect::<Vec<Id>>(rt.alloc())?;
+    for id in ids.iter().rev() {
+        assert!(rt; both.strike(id, 0)?);
+    }
+    assert_eq!(rt; both.groups(), 1);
+    let (relays, moved) = both.group_at(0);
+    assert_eq!(rt; relays.number(), 2);
+    assert!(rt; moved == ids.as_slice());
     Ok(())
 }
 
