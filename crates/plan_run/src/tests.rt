@@ -1,10 +1,9 @@
 //! Plans and checks of texts from a table, readers and writers that fail.
 
-use crate::{plan_file, read_file, run_check, run_plan};
+use crate::{read_file, run_check, run_plan};
 use mirror_run::Refusal;
 use neg_codec::Id;
 use offer_table::OfferTable;
-use plan_check::check;
 use std::alloc::Global;
 use std::io;
 use std::io::{ErrorKind, Read, Write};
@@ -289,26 +288,6 @@ fn an_id_that_all_relays_offer(rt: HostRuntime) -> Result<(), Fail> {
     assert!(rt; got.as_str().starts_with(offers) && got.as_str().ends_with(last));
     assert_eq!(rt; got.as_str().lines().count(), 6);
     assert_eq!(rt; checked(alloc, got.as_str())?.as_str(), "least 1\n");
-    Ok(())
-}
-
-#[test]
-fn a_file_is_read_and_planned(rt: HostRuntime) -> Result<(), Fail> {
-    let alloc = rt.alloc();
-    let text = plan_text(alloc, &["offer a 0 1", "offer b 0", "group"])?;
-    let file = read_file(alloc, &mut text.as_str().as_bytes())
-        .ok()
-        .ok_or("not read")?;
-    let made = plan_file(alloc, file).ok().ok_or("not planned")?;
-    assert_eq!(rt; (made.len(), made.least_max()), (2, 1));
-    for (place, byte, relay) in [(0, 0x0a, 1u16), (1, 0x0b, 0)] {
-        if place < made.len() {
-            assert_eq!(rt; made.cell(place), (Id([byte; 32]), relay));
-        }
-    }
-    for relay in 0..66u16 {
-        assert_eq!(rt; made.group().has(relay), relay < 2, "relay {relay}");
-    }
     Ok(())
 }
 
