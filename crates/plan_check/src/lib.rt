@@ -16,7 +16,7 @@ mod writing;
 pub use faults::PlanFault;
 pub use file::PlanFile;
 pub use laws::{one_answer, one_fault, one_file, round_trip};
-pub use lines::{LONGEST_LINE, set_give, set_group, set_offer};
+pub use lines::{LONGEST_LINE, set_give, set_group};
 pub use reading::{read_parts, read_plan, read_tail, skip_header};
 pub use records::cut_offer;
 pub use text_lines::cut_line;

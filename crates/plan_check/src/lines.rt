@@ -74,7 +74,7 @@ fn set_relays(line: &mut [u8], at: usize, relays: &[u16]) -> usize
 }
 
 /// Sets the line of an offer, and answers where it ends.
-pub fn set_offer(line: &mut [u8], id: &Id, relays: &[u16]) -> usize
+pub(crate) fn set_offer(line: &mut [u8], id: &Id, relays: &[u16]) -> usize
     requires relays { AreRelays relays.now }
     requires room { LONGEST_LINE ≤ length line.old }
     ensures text { take result line.new ≡ ended (offer_line (id.now, relays.now)) }

@@ -1,7 +1,8 @@
 //! Plan texts: worked examples, and texts that are refused.
 
+use crate::lines::set_offer;
 use crate::{
-    LONGEST_LINE, PlanFault, PlanFile, check, read_plan, set_give, set_group, set_offer, write_plan,
+    LONGEST_LINE, PlanFault, PlanFile, check, read_plan, set_give, set_group, write_plan,
 };
 use neg_codec::Id;
 use std::alloc::{AllocError, Global};
