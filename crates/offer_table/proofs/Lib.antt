@@ -5,6 +5,7 @@ pub mod Cuts
 pub mod IdRows
 pub mod RowEdits
 pub mod Runs
+pub mod Keyed
 pub mod Numbers
 pub mod Struck
 pub mod Grouped

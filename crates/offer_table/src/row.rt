@@ -1,6 +1,6 @@
 //! Ids in order.
 
-ghost use Rattle.std.specs.Prelude.{◌≡◌, ◌↔◌, ◌∷◌, [], IsTrue, map, IfOk, IfErr, OnOk, OnErr};
+ghost use Rattle.std.specs.Prelude.{◌≡◌, ◌↔◌, ◌∷◌, [], IsTrue, IfOk, IfErr, OnOk, OnErr};
 ghost use Rattle.sharing.specs.Offers.{Ascend, id_cmp};
 ghost use Rattle.offer_table.specs.Places.{IsHit, IsMiss};
 ghost use Rattle.offer_table.specs.Rows.{with_id, without_id};
@@ -39,18 +39,6 @@ impl Row {
             ids: Vec::new(alloc),
             gone: 0,
         }
-    }
-
-    /// The ids of these offers.
-    pub(crate) fn of(alloc: Global, offers: &[(Id, RelaySet)]) -> Result<Row, AllocError>
-        requires { Ascend (map (λ o. o.0) offers.now) }
-        ensures { IfOk result (λ row. row ≡ map (λ o. o.0) offers.now) }
-    {
-        let mut ids = Vec::with_capacity(alloc, offers.len())?;
-        for offer in offers {
-            ids.push(offer.0)?;
-        }
-        Ok(Row { ids, gone: 0 })
     }
 
     pub(crate) fn as_slice(&self) -> &[Id]
@@ -99,5 +87,13 @@ impl Row {
             }
             Err(_) => {}
         }
+    }
+
+    /// These ids.
+    pub(crate) fn from_ids(ids: Vec<Id>) -> Row
+        requires { Ascend ids.items }
+        ensures { result ≡ ids.items }
+    {
+        Row { ids, gone: 0 }
     }
 }
