@@ -1,7 +1,7 @@
 -- Lists in chunks: one element changes, comes or goes.
-use Rattle.std.proofs.Common.{◌≡◌, ℕ, zero, suc, ◌+◌, ◌<◌, ◌≤◌, List, [], ◌∷◌, ◌++◌, length, get_or, set, take, drop, Vec, Result, Ok, Err, OnOk, OnErr, Some, refl, sym, ap, ◌∙◌, subst, arith, take-append-drop}
+use Rattle.std.proofs.Common.{◌≡◌, ℕ, zero, suc, ◌+◌, ◌<◌, ◌≤◌, List, [], ◌∷◌, ◌++◌, length, get_or, set, take, drop, Vec, Result, Ok, Err, OnOk, OnErr, Some, refl, sym, ap, ◌∙◌, subst, arith, append-nil, take-append-drop}
 use Rattle.std.specs.List.{insert, remove, slice_get}
-use Rattle.std.proofs.lemmas.List.{length-append, length-take-le, length-drop, append_assoc, set-append_left, take-append-le, drop-append-le, take_all, drop_all, set-get_or, get_or_default}
+use Rattle.std.proofs.lemmas.List.{length-append, length-take-le, length-drop, append_assoc, set-append_left, take-append-le, drop-append-le, set-get_or, get_or_default}
 use Rattle.std.proofs.lemmas.List.Concat.{get_or-flat_map}
 use Rattle.offer_table.specs.Chunks.{flat, IsSpot}
 
@@ -76,9 +76,12 @@ length_insert xs k x = omega (arith, length-append (take k xs) (x ∷ drop k xs)
 pub length_remove : {X : Type 0} (xs : List X) (k : ℕ) → k < length xs → length (remove xs k) + 1 ≡ length xs
 length_remove xs k lt = omega (arith, lt, length-append (take k xs) (drop (suc k) xs), length-take-le k xs (omega (arith, lt)), length-drop (suc k) xs)
 
--- what is put behind all others
-pub insert_last : {X : Type 0} (xs : List X) (k : ℕ) (x : X) → k ≡ length xs → insert xs k x ≡ xs ++ x ∷ []
-insert_last xs k x e = ap (λ ys. ys ++ x ∷ drop k xs) (take_all k xs (omega (arith, e))) ∙ ap (λ ys. xs ++ x ∷ ys) (drop_all k xs (omega (arith, e)))
+-- an element more in the last chunk
+pub push_last : {X Z : Type 0} (cs : List (Vec X Z)) (j : ℕ) (c d : Vec X Z) (x : X) → j + 1 ≡ length cs → c.items ≡ (get_or cs j d).items ++ x ∷ [] → flat (set cs j c) ≡ flat cs ++ x ∷ []
+push_last {X} [] j c d x last is = absurd (omega (arith, last))
+push_last {X} (b ∷ []) zero c d x last is = append-nil c.items ∙ is ∙ ap (λ (xs : List X). xs ++ x ∷ []) (sym (append-nil b.items))
+push_last {X} (b ∷ a ∷ bs) zero c d x last is = absurd (omega (arith, last))
+push_last {X} (b ∷ bs) (suc j) c d x last is = ap (λ xs. b.items ++ xs) (push_last bs j c d x (omega (arith, last)) is) ∙ sym (append_assoc b.items (flat bs) (x ∷ []))
 
 pub on_ok : {A E P Q : Type 0} (r : Result A E) → OnOk r P → (P → Q) → OnOk r Q
 on_ok (Ok x) p f = f p

@@ -6,6 +6,7 @@ pub mod IdRows
 pub mod Gaps
 pub mod RowEdits
 pub mod Runs
+pub mod Keyed
 pub mod Numbers
 pub mod Struck
 pub mod Grouped

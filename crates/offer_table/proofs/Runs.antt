@@ -1,14 +1,13 @@
 -- Offers in the order of their sets' numbers, cut into runs of equal sets.
-use Rattle.std.proofs.Common.{◌≡◌, ◌≢◌, ℕ, zero, suc, ◌+◌, ◌^◌, ◌<◌, ◌≤◌, ◌==◌, ◌&&◌, not, Bool, true, false, cond, List, [], ◌∷◌, ◌++◌, length, get_or, take, drop, map, refl, sym, ap, ◌∙◌, subst, arith, inl, inr, append-nil, take-append-drop}
+use Rattle.std.proofs.Common.{◌≡◌, ◌≢◌, ℕ, ◌+◌, ◌<◌, ◌≤◌, ◌==◌, Bool, true, false, cond, List, [], ◌∷◌, ◌++◌, length, get_or, take, drop, map, refl, sym, ap, ◌∙◌, subst, arith, inl, inr, append-nil, take-append-drop}
 use Rattle.std.specs.Prelude.{Some, None, slice_get}
 use Rattle.std.specs.declared.cmp.Ordering.TheVariants.{Less}
-use Rattle.std.specs.Ordering.{nat_cmp, is_lt}
+use Rattle.std.specs.Ordering.{nat_cmp}
 use Rattle.std.specs.List.{All, filter}
-use Rattle.std.specs.List.Sorted.{IsStrictlySortedBy, IsNonDecreasingBy, IsStableByKey, ties}
+use Rattle.std.specs.List.Sorted.{IsStrictlySortedBy, IsNonDecreasingBy}
 use Rattle.std.proofs.lemmas.Bool.{cases_lt, eq-eqb, eqb-true}
 use Rattle.std.proofs.lemmas.List.{map-append, get_or-drop, length-drop, length-map, length-take-le, get_or_default}
-use Rattle.std.proofs.lemmas.List.Sums.{sum_by-cons}
-use Rattle.std.proofs.lemmas.List.Elements.{All-head, All-tail, All-cons, All-nil, All-map, All-filter, All-drop, All-push, filter-append, filter_agree}
+use Rattle.std.proofs.lemmas.List.Elements.{All-head, All-tail, All-cons, All-nil, All-map, All-filter, All-drop, All-push, filter-append}
 use Rattle.std.proofs.lemmas.List.Sorted.{IsNonDecreasingBy-drop}
 use Rattle.neg_codec.specs.declared.Id.{Id}
 use Rattle.sharing.specs.Offers.{AreRelays, Ascend, id_cmp}
@@ -70,29 +69,6 @@ ascend_front (x ∷ xs) ys h = sorted_cons id_cmp x xs (all_front (λ y. id_cmp 
 pub ascend_back : (xs ys : List Id) → Ascend (xs ++ ys) → Ascend ys
 ascend_back [] ys h = h
 ascend_back (x ∷ xs) ys h = ascend_back xs ys (tail_sorted id_cmp x (xs ++ ys) h)
-
--- a set with this number, whatever the number is
-ones : ℕ → List ℕ
-ones zero = []
-ones (suc n) = 0 ∷ ones n
-
-ones_number : (n : ℕ) → bits_of (ones n) ≡ n
-unfolding ones
-ones_number zero = refl
-ones_number (suc n) = omega (arith, ones_number n, sum_by-cons (λ r. 2 ^ r) 0 (ones n))
-
-tie_test : (a b : ℕ) → (not (is_lt (nat_cmp a b)) && not (is_lt (nat_cmp b a))) ≡ (a == b)
-tie_test a b = grind arith
-
--- a stable sort by the numbers keeps the ids of each number in their order
-pub stable_ids : (xs ys : Offers) → length ys ≡ length xs → IsStableByKey set_number nat_cmp xs ys → (n : ℕ) → ids_numbered n ys ≡ ids_numbered n xs
-stable_ids [] [] e h n = refl
-stable_ids [] (y ∷ ys) e h n = absurd (omega arith)
-stable_ids (x ∷ xs) ys e h n =
-    let agree : (o : Id × List ℕ) → (n == set_number o) ≡ ties (λ a b. is_lt (nat_cmp (set_number a) (set_number b))) (x.0, ones n) o = λ o. sym (tie_test (bits_of (ones n)) (set_number o) ∙ ap (λ k. k == set_number o) (ones_number n)) in
-    ap (map id_of) (filter_agree (λ o. n == set_number o) (ties (λ a b. is_lt (nat_cmp (set_number a) (set_number b))) (x.0, ones n)) agree ys
-    ∙ h (x.0, ones n)
-    ∙ sym (filter_agree (λ o. n == set_number o) (ties (λ a b. is_lt (nat_cmp (set_number a) (set_number b))) (x.0, ones n)) agree (x ∷ xs)))
 
 -- the first of some offers
 pub first_of : (xs : Offers) (o : Id × List ℕ) → Some o ≡ slice_get xs 0 → (0 < length xs) × (get_or xs 0 o ≡ o)

@@ -3,6 +3,7 @@ pub mod RelayBits
 pub mod Table
 pub mod Faults
 pub mod Groups
+pub mod Keys
 pub mod Rows
 pub mod Places
 pub mod Entries

@@ -1,6 +1,6 @@
 //! Rows in chunks.
 
-ghost use Rattle.std.specs.Prelude.{◌≡◌, ◌<◌, ◌≤◌, ◌+◌, ℕ, List, [], length, IfOk, OnOk, OnErr, slice_get, slice_set, slice_index_or, Some};
+ghost use Rattle.std.specs.Prelude.{◌≡◌, ◌<◌, ◌≤◌, ◌+◌, ℕ, List, [], ◌∷◌, ◌++◌, length, IfOk, OnOk, OnErr, slice_get, slice_set, slice_index_or, Some};
 ghost use Rattle.std.specs.List.{insert, remove};
 ghost use Rattle.neg_codec.specs.declared.Id.{Id};
 ghost use Rattle.offer_table.specs.Rows.{with_id, without_id};
@@ -130,6 +130,19 @@ fn gap(
     Ok(end(chunks, count))
 }
 
+/// The last chunk, where it takes a row, or else a new one behind it.
+fn last(alloc: Global, chunks: &mut Vec<Vec<(RelaySet, Row)>>) -> Result<usize, AllocError>
+    ensures same { flat chunks.new.items ≡ flat chunks.old.items }
+    ensures last { IfOk result (λ place. place + 1 ≡ length chunks.new.items) }
+{
+    let count = chunks.len();
+    if count > 0 && chunks[count - 1].len() < MOST {
+        return Ok(count - 1);
+    }
+    chunks.push(Vec::new(alloc))?;
+    Ok(count)
+}
+
 impl Chunks {
     /// No rows.
     pub(crate) fn new(alloc: Global) -> Chunks
@@ -193,6 +206,20 @@ impl Chunks {
         }
         let (place, at) = gap(alloc, &mut self.chunks, k)?;
         self.chunks[place].insert(at, row)?;
+        self.count += 1;
+        Ok(())
+    }
+
+    /// Puts a row behind the others. Where memory runs out nothing has changed.
+    pub(crate) fn push(&mut self, alloc: Global, row: (RelaySet, Row)) -> Result<(), AllocError>
+        ensures ok { OnOk result (self.new ≡ self.old ++ row ∷ []) }
+        ensures err { OnErr result (self.new ≡ self.old) }
+    {
+        if self.count == usize::MAX {
+            return Err(AllocError);
+        }
+        let place = last(alloc, &mut self.chunks)?;
+        self.chunks[place].push(row)?;
         self.count += 1;
         Ok(())
     }

@@ -1,6 +1,6 @@
 //! Ids in order.
 
-ghost use Rattle.std.specs.Prelude.{◌≡◌, ◌↔◌, ◌∷◌, ◌<◌, ◌≤◌, ◌+◌, ◌-◌, [], IsTrue, length, drop, map, IfOk, IfErr, OnOk, OnErr};
+ghost use Rattle.std.specs.Prelude.{◌≡◌, ◌↔◌, ◌∷◌, ◌<◌, ◌≤◌, ◌+◌, ◌-◌, [], IsTrue, length, drop, IfOk, IfErr, OnOk, OnErr};
 ghost use Rattle.std.specs.List.{insert, remove};
 ghost use Rattle.sharing.specs.Offers.{Ascend, id_cmp};
 ghost use Rattle.offer_table.specs.Places.{IsHit, IsMiss};
@@ -110,18 +110,6 @@ impl Row {
         }
     }
 
-    /// The ids of these offers.
-    pub(crate) fn of(alloc: Global, offers: &[(Id, RelaySet)]) -> Result<Row, AllocError>
-        requires { Ascend (map (λ o. o.0) offers.now) }
-        ensures { IfOk result (λ row. row ≡ map (λ o. o.0) offers.now) }
-    {
-        let mut ids = Vec::with_capacity(alloc, offers.len())?;
-        for offer in offers {
-            ids.push(offer.0)?;
-        }
-        Ok(Row { ids, gone: 0 })
-    }
-
     pub(crate) fn as_slice(&self) -> &[Id]
         ensures ids { result.now ≡ self.now }
         ensures ascend { Ascend self.now }
@@ -165,5 +153,13 @@ impl Row {
             Ok(at) => self.gone = take_at(&mut self.ids, self.gone, at),
             Err(_) => {}
         }
+    }
+
+    /// These ids.
+    pub(crate) fn from_ids(ids: Vec<Id>) -> Row
+        requires { Ascend ids.items }
+        ensures { result ≡ ids.items }
+    {
+        Row { ids, gone: 0 }
     }
 }
