@@ -1,9 +1,8 @@
 -- One id that is given to a relay, and what is read of counts.
-use Rattle.std.proofs.Common.{◌≡◌, ℕ, ◌+◌, ◌-◌, ◌<◌, ◌≤◌, ◌==◌, cond, List, length, get_or, set, replicate, sym, ap, ◌∙◌, arith, inl, inr}
+use Rattle.std.proofs.Common.{◌≡◌, ℕ, ◌+◌, ◌<◌, ◌≤◌, ◌==◌, cond, List, length, get_or, set, replicate, sym, ap, ◌∙◌, arith, inl, inr}
 use Rattle.std.specs.List.{sum}
 use Rattle.std.proofs.lemmas.Bool.{eq-eqb, ne_eqb, cases_eq, cases_lt}
-use Rattle.std.proofs.lemmas.List.{length-set, length-replicate, get_or_past, set_past, get_or-set_same, get_or-set_other}
-use Rattle.std.proofs.lemmas.List.Sums.{sum_by-set}
+use Rattle.std.proofs.lemmas.List.{length-set, length-replicate, get_or_past, set_past}
 use Rattle.sharing.specs.declared.TheConstants.{RELAYS}
 use Rattle.fetch_plan.specs.Counts.{one_at, counts_in}
 use Rattle.fetch_plan.proofs.Gives.{none_counted, none_sum, some_more, more_at, sum_more}
@@ -71,28 +70,6 @@ some_left xs n some none =
         ]),
       ))
     ]
-
--- one fewer in a table
-module _ (xs : List ℕ) (relay : ℕ) (lt : relay < length xs) (some : 0 < get_or xs relay 0) where
-  abbrev pub one_less : List ℕ
-  one_less = set xs relay (get_or xs relay 0 - 1)
-
-  pub less_at : (r : ℕ) → get_or one_less r 0 + cond (relay == r) 1 0 ≡ get_or xs r 0
-  less_at r =
-      elim (cases_eq r relay) [
-        | inl e ↦
-            (let a : get_or one_less r 0 ≡ get_or xs relay 0 - 1 = ap (λ r. get_or one_less r 0) e ∙ get_or-set_same xs relay (get_or xs relay 0 - 1) 0 lt in
-            omega (arith, some, a, ap (λ r. get_or xs r 0) e, ap {B = ℕ} (λ b. cond b 1 0) (eq-eqb relay r (sym e))))
-        | inr ne ↦
-            (let a : get_or one_less r 0 ≡ get_or xs r 0 = get_or-set_other xs relay r (get_or xs relay 0 - 1) 0 ne in
-            omega (arith, a, ap {B = ℕ} (λ b. cond b 1 0) (ne_eqb relay r (λ e. ne (sym e)))))
-      ]
-
-  pub sum_less : sum one_less + 1 ≡ sum xs
-  sum_less = omega (arith, some, sum_by-set (λ x. x) xs relay (get_or xs relay 0 - 1) 0 lt)
-
-  pub less_below : ((r : ℕ) → r < relay → get_or xs r 0 ≡ 0) → (r : ℕ) → r < relay → get_or one_less r 0 ≡ 0
-  less_below none r below = omega (arith, none r below, less_at r)
 
 -- where there is no table
 pub in_one : (first : ℕ) (table : List ℕ) → length table ≡ 0 → counts_in first table ≡ one_at first

@@ -1,11 +1,11 @@
 -- Single ids, handed out by the counts of their groups.
-use Rattle.std.proofs.Common.{◌≡◌, ◌≢◌, append-nil, ℕ, zero, suc, ◌+◌, ◌-◌, ◌<◌, ◌≤◌, ◌==◌, Bool, true, false, cond, List, [], ◌∷◌, ◌++◌, length, map, get_or, set, take, drop, refl, sym, ap, ◌∙◌, subst, arith, inl, inr}
-use Rattle.std.specs.List.{sum, sum_by, count_by, filter, All, Contains}
+use Rattle.std.proofs.Common.{◌≡◌, ℕ, suc, ◌+◌, ◌-◌, ◌<◌, ◌≤◌, ◌==◌, Bool, true, false, cond, List, [], ◌∷◌, ◌++◌, length, map, get_or, set, take, drop, refl, sym, ap, ◌∙◌, arith, inl, inr}
+use Rattle.std.specs.List.{sum, sum_by, filter, All}
 use Rattle.std.specs.declared.cmp.Ordering.TheVariants.{Less}
 use Rattle.std.specs.Ordering.{nat_cmp}
 use Rattle.std.specs.List.Sorted.{IsStrictlySortedBy}
 use Rattle.std.proofs.lemmas.Bool.{cases_lt, cases_eq, cases_Bool, eq-eqb, ne_eqb, eqb-true}
-use Rattle.std.proofs.lemmas.List.{map-append, append_assoc, length-map, length-set, get_or-map, length_push, same_lists, get_or-take, get_or-drop, length-take-le, length-drop}
+use Rattle.std.proofs.lemmas.List.{map-append, append_assoc, length-map, length-set, get_or-map, same_lists, get_or-take, get_or-drop, length-take-le, length-drop}
 use Rattle.std.proofs.lemmas.List.Elements.{All-nil, All-push, All-head, All-tail, Contains-append_left, Contains-push}
 use Rattle.std.proofs.lemmas.List.Sums.{sum_by-cons, sum_by_push, get_or-le-sum_by}
 use Rattle.std.proofs.lemmas.Map.Keys.{Less-from_sorted}
@@ -259,6 +259,3 @@ module _ (offers : Offers) (old now : List Group) (shares : List Share) (rest : 
     counted = h.counted;
     shared = λ k r lt some. h.shared k r (omega (arith, some, none_left k lt, amount_some now k r));
   }
-
-  pub all_offers : offers_of shares ≡ offers
-  all_offers = sym (append-nil (offers_of shares)) ∙ ap (λ os. offers_of shares ++ os) (sym end) ∙ h.whole

@@ -1,4 +1,4 @@
-use Rattle.std.proofs.Common.{◌<◌, length, arith}
+use Rattle.std.proofs.Common.{arith}
 use Rattle.fetch_plan.proofs.Counted.{some_left}
 use Rattle.fetch_plan.proofs.counts.lowest.Goals as goal
 

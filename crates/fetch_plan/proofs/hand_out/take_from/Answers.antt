@@ -1,4 +1,4 @@
-use Rattle.std.proofs.Common.{◌≡◌, ◌<◌, ℕ, ◌+◌, ◌==◌, cond, sym, ap, ◌∙◌, refl, arith}
+use Rattle.std.proofs.Common.{sym, ◌∙◌, refl, arith}
 use Rattle.fetch_plan.proofs.Trails.{shared_is, amount_is, total_is}
 use Rattle.fetch_plan.proofs.Hands.{one_taken}
 use Rattle.fetch_plan.proofs.hand_out.take_from.Goals as goal

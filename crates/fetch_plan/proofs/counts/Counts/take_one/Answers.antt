@@ -1,4 +1,4 @@
-use Rattle.std.proofs.Common.{◌≡◌, ◌==◌, ◌+◌, ◌<◌, cond, length, sym, ap, ◌∙◌, arith, get_or}
+use Rattle.std.proofs.Common.{◌≡◌, ◌<◌, length, sym, ap, ◌∙◌, arith, get_or}
 use Rattle.std.specs.List.{sum}
 use Rattle.std.proofs.lemmas.Bool.{eqb-true}
 use Rattle.sharing.specs.declared.TheConstants.{RELAYS}
