@@ -86,14 +86,6 @@ Rows = List (List ℕ × List Id)
 abbrev pub many : List ℕ × List Id → ℕ
 many row = length row.1
 
--- the ids of one row more
-pub rows_more : (rows : Rows) (place : ℕ) → place < length rows → sum_by many (take (place + 1) rows) ≡ sum_by many (take place rows) + length (row_ids rows place)
-unfolding row_ids
-rows_more rows place lt = sum_by_more many rows place ([], []) lt
-
-pub rows_more_le : (rows : Rows) (place : ℕ) → place < length rows → sum_by many (take place rows) + length (row_ids rows place) ≤ sum_by many rows
-rows_more_le rows place lt = omega (arith, rows_more rows place lt, sum_by-take-le many rows (place + 1))
-
 -- a row that was read
 pub row_is : (rows : Rows) (place : ℕ) (relays : List ℕ) (ids : List Id) → slice_get rows place ≡ Some (relays, ids) → (row_relays rows place ≡ relays) × (row_ids rows place ≡ ids)
 unfolding row_relays row_ids

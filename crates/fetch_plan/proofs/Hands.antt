@@ -1,270 +1,261 @@
 -- Single ids, handed out by the counts of their groups.
-use Rattle.std.proofs.Common.{◌≡◌, ◌≢◌, ◌||◌, append-nil, ℕ, zero, suc, ◌+◌, ◌-◌, ◌<◌, ◌≤◌, ◌==◌, Bool, true, false, cond, List, [], ◌∷◌, ◌++◌, length, map, get_or, take, drop, refl, sym, ap, ◌∙◌, subst, arith, inl, inr}
-use Rattle.std.specs.List.{sum, count_by, All, Contains}
+use Rattle.std.proofs.Common.{◌≡◌, ℕ, suc, ◌+◌, ◌-◌, ◌<◌, ◌≤◌, ◌==◌, Bool, true, false, cond, List, [], ◌∷◌, ◌++◌, length, map, get_or, set, take, drop, refl, sym, ap, ◌∙◌, arith, inl, inr}
+use Rattle.std.specs.List.{sum, sum_by, filter, All}
 use Rattle.std.specs.declared.cmp.Ordering.TheVariants.{Less}
-use Rattle.std.proofs.lemmas.Bool.{cases_lt, cases_eq, cases_Bool, eq-eqb, ne_eqb, eqb-true, or_left, or_right}
-use Rattle.std.proofs.lemmas.List.{map-append, append_assoc, get_or-drop, length-take, length-drop, take_all}
-use Rattle.std.proofs.lemmas.List.Elements.{All-nil, All-cons, All-append, All-map, All-tail, All-head, All-weaker, All-contains, Contains-append_left, Contains-append_right}
-use Rattle.std.proofs.lemmas.List.Sums.{sum_by-cons, sum_by-append, sum_by_more, sum_by-take-le, sum_by-take-drop}
+use Rattle.std.specs.Ordering.{nat_cmp}
+use Rattle.std.specs.List.Sorted.{IsStrictlySortedBy}
+use Rattle.std.proofs.lemmas.Bool.{cases_lt, cases_eq, cases_Bool, eq-eqb, ne_eqb, eqb-true}
+use Rattle.std.proofs.lemmas.List.{map-append, append_assoc, length-map, length-set, get_or-map, same_lists, get_or-take, get_or-drop, length-take-le, length-drop}
+use Rattle.std.proofs.lemmas.List.Elements.{All-nil, All-push, All-head, All-tail, Contains-append_left, Contains-push}
+use Rattle.std.proofs.lemmas.List.Sums.{sum_by-cons, sum_by_push, get_or-le-sum_by}
+use Rattle.std.proofs.lemmas.Map.Keys.{Less-from_sorted}
 use Rattle.neg_codec.specs.declared.Id.{Id}
-use Rattle.sharing.specs.declared.TheConstants.{RELAYS}
-use Rattle.sharing.specs.Offers.{relays_of, is_id, id_cmp, Ascend}
-use Rattle.sharing.proofs.Looks.{map_twice, map_itself}
-use Rattle.sharing.proofs.Orders.{id_itself, id_apart, id_flips, same_id, head_sorted, tail_sorted, All-unmap}
-use Rattle.offer_table.specs.Groups.{is_listed}
+use Rattle.sharing.specs.Offers.{AreRelays, IsOffers}
+use Rattle.sharing.proofs.Orders.{lt_from_less}
+use Rattle.offer_table.specs.Relays.{bits_of}
+use Rattle.offer_table.specs.Groups.{set_cmp, sets_of, ids_numbered, groups_of}
 use Rattle.offer_table.specs.Groups as tabled
+use Rattle.offer_table.specs.Places.{IsMiss}
+use Rattle.offer_table.proofs.Numbers.{same_set}
+use Rattle.offer_table.proofs.Partition.{are_groups}
 use Rattle.fetch_plan.specs.declared.groups.Group.{Group}
 use Rattle.fetch_plan.specs.declared.hand_out.Share.{Share}
-use Rattle.fetch_plan.specs.Shares.{held}
-use Rattle.fetch_plan.specs.Groups.{amount, shared_by, load_of, no_group, row_relays, row_ids, AreTabled}
-use Rattle.fetch_plan.specs.Handed.{given_to, AreDealt, IsCounted, HasShare, AreHanded, AreOfTable}
+use Rattle.fetch_plan.specs.Shares.{held, offers_of}
+use Rattle.fetch_plan.specs.Groups.{amount, shared_by, total, load_of, row_relays, row_ids, AreSets, AreTabled}
+use Rattle.fetch_plan.specs.Handed.{IsTaken, IsCounted, HasShare, AreHanded}
 use Rattle.fetch_plan.proofs.Gives.{at-le-sum}
-use Rattle.fetch_plan.specs.Counts.{one_at}
-use Rattle.fetch_plan.proofs.Counted.{one_get, one_sum}
+use Rattle.fetch_plan.proofs.Trails.{get_or_any}
+use Rattle.fetch_plan.proofs.Walks.{amount_here, amount_there, shared_after, total_here, total_there, load_after}
 
 abbrev Rows : Type 0
 Rows = List (List ℕ × List Id)
 
--- where the first ones have it all, nothing is behind them
-rest_zero : (xs : List ℕ) (n r : ℕ) → sum xs ≤ sum (take n xs) → n ≤ r → get_or xs r 0 ≡ 0
-rest_zero xs n r all le =
-    let e : n + (r - n) ≡ r = omega arith in
-    let at : get_or (drop n xs) (r - n) 0 ≡ get_or xs r 0 = get_or-drop n xs (r - n) 0 ∙ ap (λ k. get_or xs k 0) e in
-    omega (arith, all, at, at-le-sum (drop n xs) (r - n), sum_by-take-drop (λ x. x) xs n)
+abbrev pub Offers : Type 0
+Offers = List (Id × List ℕ)
 
-pub take_parts : {X : Type 0} (n k : ℕ) (xs : List X) → take n xs ++ take k (drop n xs) ≡ take (n + k) xs
-take_parts zero k xs = ap (λ m. take m xs) (let e : k ≡ zero + k = omega arith in e)
-take_parts (suc n) zero [] = sym (take_all (suc n + zero) [] (omega arith))
-take_parts (suc n) (suc k) [] = sym (take_all (suc n + suc k) [] (omega arith))
-take_parts (suc n) k (x ∷ xs) = ap (λ ys. x ∷ ys) (take_parts n k xs) ∙ ap (λ m. take m (x ∷ xs)) (let e : suc (n + k) ≡ suc n + k = omega arith in e)
-
--- the next so many
-module _ {X : Type 0} (xs : List X) (n k : ℕ) (le : n + k ≤ length xs) where
-  abbrev pub next_part : List X
-  next_part = take (n + k - n) (drop n xs)
-
-  pub part_long : length next_part ≡ k
-  part_long = omega (arith, length-take (n + k - n) (drop n xs), length-drop n xs)
-
-  pub part_next : take n xs ++ next_part ≡ take (n + k) xs
-  part_next = ap (λ m. take n xs ++ take m (drop n xs)) (let e : n + k - n ≡ k = omega arith in e) ∙ take_parts n k xs
-
-cond_zero : (b : Bool) → cond {A = ℕ} b 0 0 ≡ 0
-cond_zero true = refl
-cond_zero false = refl
-
-module _ (relays : List ℕ) (relay : ℕ) where
-  one_given : Id → Share
-  one_given i = record { id = i; relays = relays; relay = relay }
-
-  held_given : (r : ℕ) (ids : List Id) → held (given_to relays relay ids) r ≡ cond (relay == r) (length ids) 0
-  held_given r [] = sym (cond_zero (relay == r))
-  held_given r (i ∷ is) =
-      let more : held (given_to relays relay (i ∷ is)) r ≡ cond (relay == r) 1 0 + held (given_to relays relay is) r = sum_by-cons (λ (s : Share). cond (s.relay == r) 1 0) (record { id = i; relays = relays; relay = relay }) (given_to relays relay is) in
-      elim (cases_Bool (relay == r)) [
-        | inl t ↦ omega (arith, more, held_given r is, ap {B = ℕ} (λ b. cond b 1 0) t, ap {B = ℕ} (λ b. cond b (length is) 0) t, ap {B = ℕ} (λ b. cond b (length (i ∷ is)) 0) t)
-        | inr f ↦ omega (arith, more, held_given r is, ap {B = ℕ} (λ b. cond b 1 0) f, ap {B = ℕ} (λ b. cond b (length is) 0) f, ap {B = ℕ} (λ b. cond b (length (i ∷ is)) 0) f)
-      ]
-
-  ids_given : (ids : List Id) → map (λ (s : Share). s.id) (given_to relays relay ids) ≡ ids
-  ids_given ids = map_twice (λ (s : Share). s.id) (λ i. record { id = i; relays = relays; relay = relay }) ids ∙ map_itself ids
-
--- of the ids of a group so many are dealt, to the relays below this one
-pub record Dealing (group : Group) (ids : List Id) (old now : List Share) (dealt relay : ℕ) : Type 0 where
-  pub within : dealt ≤ length ids
-  pub so_far : dealt ≡ sum (take relay group.given)
-  pub more : List Share
-  pub behind : now ≡ old ++ more
-  pub ids_ok : map (λ s. s.id) more ≡ take dealt ids
-  pub before : (r : ℕ) → r < relay → held more r ≡ get_or group.given r 0
-  pub later : (r : ℕ) → relay ≤ r → held more r ≡ 0
-  pub fine : All (λ s. (s.relays ≡ group.relays) × (1 ≤ get_or group.given s.relay 0)) more
-
-pub dealing_none : (group : Group) (ids : List Id) (old : List Share) → Dealing group ids old old 0 0
-dealing_none group ids old = record {
-  within = omega arith;
-  so_far = refl;
-  more = [];
-  behind = sym (append-nil old);
-  ids_ok = refl;
-  before = λ r lt. absurd (omega arith);
-  later = λ r le. refl;
-  fine = All-nil (λ (s : Share). (s.relays ≡ group.relays) × (1 ≤ get_or group.given s.relay 0));
-}
-
--- while ids are left, so are relays
-pub relay_left : (group : Group) (ids : List Id) (old now : List Share) (dealt relay : ℕ) → Dealing group ids old now dealt relay → sum group.given ≡ length ids → dealt < length ids → relay < length group.given
-relay_left group ids old now dealt relay h all lt =
-    elim (cases_lt relay (length group.given)) [
-      | inl below ↦ below
-      | inr above ↦ absurd (omega (arith, all, h.so_far, ap sum (take_all relay group.given above)))
-    ]
-
-pub count_fits : (group : Group) (ids : List Id) (old now : List Share) (dealt relay : ℕ) → Dealing group ids old now dealt relay → sum group.given ≡ length ids → relay < length group.given → dealt + get_or group.given relay 0 ≤ length ids
-count_fits group ids old now dealt relay h all lt = omega (arith, all, h.so_far, sum_by_more (λ x. x) group.given relay 0 lt, sum_by-take-le (λ x. x) group.given (relay + 1))
-
-pub dealing_step : (group : Group) (ids : List Id) (old now later : List Share) (dealt relay count : ℕ) (part : List Id) → Dealing group ids old now dealt relay → sum group.given ≡ length ids → relay < length group.given → count ≡ get_or group.given relay 0 →
-    length part ≡ count → take dealt ids ++ part ≡ take (dealt + count) ids → later ≡ now ++ given_to group.relays relay part → Dealing group ids old later (dealt + count) (relay + 1)
-dealing_step group ids old now later dealt relay count part h all lt is long parts e =
-    let news : List Share = given_to group.relays relay part in
-    let both : (r : ℕ) → held (h.more ++ news) r ≡ held h.more r + cond (relay == r) (length part) 0 = λ r.
-    sum_by-append (λ (s : Share). cond (s.relay == r) 1 0) h.more news ∙ ap (λ n. held h.more r + n) (held_given group.relays relay r part) in
-    record {
-      within = omega (arith, is, count_fits group ids old now dealt relay h all lt);
-      so_far = omega (arith, is, h.so_far, sum_by_more (λ x. x) group.given relay 0 lt);
-      more = h.more ++ news;
-      behind = e ∙ ap (λ xs. xs ++ news) h.behind ∙ append_assoc old h.more news;
-      ids_ok = map-append (λ (s : Share). s.id) h.more news ∙ ap (λ xs. xs ++ map (λ (s : Share). s.id) news) h.ids_ok ∙ ap (λ xs. take dealt ids ++ xs) (ids_given group.relays relay part) ∙ parts;
-      before = λ r below. elim (cases_eq r relay) [
-        | inl same ↦ omega (arith, both r, h.later r (omega arith), long, is, ap (λ r. get_or group.given r 0) same, ap {B = ℕ} (λ b. cond b (length part) 0) (eq-eqb relay r (sym same)))
-        | inr ne ↦ omega (arith, both r, h.before r (omega arith), ap {B = ℕ} (λ b. cond b (length part) 0) (ne_eqb relay r (λ f. ne (sym f))))
-      ];
-      later = λ r le. (let ne : r ≢ relay = omega arith in omega (arith, both r, h.later r (omega arith), ap {B = ℕ} (λ b. cond b (length part) 0) (ne_eqb relay r (λ f. ne (sym f)))));
-      fine = All-append (λ (s : Share). (s.relays ≡ group.relays) × (1 ≤ get_or group.given s.relay 0)) h.more news h.fine
-          (All-map (λ (s : Share). (s.relays ≡ group.relays) × (1 ≤ get_or group.given s.relay 0)) (λ i. record { id = i; relays = group.relays; relay = relay }) part (λ k d fits. (refl, omega (arith, is, long))));
-    }
-
-pub dealt_all : (group : Group) (ids : List Id) (old now : List Share) (dealt relay : ℕ) → Dealing group ids old now dealt relay → sum group.given ≡ length ids → length ids ≤ dealt → AreDealt group ids old now
-dealt_all group ids old now dealt relay h all done = record {
-  more = h.more;
-  behind = h.behind;
-  ids_ok = h.ids_ok ∙ take_all dealt ids done;
-  loads = λ r. elim (cases_lt r relay) [
-    | inl below ↦ h.before r below
-    | inr above ↦ h.later r above ∙ sym (rest_zero group.given relay r (omega (arith, all, h.so_far)) above)
-  ];
-  fine = h.fine;
-}
-
--- the one id of a group is dealt
-pub dealt_one : (group : Group) (ids : List Id) (old new : List Share) (relay : ℕ) → relay < RELAYS → group.given ≡ one_at relay → sum group.given ≡ length ids → new ≡ old ++ given_to group.relays relay ids → AreDealt group ids old new
-dealt_one group ids old new relay lt e all is =
-    let one : length ids ≡ 1 = sym all ∙ ap sum e ∙ one_sum relay lt in
-    record {
-      more = given_to group.relays relay ids;
-      behind = is;
-      ids_ok = ids_given group.relays relay ids;
-      loads = λ r. held_given group.relays relay r ids ∙ ap {B = ℕ} (λ n. cond (relay == r) n 0) one ∙ sym (ap (λ xs. get_or xs r 0) e ∙ one_get relay lt r);
-      fine = All-map (λ (s : Share). (s.relays ≡ group.relays) × (1 ≤ get_or group.given s.relay 0)) (λ i. record { id = i; relays = group.relays; relay = relay }) ids
-          (λ k d fits. (refl, omega (arith, ap (λ xs. get_or xs relay 0) e, one_get relay lt relay, ap {B = ℕ} (λ b. cond b 1 0) (eq-eqb relay relay refl))));
-    }
-
--- a relay with a load has a share
-found_held : (shares : List Share) (r : ℕ) → 1 ≤ held shares r → (s : Share) × Contains shares s × (s.relay ≡ r)
-found_held [] r some = absurd (omega arith)
-found_held (s ∷ ss) r some =
-    elim (cases_Bool (s.relay == r)) [
-      | inl t ↦ (s, (0, omega arith, refl), eqb-true s.relay r t)
-      | inr f ↦
-          (let w : (x : Share) × Contains ss x × (x.relay ≡ r) = found_held ss r (omega (arith, some, sum_by-cons (λ (x : Share). cond (x.relay == r) 1 0) s ss, ap {B = ℕ} (λ b. cond b 1 0) f)) in
-          (w.0, (suc w.1.0, omega (arith, w.1.1), w.1.2), w.2))
-    ]
-
--- each of these is listed
-listed_itself : (ids : List Id) → All (λ i. is_listed ids i ≡ true) ids
-listed_itself [] = All-nil (λ i. is_listed [] i ≡ true)
-listed_itself (x ∷ xs) =
-    All-cons (λ i. is_listed (x ∷ xs) i ≡ true) x xs (or_left (is_id x x) (is_listed xs x) (id_itself x))
-    (All-weaker (λ i. is_listed xs i ≡ true) (λ i. is_listed (x ∷ xs) i ≡ true) (λ i h. or_right (is_id i x) (is_listed xs i) h) xs (listed_itself xs))
-
-none_listed : (xs : List Id) (i : Id) → All (λ y. is_id i y ≡ false) xs → count_by (is_id i) xs ≡ 0
-none_listed [] i h = refl
-none_listed (x ∷ xs) i h = omega (arith, sum_by-cons (λ y. cond (is_id i y) 1 0) x xs, ap {B = ℕ} (λ b. cond b 1 0) (All-head (λ y. is_id i y ≡ false) x xs h), none_listed xs i (All-tail (λ y. is_id i y ≡ false) x xs h))
-
--- ids in order stand once
-pub counted_once : (xs : List Id) (i : Id) → Ascend xs → count_by (is_id i) xs ≡ cond (is_listed xs i) 1 0
-counted_once [] i h = refl
-counted_once (x ∷ xs) i h =
-    let more : count_by (is_id i) (x ∷ xs) ≡ cond (is_id i x) 1 0 + count_by (is_id i) xs = sum_by-cons (λ y. cond (is_id i y) 1 0) x xs in
-    elim (cases_Bool (is_id i x)) [
-      | inl t ↦
-          (let e : i ≡ x = same_id i x t in
-          let apart : All (λ y. is_id i y ≡ false) xs = subst (λ z. All (λ y. is_id z y ≡ false) xs) (sym e) (All-weaker (λ y. id_cmp x y ≡ Less) (λ y. is_id x y ≡ false) (λ y less. id_flips y x (id_apart x y less)) xs (head_sorted id_cmp x xs h)) in
-          omega (arith, more, ap {B = ℕ} (λ b. cond b 1 0) t, none_listed xs i apart, ap {B = ℕ} (λ b. cond b 1 0) (or_left (is_id i x) (is_listed xs i) t)))
-      | inr f ↦ omega (arith, more, ap {B = ℕ} (λ b. cond b 1 0) f, counted_once xs i (tail_sorted id_cmp x xs h), ap {B = ℕ} (λ b. cond (b || is_listed xs i) 1 0) f)
-    ]
-
-pub count_mapped : (shares : List Share) (i : Id) → count_by (is_id i) (map (λ s. s.id) shares) ≡ count_by (λ s. is_id i s.id) shares
-count_mapped [] i = refl
-count_mapped (s ∷ ss) i = omega (arith, count_mapped ss i, sum_by-cons (λ y. cond (is_id i y) 1 0) s.id (map (λ (s : Share). s.id) ss), sum_by-cons (λ (x : Share). cond (is_id i x.id) 1 0) s ss)
-
--- the ids of the first groups are dealt
-pub record DealtSome (offers : List (Id × List ℕ)) (rows : Rows) (groups : List Group) (shares : List Share) (place : ℕ) : Type 0 where
-  pub loads : (r : ℕ) → held shares r ≡ load_of (take place groups) r
-  pub counted : All (IsCounted groups) shares
-  pub shared : (k r : ℕ) → k < place → 1 ≤ amount groups k r → HasShare groups shares k r
-  pub once : (i : Id) → count_by (λ s. is_id i s.id) shares ≡ count_by (λ row. is_listed row.1 i) (take place rows)
-  pub looked : All (λ s. s.relays ≡ relays_of offers s.id) shares
-
-pub some_none : (offers : List (Id × List ℕ)) (rows : Rows) (groups : List Group) → DealtSome offers rows groups [] 0
-some_none offers rows groups = record {
-  loads = λ r. refl;
-  counted = All-nil (IsCounted groups);
-  shared = λ k r lt. absurd (omega arith);
-  once = λ i. refl;
-  looked = All-nil (λ (s : Share). s.relays ≡ relays_of offers s.id);
-}
-
-module _ (offers : List (Id × List ℕ)) (rows : Rows) (groups : List Group) (old new : List Share) (place : ℕ) (of_table : tabled.AreGroups offers rows) (same : AreTabled rows groups) (lt : place < length groups) where
-  here : Group
-  here = get_or groups place no_group
-
-  pub row_lt : place < length rows
-  row_lt = omega (arith, lt, same.long)
-
-  ids_ascend : Ascend (row_ids rows place)
-  unfolding row_ids
-  ids_ascend = of_table.ascend place ([], []) row_lt
-
-  ids_looked : All (λ i. relays_of offers i ≡ row_relays rows place) (row_ids rows place)
-  unfolding row_ids row_relays
-  ids_looked = All-weaker (λ i. is_listed (row_ids rows place) i ≡ true) (λ i. relays_of offers i ≡ row_relays rows place) (λ i h. of_table.offer place ([], []) row_lt i h) (row_ids rows place) (listed_itself (row_ids rows place))
-
-  -- one group more is dealt
-  pub some_more : DealtSome offers rows groups old place → AreDealt (get_or groups place no_group) (row_ids rows place) old new → DealtSome offers rows groups new (place + 1)
-  unfolding amount shared_by row_ids
-  some_more h d =
-      let p : (r : ℕ) → held new r ≡ held old r + held d.more r = λ r. ap (λ xs. held xs r) d.behind ∙ sum_by-append (λ (s : Share). cond (s.relay == r) 1 0) old d.more in
-      let relays_here : (get_or groups place no_group).relays ≡ row_relays rows place = same.relays place lt in
-      record {
-        loads = λ r. omega (arith, p r, h.loads r, d.loads r, sum_by_more (λ (g : Group). get_or g.given r 0) groups place no_group lt);
-        counted = subst (All (IsCounted groups)) (sym d.behind)
-            (All-append (IsCounted groups) old d.more h.counted
-            (All-weaker (λ s. (s.relays ≡ (get_or groups place no_group).relays) × (1 ≤ get_or (get_or groups place no_group).given s.relay 0)) (IsCounted groups) (λ s f. (place, lt, f.1, f.0)) d.more d.fine));
-        shared = λ k r below some. subst (λ xs. HasShare groups xs k r) (sym d.behind)
-            (elim (cases_eq k place) [
-              | inl e ↦
-                  (let w : (s : Share) × Contains d.more s × (s.relay ≡ r) = found_held d.more r (omega (arith, some, d.loads r, ap (λ k. get_or (get_or groups k no_group).given r 0) e)) in
-                  let f = All-contains (λ s. (s.relays ≡ (get_or groups place no_group).relays) × (1 ≤ get_or (get_or groups place no_group).given s.relay 0)) d.more w.0 d.fine w.1 in
-                  (w.0, Contains-append_right old d.more w.0 w.1, w.2, f.0 ∙ ap (λ k. (get_or groups k no_group).relays) (sym e)))
-              | inr ne ↦ (let w = h.shared k r (omega arith) some in (w.0, Contains-append_left old d.more w.0 w.1, w.2, w.3))
-            ]);
-        once = λ i.
-            let one : count_by (λ s. is_id i s.id) d.more ≡ cond (is_listed (row_ids rows place) i) 1 0 = sym (count_mapped d.more i) ∙ ap (count_by (is_id i)) d.ids_ok ∙ counted_once (row_ids rows place) i ids_ascend in
-            omega (
-              arith,
-              ap (count_by (λ s. is_id i s.id)) d.behind,
-              sum_by-append (λ (s : Share). cond (is_id i s.id) 1 0) old d.more,
-              h.once i,
-              one,
-              sum_by_more (λ (row : List ℕ × List Id). cond (is_listed row.1 i) 1 0) rows place ([], []) row_lt,
-            );
-        looked = subst (All (λ s. s.relays ≡ relays_of offers s.id)) (sym d.behind)
-            (All-append (λ s. s.relays ≡ relays_of offers s.id) old d.more h.looked
-            (λ k e fits. (d.fine k e fits).0 ∙ relays_here ∙ sym (All-unmap (λ i. relays_of offers i ≡ row_relays rows place) (λ (s : Share). s.id) d.more (subst (All (λ i. relays_of offers i ≡ row_relays rows place)) (sym d.ids_ok) ids_looked) k e fits)));
-      }
-
--- all groups are dealt
-module _ (offers : List (Id × List ℕ)) (rows : Rows) (groups : List Group) (shares : List Share) (place : ℕ) (of_table : tabled.AreGroups offers rows) (same : AreTabled rows groups) (h : DealtSome offers rows groups shares place) (all : length groups ≤ place) where
-  pub some_handed : AreHanded groups shares
-  some_handed = record {
-    loads = λ r. h.loads r ∙ ap (λ gs. load_of gs r) (take_all place groups all);
-    counted = h.counted;
-    shared = λ k r lt some. h.shared k r (omega arith) some;
+-- one id of a group is taken
+module _ (groups : List Group) (place : ℕ) (group : Group) (lt : place < length groups) (same : group.relays ≡ shared_by groups place)
+    (relay : ℕ) (taken : (r : ℕ) → get_or group.given r 0 + cond (relay == r) 1 0 ≡ amount groups place r) (fewer : sum group.given + 1 ≡ total groups place) where
+  pub one_taken : IsTaken groups place relay (set groups place group)
+  one_taken = record {
+    long = length-set groups place group;
+    relays = shared_after groups place group lt same;
+    amounts = λ k r. elim (cases_eq k place) [
+      | inl e ↦ omega (
+        arith,
+        amount_here groups place group lt same r,
+        taken r,
+        ap (λ k. amount (set groups place group) k r) e,
+        ap (λ k. amount groups k r) e,
+        ap {B = ℕ} (λ b. cond b (cond (relay == r) 1 0) 0) (eq-eqb place k (sym e)),
+      )
+      | inr ne ↦ omega (arith, amount_there groups place group lt same k r ne, ap {B = ℕ} (λ b. cond b (cond (relay == r) 1 0) 0) (ne_eqb place k (λ e. ne (sym e))))
+    ];
+    totals = λ k. elim (cases_eq k place) [
+      | inl e ↦ omega (arith, total_here groups place group lt same, fewer, ap (total (set groups place group)) e, ap (total groups) e, ap {B = ℕ} (λ b. cond b 1 0) (eq-eqb place k (sym e)))
+      | inr ne ↦ omega (arith, total_there groups place group lt same k ne, ap {B = ℕ} (λ b. cond b 1 0) (ne_eqb place k (λ e. ne (sym e))))
+    ];
+    loads = λ r. omega (arith, load_after groups place group lt same r, taken r);
   }
 
-  pub some_of_table : AreOfTable offers shares
-  some_of_table = record {
-    once = λ i. h.once i ∙ ap (count_by (λ row. is_listed row.1 i)) (take_all place rows (omega (arith, same.long))) ∙ of_table.once i;
-    looked = h.looked;
+-- the ids of a row are those with the number of its relays
+row_numbered : (offers : Offers) (k : ℕ) → k < length (groups_of offers) → row_ids (groups_of offers) k ≡ ids_numbered (bits_of (row_relays (groups_of offers) k)) offers
+unfolding groups_of row_ids row_relays
+row_numbered offers k lt =
+    let group : List ℕ → List ℕ × List Id = λ s. (s, ids_numbered (bits_of s) offers) in
+    let at : get_or (map group (sets_of offers)) k ([], []) ≡ group (get_or (sets_of offers) k []) = get_or-map group (sets_of offers) k [] ([], []) (omega (arith, length-map (sets_of offers) group)) in
+    ap (λ g. g.1) at ∙ sym (ap (λ g. ids_numbered (bits_of g.0) offers) at)
+
+one_longer : (b : Bool) (o : Id × List ℕ) (xs : Offers) → length (map (λ p. p.0) (cond b (o ∷ xs) xs)) ≡ cond b 1 0 + length (map (λ p. p.0) xs)
+one_longer true o xs = omega arith
+one_longer false o xs = omega arith
+
+numbered_more : (n : ℕ) (o : Id × List ℕ) (os : Offers) → length (ids_numbered n (o ∷ os)) ≡ cond (n == bits_of o.1) 1 0 + length (ids_numbered n os)
+numbered_more n o os = one_longer (n == bits_of o.1) o (filter (λ q. n == bits_of q.1) os)
+
+-- where a sum isn't 0, neither is a summand
+found_sum : {X : Type 0} (f : X → ℕ) (xs : List X) (d : X) → 0 < sum_by f xs → (k : ℕ) × (k < length xs) × (0 < f (get_or xs k d))
+found_sum f [] d some = absurd (omega arith)
+found_sum f (x ∷ xs) d some =
+    elim (cases_lt 0 (f x)) [
+      | inl lt ↦ (0, omega arith, lt)
+      | inr le ↦ (let w = found_sum f xs d (omega (arith, some, le, sum_by-cons f x xs)) in (suc w.0, omega (arith, w.1), w.2))
+    ]
+
+-- the relays of an offer are those of a row
+row_there : (offers : Offers) (rows : Rows) → tabled.AreGroups offers rows → All (λ o. AreRelays o.1) offers → All (λ o. (k : ℕ) × (k < length rows) × (row_relays rows k ≡ o.1)) offers
+unfolding row_relays
+row_there offers rows h fine j d lt =
+    let o : Id × List ℕ = get_or offers j d in
+    let test : List ℕ → Bool = λ s. bits_of s == bits_of o.1 in
+    let some : 0 < sum_by (λ g. cond (test g.0) (length g.1) 0) rows =
+    omega (arith, h.counts test, get_or-le-sum_by (λ (q : Id × List ℕ). cond (test q.1) 1 0) offers j d lt, ap {B = ℕ} (λ b. cond b 1 0) (eq-eqb (bits_of o.1) (bits_of o.1) refl)) in
+    let w = found_sum (λ (g : List ℕ × List Id). cond (test g.0) (length g.1) 0) rows ([], []) some in
+    let g : List ℕ × List Id = get_or rows w.0 ([], []) in
+    elim (cases_Bool (test g.0)) [
+      | inl t ↦ (w.0, w.1, same_set g.0 o.1 (h.relays w.0 ([], []) w.1) (fine j d lt) (eqb-true (bits_of g.0) (bits_of o.1) t))
+      | inr f ↦ absurd (omega (arith, w.2, ap {B = ℕ} (λ b. cond b (length g.1) 0) f))
+    ]
+
+first_row : (rows : Rows) (k : ℕ) → k < length rows → row_relays rows k ≡ get_or (map (λ (g : List ℕ × List Id). g.0) rows) k []
+unfolding row_relays
+first_row rows k lt = sym (get_or-map (λ (g : List ℕ × List Id). g.0) rows k ([], []) [] lt)
+
+-- the sets of groups are in order
+abbrev pub AreOrdered : List Group → Type 0
+AreOrdered groups = (j k : ℕ) → j < k → k < length groups → bits_of (shared_by groups j) < bits_of (shared_by groups k)
+
+module _ (rows : Rows) (groups : List Group) (same : AreTabled rows groups) (ordered : IsStrictlySortedBy set_cmp (map (λ g. g.0) rows)) where
+  first_of : (k : ℕ) → k < length groups → get_or (map (λ (g : List ℕ × List Id). g.0) rows) k [] ≡ shared_by groups k
+  first_of k lt = sym (same.relays k lt ∙ first_row rows k (omega (arith, same.long)))
+
+  groups_ordered : AreOrdered groups
+  groups_ordered j k lt fits =
+      let less = Less-from_sorted set_cmp (map (λ (g : List ℕ × List Id). g.0) rows) j k [] ordered lt (omega (arith, same.long, length-map rows (λ (g : List ℕ × List Id). g.0))) in
+      omega (arith, ap bits_of (first_of j (omega arith)), ap bits_of (first_of k fits), lt_from_less (bits_of (get_or (map (λ (g : List ℕ × List Id). g.0) rows) j [])) (bits_of (get_or (map (λ (g : List ℕ × List Id). g.0) rows) k [])) less)
+
+pub groups_in_order : (offers : Offers) (groups : List Group) → IsOffers offers → AreTabled (groups_of offers) groups → AreOrdered groups
+groups_in_order offers groups ok same = groups_ordered (groups_of offers) groups same (are_groups offers ok).ordered
+
+same_place : (groups : List Group) (j k : ℕ) → AreOrdered groups → j < length groups → k < length groups → bits_of (shared_by groups j) ≡ bits_of (shared_by groups k) → j ≡ k
+same_place groups j k h below within e =
+    elim (cases_lt j k) [
+      | inl lt ↦ absurd (omega (arith, e, h j k lt within))
+      | inr ge ↦ elim (cases_lt k j) [
+        | inl lt ↦ absurd (omega (arith, e, h k j lt below))
+        | inr le ↦ omega arith
+      ]
+    ]
+
+-- a number that one of the sets has is missed by no search
+pub not_missed : (sets : List (List ℕ)) (n i k : ℕ) → IsMiss bits_of nat_cmp sets n i → k < length sets → bits_of (get_or sets k []) ≡ n → ⊥
+not_missed sets n i k h fits e =
+    elim (cases_lt k i) [
+      | inl lt ↦
+          (let less : nat_cmp (bits_of (get_or (take i sets) k [])) n ≡ Less = h.before k [] (omega (arith, length-take-le i sets h.within)) in
+          omega (arith, e, ap bits_of (get_or-take i sets k [] lt), lt_from_less (bits_of (get_or (take i sets) k [])) n less))
+      | inr ge ↦
+          (let j : ℕ = k - i in
+          let is : i + j ≡ k = omega arith in
+          let less : nat_cmp n (bits_of (get_or (drop i sets) j [])) ≡ Less = h.behind j [] (omega (arith, length-drop i sets)) in
+          omega (arith, e, ap bits_of (get_or-drop i sets j []), ap (λ k. bits_of (get_or sets k [])) is, lt_from_less n (bits_of (get_or (drop i sets) j [])) less))
+    ]
+
+-- the sets of the groups are those of the rows
+pub sets_are : (rows : Rows) (groups : List Group) (sets : List (List ℕ)) → AreTabled rows groups → AreSets groups sets → sets ≡ map (λ g. g.0) rows
+sets_are rows groups sets same are =
+    let long : length (map (λ (g : List ℕ × List Id). g.0) rows) ≡ length rows = length-map rows (λ (g : List ℕ × List Id). g.0) in
+    same_lists sets (map (λ (g : List ℕ × List Id). g.0) rows) (omega (arith, are.long, same.long, long)) (λ k d lt.
+    (let fits : k < length groups = omega (arith, are.long) in
+    get_or_any sets k d [] lt ∙ are.relays k fits ∙ same.relays k fits ∙ first_row rows k (omega (arith, same.long)) ∙ get_or_any (map (λ (g : List ℕ × List Id). g.0) rows) k [] d (omega (arith, same.long, long))))
+
+-- just these relays offer the ids of some group
+abbrev pub HasGroup : List Group → Id × List ℕ → Type 0
+HasGroup groups o = (k : ℕ) × (k < length groups) × (shared_by groups k ≡ o.1)
+
+-- the offers in front of the rest are dealt: an id of its group is taken for each
+pub record Dealing (offers : Offers) (old now : List Group) (shares : List Share) (rest : Offers) : Type 0 where
+  pub whole : offers_of shares ++ rest ≡ offers
+  pub long : length now ≡ length old
+  pub relays : (k : ℕ) → shared_by now k ≡ shared_by old k
+  pub fewer : (k r : ℕ) → amount now k r ≤ amount old k r
+  pub loads : (r : ℕ) → held shares r + load_of now r ≡ load_of old r
+  pub counted : All (IsCounted old) shares
+  pub shared : (k r : ℕ) → amount now k r < amount old k r → HasShare old shares k r
+  pub left : (k : ℕ) → k < length old → total now k ≡ length (ids_numbered (bits_of (shared_by old k)) rest)
+  pub there : All (HasGroup old) rest
+
+pub dealing_none : (offers : Offers) (groups : List Group) → IsOffers offers → AreTabled (groups_of offers) groups → Dealing offers groups groups [] offers
+dealing_none offers groups ok same = record {
+  whole = refl;
+  long = refl;
+  relays = λ k. refl;
+  fewer = λ k r. omega arith;
+  loads = λ r. omega arith;
+  counted = All-nil (IsCounted groups);
+  shared = λ k r lt. absurd (omega arith);
+  left = λ k lt. same.totals k lt ∙ ap {B = ℕ} length (row_numbered offers k (omega (arith, same.long))) ∙ sym (ap {B = ℕ} (λ s. length (ids_numbered (bits_of s) offers)) (same.relays k lt));
+  there = λ j d lt. (let w = row_there offers (groups_of offers) (are_groups offers ok) ok.relays j d lt in let fits : w.0 < length groups = omega (arith, w.1, same.long) in (w.0, fits, same.relays w.0 fits ∙ w.2));
+}
+
+-- the next offer's relays are among the sets of the groups
+pub set_there : (offers : Offers) (old now : List Group) (shares : List Share) (o : Id × List ℕ) (others : Offers) (sets : List (List ℕ)) → AreSets old sets → Dealing offers old now shares (o ∷ others) →
+    (k : ℕ) × (k < length sets) × (bits_of (get_or sets k []) ≡ bits_of o.1)
+set_there offers old now shares o others sets are h =
+    let w : HasGroup old o = All-head (HasGroup old) o others h.there in
+    (w.0, omega (arith, are.long, w.1), ap bits_of (are.relays w.0 w.1 ∙ w.2))
+
+-- the group at this place is that of the next offer
+module _ (offers : Offers) (old now : List Group) (shares : List Share) (o : Id × List ℕ) (others : Offers) (place : ℕ) (ordered : AreOrdered old) (h : Dealing offers old now shares (o ∷ others)) (lt : place < length old) (found : bits_of (shared_by old place) ≡ bits_of o.1) where
+  relays_here : shared_by old place ≡ o.1
+  relays_here =
+      let w : HasGroup old o = All-head (HasGroup old) o others h.there in
+      let e : place ≡ w.0 = same_place old place w.0 ordered lt w.1 (found ∙ sym (ap bits_of w.2)) in
+      ap (shared_by old) e ∙ w.2
+
+  -- it has an id left
+  pub one_left : 0 < total now place
+  one_left = omega (arith, h.left place lt, numbered_more (bits_of (shared_by old place)) o others, ap {B = ℕ} (λ b. cond b 1 0) (eq-eqb (bits_of (shared_by old place)) (bits_of o.1) found))
+
+  module _ (relay : ℕ) (new : List Group) (t : IsTaken now place relay new) where
+    abbrev share : Share
+    share = record { id = o.0; relays = o.1; relay = relay }
+
+    more_left : (k : ℕ) → k < length old → cond {A = ℕ} (place == k) 1 0 ≡ cond (bits_of (shared_by old k) == bits_of o.1) 1 0
+    more_left k fits =
+        elim (cases_eq k place) [
+          | inl e ↦ ap {B = ℕ} (λ b. cond b 1 0) (eq-eqb place k (sym e) ∙ sym (eq-eqb (bits_of (shared_by old k)) (bits_of o.1) (ap (λ k. bits_of (shared_by old k)) e ∙ found)))
+          | inr ne ↦ ap {B = ℕ} (λ b. cond b 1 0) (ne_eqb place k (λ e. ne (sym e)) ∙ sym (ne_eqb (bits_of (shared_by old k)) (bits_of o.1) (λ e. ne (same_place old k place ordered fits lt (e ∙ sym found)))))
+        ]
+
+    here_given : 1 ≤ amount old place relay
+    here_given = omega (arith, t.amounts place relay, h.fewer place relay, ap {B = ℕ} (λ b. cond b (cond (relay == relay) 1 0) 0) (eq-eqb place place refl), ap {B = ℕ} (λ b. cond b 1 0) (eq-eqb relay relay refl))
+
+    -- the share of an id that was taken before or now
+    share_found : (k r : ℕ) → amount new k r < amount old k r → HasShare old (shares ++ share ∷ []) k r
+    share_found k r less =
+        elim (cases_lt (amount now k r) (amount old k r)) [
+          | inl before ↦ (let w = h.shared k r before in (w.0, Contains-append_left shares (share ∷ []) w.0 w.1, w.2, w.3))
+          | inr same ↦ elim (cases_eq place k) [
+            | inr ne ↦ absurd (omega (arith, less, same, t.amounts k r, ap {B = ℕ} (λ b. cond b (cond (relay == r) 1 0) 0) (ne_eqb place k ne)))
+            | inl e ↦ elim (cases_eq relay r) [
+              | inr ne ↦ absurd (omega (arith, less, same, t.amounts k r, ap {B = ℕ} (λ b. cond b (cond (relay == r) 1 0) 0) (eq-eqb place k e), ap {B = ℕ} (λ b. cond b 1 0) (ne_eqb relay r ne)))
+              | inl is ↦ (share, Contains-push shares share, is, sym relays_here ∙ ap (shared_by old) e)
+            ]
+          ]
+        ]
+
+    pub dealing_step : Dealing offers old new (shares ++ share ∷ []) others
+    dealing_step = record {
+      whole = ap (λ xs. xs ++ others) (map-append (λ (s : Share). (s.id, s.relays)) shares (share ∷ [])) ∙ append_assoc (offers_of shares) (o ∷ []) others ∙ h.whole;
+      long = t.long ∙ h.long;
+      relays = λ k. t.relays k ∙ h.relays k;
+      fewer = λ k r. omega (arith, t.amounts k r, h.fewer k r);
+      loads = λ r. omega (arith, t.loads r, h.loads r, sum_by_push (λ (s : Share). cond (s.relay == r) 1 0) shares share);
+      counted = All-push (IsCounted old) shares share h.counted (place, lt, here_given, sym relays_here);
+      shared = share_found;
+      left = λ k fits. omega (arith, t.totals k, h.left k fits, more_left k fits, numbered_more (bits_of (shared_by old k)) o others);
+      there = All-tail (HasGroup old) o others h.there;
+    }
+
+none_loaded : (groups : List Group) (r : ℕ) → ((k : ℕ) → k < length groups → total groups k ≡ 0) → load_of groups r ≡ 0
+unfolding total
+none_loaded [] r none = refl
+none_loaded (g ∷ gs) r none =
+    omega (arith, sum_by-cons (λ (g : Group). get_or g.given r 0) g gs, at-le-sum g.given r, none 0 (omega arith), none_loaded gs r (λ k lt. none (suc k) (omega arith)))
+
+amount_some : (groups : List Group) (k r : ℕ) → amount groups k r ≤ total groups k
+unfolding amount total
+amount_some groups k r = at-le-sum _ r
+
+-- all offers are dealt
+module _ (offers : Offers) (old now : List Group) (shares : List Share) (rest : Offers) (h : Dealing offers old now shares rest) (end : rest ≡ []) where
+  none_left : (k : ℕ) → k < length old → total now k ≡ 0
+  none_left k lt = h.left k lt ∙ ap {B = ℕ} (λ os. length (ids_numbered (bits_of (shared_by old k)) os)) end
+
+  pub all_handed : AreHanded old shares
+  all_handed = record {
+    loads = λ r. omega (arith, h.loads r, none_loaded now r (λ k lt. none_left k (omega (arith, lt, h.long))));
+    counted = h.counted;
+    shared = λ k r lt some. h.shared k r (omega (arith, some, none_left k lt, amount_some now k r));
   }

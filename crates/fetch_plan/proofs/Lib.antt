@@ -4,9 +4,8 @@ pub mod Walks
 pub mod Settling
 pub mod Members
 pub mod Gives
-pub mod Hands
-pub mod Ordered
 pub mod Shared
 pub mod Planned
 pub mod Searched
 pub mod Counted
+pub mod Hands

@@ -1,24 +1,18 @@
 -- Single ids as the counts of their groups say.
-use Rattle.std.specs.Prelude.{◌≡◌, ℕ, ◌<◌, ◌≤◌, ◌++◌, List, length, map, count_by, is_some, slice_index_or, cond}
+use Rattle.std.specs.Prelude.{◌≡◌, ℕ, ◌+◌, ◌<◌, ◌≤◌, ◌==◌, List, length, cond}
 use Rattle.std.specs.List.{All, Contains}
-use Rattle.neg_codec.specs.declared.Id.{Id}
-use Rattle.sharing.specs.Offers.{relays_of, beside, is_id}
 use Rattle.fetch_plan.specs.declared.groups.Group.{Group}
 use Rattle.fetch_plan.specs.declared.hand_out.Share.{Share}
-use Rattle.fetch_plan.specs.Groups.{amount, shared_by, load_of}
+use Rattle.fetch_plan.specs.Groups.{amount, shared_by, total, load_of}
 use Rattle.fetch_plan.specs.Shares.{held}
 
--- these ids, each given to this relay
-abbrev pub given_to : List ℕ → ℕ → List Id → List Share
-given_to relays relay ids = map (λ i. record { id = i; relays = relays; relay = relay }) ids
-
--- the ids of a group come behind the earlier shares, as many for each relay as its count
-pub record AreDealt (group : Group) (ids : List Id) (old new : List Share) : Type 0 where
-  pub more : List Share
-  pub behind : new ≡ old ++ more
-  pub ids_ok : map (λ s. s.id) more ≡ ids
-  pub loads : (r : ℕ) → held more r ≡ slice_index_or group.given r 0
-  pub fine : All (λ s. (s.relays ≡ group.relays) × (1 ≤ slice_index_or group.given s.relay 0)) more
+-- one id of the group at this place is taken from this relay
+pub record IsTaken (old : List Group) (place relay : ℕ) (new : List Group) : Type 0 where
+  pub long : length new ≡ length old
+  pub relays : (k : ℕ) → shared_by new k ≡ shared_by old k
+  pub amounts : (k r : ℕ) → amount new k r + cond (place == k) (cond (relay == r) 1 0) 0 ≡ amount old k r
+  pub totals : (k : ℕ) → total new k + cond (place == k) 1 0 ≡ total old k
+  pub loads : (r : ℕ) → load_of new r + cond (relay == r) 1 0 ≡ load_of old r
 
 -- the share is of a group that has a count for its relay
 abbrev pub IsCounted : List Group → Share → Type 0
@@ -33,8 +27,3 @@ pub record AreHanded (groups : List Group) (shares : List Share) : Type 0 where
   pub loads : (r : ℕ) → held shares r ≡ load_of groups r
   pub counted : All (IsCounted groups) shares
   pub shared : (k r : ℕ) → k < length groups → 1 ≤ amount groups k r → HasShare groups shares k r
-
--- each offered id has one share, beside the relays that offer it
-pub record AreOfTable (offers : List (Id × List ℕ)) (shares : List Share) : Type 0 where
-  pub once : (i : Id) → count_by (λ s. is_id i s.id) shares ≡ cond (is_some (beside offers i)) 1 0
-  pub looked : All (λ s. s.relays ≡ relays_of offers s.id) shares

@@ -1,6 +1,6 @@
 //! Counts: how many ids each relay is given.
 
-ghost use Rattle.std.specs.Prelude.{◌≡◌, ◌≢◌, ◌≤◌, ◌<◌, ◌+◌, ◌^◌, ◌==◌, ℕ, length, cond, IfOk, IfSome, slice_index};
+ghost use Rattle.std.specs.Prelude.{◌≡◌, ◌≢◌, ◌≤◌, ◌<◌, ◌+◌, ◌^◌, ◌==◌, ℕ, length, cond, IfOk, slice_index};
 ghost use Rattle.std.specs.List.{sum};
 ghost use Rattle.sharing.specs.declared.TheConstants.{MOST_IDS};
 ghost use Rattle.fetch_plan.specs.Counts.{one_at};
@@ -12,8 +12,9 @@ use std::marker::Model;
 /// How many ids each relay is given. One id alone takes no table.
 #[derive(Drop)]
 pub(crate) struct Counts {
-    /// The relay that is given the one id, where there is no table.
-    alone: u16,
+    /// No lower relay is given an id. Where there is no table this relay is given the one id; [`RELAYS`] once that
+    /// is taken.
+    first: u16,
     table: Vec<u32>,
 }
 
@@ -23,9 +24,9 @@ impl Model for Counts {
 
     ghost Value = { List ℕ };
 
-    ghost view = { λ c. counts_in c.alone c.table.items };
+    ghost view = { λ c. counts_in c.first c.table.items };
 
-    ghost invariant = { λ c. AreCounted c.alone c.table.items };
+    ghost invariant = { λ c. AreCounted c.first c.table.items };
 }
 
 impl Counts {
@@ -35,7 +36,7 @@ impl Counts {
         ensures { result ≡ one_at relay }
     {
         Counts {
-            alone: relay,
+            first: relay,
             table: Vec::new(alloc),
         }
     }
@@ -45,7 +46,7 @@ impl Counts {
         ensures { IfOk result (λ counts. counts ≡ table) }
     {
         Ok(Counts {
-            alone: 0,
+            first: 0,
             table: Vec::from_array(alloc, table)?,
         })
     }
@@ -57,21 +58,9 @@ impl Counts {
         ensures wide { length self.now ≡ RELAYS }
     {
         if self.table.is_empty() {
-            u64::from(relay == self.alone)
+            u64::from(relay == self.first)
         } else {
             u64::from(self.table[usize::from(relay)])
-        }
-    }
-
-    /// The relay that is given the one id, where there is no other.
-    pub(crate) fn lone(&self) -> Option<u16>
-        ensures one { IfSome result (λ relay. self.now ≡ one_at relay) }
-        ensures small { IfSome result (λ relay. relay < RELAYS) }
-    {
-        if self.table.is_empty() {
-            Some(self.alone)
-        } else {
-            None
         }
     }
 
@@ -81,7 +70,7 @@ impl Counts {
         ensures { result ≡ sum self.now }
     {
         if self.table.is_empty() {
-            1
+            u64::from(self.first < RELAYS)
         } else {
             sum_of(&self.table)
         }
@@ -100,13 +89,48 @@ impl Counts {
     {
         if self.table.is_empty() {
             if some > 0 {
-                self.alone = to;
+                self.first = to;
             }
         } else {
+            self.first = 0;
             self.table[usize::from(from)] -= some as u32;
             self.table[usize::from(to)] += some as u32;
         }
     }
+
+    /// Takes one id from the lowest relay that is given some.
+    pub(crate) fn take_one(&mut self) -> u16
+        requires { 0 < sum self.old }
+        ensures small { result < RELAYS }
+        ensures taken { (r : ℕ) → slice_index self.new r + cond (result == r) 1 0 ≡ slice_index self.old r }
+        ensures total { sum self.new + 1 ≡ sum self.old }
+    {
+        if self.table.is_empty() {
+            let relay = self.first;
+            self.first = RELAYS;
+            return relay;
+        }
+        let relay = lowest(&self.table, self.first);
+        self.first = relay;
+        self.table[usize::from(relay)] -= 1;
+        relay
+    }
+}
+
+/// The lowest relay that is given some, where those below a relay are given none.
+fn lowest(table: &[u32], from: u16) -> u16
+    requires some { 0 < sum table.now }
+    requires wide { length table.now ≡ RELAYS }
+    requires below { (r : ℕ) → r < from → slice_index table.now r ≡ 0 }
+    ensures small { result < RELAYS }
+    ensures some { 0 < slice_index table.now result }
+    ensures below { (r : ℕ) → r < result → slice_index table.now r ≡ 0 }
+{
+    let mut relay = from;
+    while table[usize::from(relay)] == 0 {
+        relay += 1;
+    }
+    relay
 }
 
 /// The sum of these numbers.

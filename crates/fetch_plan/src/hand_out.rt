@@ -1,15 +1,16 @@
 //! Single ids, handed out by the counts of their groups.
 
-ghost use Rattle.std.specs.Prelude.{◌≡◌, ◌++◌, map, length, IfOk, OnOk};
-ghost use Rattle.std.specs.List.{sum};
-ghost use Rattle.sharing.specs.declared.TheConstants.{RELAYS};
-ghost use Rattle.offer_table.specs.Groups.{groups_of};
+ghost use Rattle.std.specs.Prelude.{◌≡◌, ◌<◌, ℕ, [], length, IfOk, slice_index_or};
+ghost use Rattle.std.specs.List.Sorted.{IsStrictlySortedBy};
+ghost use Rattle.offer_table.specs.Relays.{bits_of};
+ghost use Rattle.offer_table.specs.Groups.{groups_of, set_cmp};
 ghost use Rattle.offer_table.specs.Table.{IsTable};
 ghost use Rattle.fetch_plan.specs.Shares.{offers_of};
-ghost use Rattle.fetch_plan.specs.Groups.{AreTabled};
-ghost use Rattle.fetch_plan.specs.Handed.{given_to, AreDealt, AreOfTable, AreHanded};
+ghost use Rattle.fetch_plan.specs.Groups.{total, AreTabled};
+ghost use Rattle.fetch_plan.specs.Handed.{IsTaken, AreHanded};
 
 use crate::groups::Group;
+use crate::levels::sets_of;
 use neg_codec::Id;
 use offer_table::{OfferTable, RelaySet};
 use std::alloc::{AllocError, Global};
@@ -22,77 +23,61 @@ pub(crate) struct Share {
     pub relay: u16,
 }
 
-/// Gives these ids to one relay.
-fn give(ids: &[Id], relays: RelaySet, relay: u16, shares: &mut Vec<Share>) -> Result<(), AllocError>
-    ensures { OnOk result (shares.new.items ≡ shares.old.items ++ given_to relays relay ids.now) }
-{
-    for id in ids {
-        shares.push(Share {
-            id: *id,
-            relays,
-            relay,
-        })?;
-    }
-    Ok(())
-}
-
-/// Gives the ids of a group to relays, as many to each as its count, the lowest ids to the lowest relay.
-fn deal(group: &Group, ids: &[Id], shares: &mut Vec<Share>) -> Result<(), AllocError>
-    requires { sum group.now.given ≡ length ids.now }
-    ensures { OnOk result (AreDealt group.now ids.now shares.old.items shares.new.items) }
-{
-    if let Some(relay) = group.given.lone() {
-        return give(ids, group.relays, relay, shares);
-    }
-    let mut relay = 0;
-    let mut dealt = 0;
-    while dealt < ids.len() {
-        let end = dealt + group.given.get(relay) as usize;
-        give(&ids[dealt..end], group.relays, relay, shares)?;
-        dealt = end;
-        relay += 1;
-    }
-    Ok(())
-}
-
 /// The number of offered ids.
 fn count_of(table: &OfferTable) -> usize
     ensures { result ≡ length table.now.offers }
 {
     let mut count = 0;
-    for place in 0..table.groups() {
-        let (_relays, ids) = table.group_at(place);
-        count += ids.len();
+    let mut rest = table.walk();
+    while let Some((_offer, others)) = rest.split_first() {
+        count += 1;
+        rest = others;
     }
     count
 }
 
-/// Gives the ids of each group to relays, as many to each as its count.
-fn deal_all(alloc: Global, table: &OfferTable, groups: &[Group]) -> Result<Vec<Share>, AllocError>
-    requires { AreTabled (groups_of table.now.offers) groups.now }
-    ensures handed { IfOk result (λ shares. AreHanded groups.now shares.items) }
-    ensures table { IfOk result (λ shares. AreOfTable table.now.offers shares.items) }
+/// Where a set stands among sets in the order of their numbers.
+fn place_of(sets: &[RelaySet], relays: RelaySet) -> usize
+    requires ordered { IsStrictlySortedBy set_cmp sets.now }
+    requires there { (k : ℕ) × (k < length sets.now) × (bits_of (slice_index_or sets.now k []) ≡ bits_of relays) }
+    ensures within { result < length sets.now }
+    ensures is { bits_of (slice_index_or sets.now result []) ≡ bits_of relays }
 {
-    let mut shares = Vec::with_capacity(alloc, count_of(table))?;
-    for place in 0..table.groups() {
-        let (_relays, ids) = table.group_at(place);
-        deal(&groups[place], ids, &mut shares)?;
+    match sets.binary_search_by_key(&relays.number(), |set| set.number()) {
+        Ok(place) => place,
+        Err(place) => place,
     }
-    Ok(shares)
 }
 
-/// Gives each id to a relay as the counts say, in ascending order of the ids.
+/// Takes one id of a group from the lowest relay that is given some.
+fn take_from(groups: &mut [Group], place: usize) -> u16
+    requires place { place < length groups.old }
+    requires some { 0 < total groups.old place }
+    ensures { IsTaken groups.old place result groups.new }
+{
+    groups[place].given.take_one()
+}
+
+/// Gives each id to a relay as the counts say, in ascending order of the ids: of each group the lowest ids to the
+/// lowest relay. The groups are left without ids.
 pub(crate) fn hand_out(
     alloc: Global,
     table: &OfferTable,
-    groups: &[Group],
+    groups: &mut [Group],
 ) -> Result<Vec<Share>, AllocError>
-    requires tabled { AreTabled (groups_of table.now.offers) groups.now }
+    requires tabled { AreTabled (groups_of table.now.offers) groups.old }
     requires table { IsTable table.now }
     ensures offers { IfOk result (λ shares. offers_of shares.items ≡ table.now.offers) }
-    ensures handed { IfOk result (λ shares. AreHanded groups.now shares.items) }
+    ensures handed { IfOk result (λ shares. AreHanded groups.old shares.items) }
 {
-    let mut shares = deal_all(alloc, table, groups)?;
-    shares.sort_by(|a, b| a.id.cmp(&b.id))?;
+    let sets = sets_of(alloc, groups)?;
+    let mut shares = Vec::with_capacity(alloc, count_of(table))?;
+    let mut rest = table.walk();
+    while let Some((offer, others)) = rest.split_first() {
+        let (id, relays) = *offer;
+        let relay = take_from(groups, place_of(&sets, relays));
+        shares.push(Share { id, relays, relay })?;
+        rest = others;
+    }
     Ok(shares)
 }
