@@ -1,9 +1,10 @@
 -- Lists in chunks: one element changes, comes or goes.
-use Rattle.std.proofs.Common.{◌≡◌, ℕ, zero, suc, ◌+◌, ◌<◌, ◌≤◌, List, [], ◌∷◌, ◌++◌, length, get_or, set, take, drop, Vec, Result, Ok, Err, OnOk, OnErr, Some, refl, sym, ap, ◌∙◌, subst, arith, append-nil, take-append-drop}
+use Rattle.std.proofs.Common.{◌≡◌, ℕ, zero, suc, ◌+◌, ◌<◌, ◌≤◌, List, [], ◌∷◌, ◌++◌, length, get_or, set, take, drop, Vec, Result, Ok, Err, OnOk, OnErr, Some, refl, sym, ap, ◌∙◌, subst, arith, inl, inr, append-nil, take-append-drop}
 use Rattle.std.specs.List.{insert, remove, slice_get}
-use Rattle.std.proofs.lemmas.List.{length-append, length-take-le, length-drop, append_assoc, set-append_left, take-append-le, drop-append-le, set-get_or, get_or_default}
+use Rattle.std.proofs.lemmas.List.{length-append, length-take-le, length-drop, append_assoc, set-append_left, get_or_append_left, get_or_push, length-set, take-set-le, take-append-le, drop-append-le, set-get_or, get_or_default}
 use Rattle.std.proofs.lemmas.List.Concat.{get_or-flat_map}
-use Rattle.offer_table.specs.Chunks.{flat, IsSpot}
+use Rattle.std.proofs.lemmas.Bool.{cases_lt}
+use Rattle.offer_table.specs.Chunks.{flat, IsSpot, AreStarts}
 
 -- an edit at a place does not touch what stands in front of it
 module _ {X : Type 0} (edit : List X → ℕ → List X) (step : (u : X) (xs : List X) (m : ℕ) → edit (u ∷ xs) (suc m) ≡ u ∷ edit xs m) where
@@ -83,6 +84,9 @@ push_last {X} (b ∷ []) zero c d x last is = append-nil c.items ∙ is ∙ ap (
 push_last {X} (b ∷ a ∷ bs) zero c d x last is = absurd (omega (arith, last))
 push_last {X} (b ∷ bs) (suc j) c d x last is = ap (λ xs. b.items ++ xs) (push_last bs j c d x (omega (arith, last)) is) ∙ sym (append_assoc b.items (flat bs) (x ∷ []))
 
+pub push_onto : {X Z : Type 0} (cs : List (Vec X Z)) (xs : List X) (j : ℕ) (c d : Vec X Z) (x : X) → flat cs ≡ xs → j + 1 ≡ length cs → c.items ≡ (get_or cs j d).items ++ x ∷ [] → flat (set cs j c) ≡ xs ++ x ∷ []
+push_onto {X} cs xs j c d x same last is = push_last cs j c d x last is ∙ ap (λ (ys : List X). ys ++ x ∷ []) same
+
 pub on_ok : {A E P Q : Type 0} (r : Result A E) → OnOk r P → (P → Q) → OnOk r Q
 on_ok (Ok x) p f = f p
 on_ok (Err e) p f = tt
@@ -108,3 +112,44 @@ pub row_read : {X Z : Type 0} (cs : List (Vec X Z)) (xs : List X) (k j i : ℕ) 
 row_read cs xs k j i c x d at view chunk is =
     is ∙ ap (λ v. get_or v.items i x) chunk ∙ get_or_default (get_or cs j c).items i x d (at.within c)
     ∙ sym (get_in cs j i k c c at.chunk d at.before (at.within c)) ∙ ap (λ xs. get_or xs k d) view
+
+-- what the counts in front of chunks become
+module _ {X Z : Type 0} where
+  pub starts_none : (cs : List (Vec X Z)) → AreStarts cs []
+  starts_none cs = record { within = omega arith; before = λ i lt. absurd (omega (arith, lt)) }
+
+  pub starts_more : (cs : List (Vec X Z)) (ss : List ℕ) (i b : ℕ) → AreStarts cs ss → length ss ≡ i → i < length cs → b ≡ length (flat (take i cs)) → AreStarts cs (ss ++ b ∷ [])
+  starts_more cs ss i b h len lt is = record {
+    within = omega (arith, length-append ss (b ∷ []), len, lt);
+    before = λ j small. elim (cases_lt j i) [
+      | inl front ↦ get_or_append_left ss (b ∷ []) 0 j (omega (arith, front, len)) ∙ h.before j (omega (arith, front, len))
+      | inr back ↦ (let same : j ≡ i = omega (arith, back, small, len, length-append ss (b ∷ [])) in get_or_push ss b 0 j (len ∙ sym same) ∙ is ∙ ap (λ n. length (flat (take n cs))) (sym same))
+    ];
+  }
+
+  -- a chunk changes behind them
+  pub starts_last : (cs : List (Vec X Z)) (ss : List ℕ) (j : ℕ) (c : Vec X Z) → AreStarts cs ss → j + 1 ≡ length cs → AreStarts (set cs j c) ss
+  starts_last cs ss j c h last = record {
+    within = omega (arith, h.within, length-set cs j c);
+    before = λ i lt. h.before i lt ∙ ap (λ xs. length (flat xs)) (sym (take-set-le i cs j c (omega (arith, lt, h.within, last))));
+  }
+
+  -- a chunk comes behind them
+  pub starts_push : (cs : List (Vec X Z)) (ss : List ℕ) (c : Vec X Z) → AreStarts cs ss → AreStarts (cs ++ c ∷ []) ss
+  starts_push cs ss c h = record {
+    within = omega (arith, h.within, length-append cs (c ∷ []));
+    before = λ i lt. h.before i lt ∙ ap (λ xs. length (flat xs)) (sym (take-append-le i cs (c ∷ []) (omega (arith, lt, h.within))));
+  }
+
+  same_count : (cs : List (Vec X Z)) (i j : ℕ) (c d : Vec X Z) → length c.items ≡ length (get_or cs j d).items → length (flat (take i (set cs j c))) ≡ length (flat (take i cs))
+  same_count cs zero j c d e = refl
+  same_count [] (suc i) j c d e = refl
+  same_count (b ∷ bs) (suc i) zero c d e = length-append c.items (flat (take i bs)) ∙ ap (λ n. n + length (flat (take i bs))) e ∙ sym (length-append b.items (flat (take i bs)))
+  same_count (b ∷ bs) (suc i) (suc j) c d e = length-append b.items (flat (take i (set bs j c))) ∙ ap (λ n. length b.items + n) (same_count bs i j c d e) ∙ sym (length-append b.items (flat (take i bs)))
+
+  -- a chunk keeps its length
+  pub starts_same : (cs : List (Vec X Z)) (ss : List ℕ) (j : ℕ) (c d : Vec X Z) → AreStarts cs ss → length c.items ≡ length (get_or cs j d).items → AreStarts (set cs j c) ss
+  starts_same cs ss j c d h e = record {
+    within = omega (arith, h.within, length-set cs j c);
+    before = λ i lt. h.before i lt ∙ sym (same_count cs i j c d e);
+  }

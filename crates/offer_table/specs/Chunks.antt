@@ -17,3 +17,8 @@ pub record IsEnd {X Z : Type 0} (chunks : List (Vec X Z)) (count place at : ℕ)
   pub chunk : place < length chunks
   pub within : (d : Vec X Z) → at ≤ length (slice_index_or chunks place d).items
   pub before : length (flat (take place chunks)) + at ≡ count
+
+-- how many elements stand in front of each of the first chunks
+pub record AreStarts {X Z : Type 0} (chunks : List (Vec X Z)) (starts : List ℕ) : Type 0 where
+  pub within : length starts ≤ length chunks
+  pub before : (i : ℕ) → i < length starts → slice_index_or starts i 0 ≡ length (flat (take i chunks))

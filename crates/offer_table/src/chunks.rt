@@ -1,10 +1,10 @@
 //! Rows in chunks.
 
-ghost use Rattle.std.specs.Prelude.{◌≡◌, ◌<◌, ◌≤◌, ◌+◌, ℕ, List, [], ◌∷◌, ◌++◌, length, IfOk, OnOk, OnErr, slice_get, slice_set, slice_index_or, Some};
+ghost use Rattle.std.specs.Prelude.{◌≡◌, ◌<◌, ◌≤◌, ◌+◌, ◌^◌, take, ℕ, List, [], ◌∷◌, ◌++◌, length, IfOk, OnOk, OnErr, slice_get, slice_set, slice_index_or, Some};
 ghost use Rattle.std.specs.List.{insert, remove};
 ghost use Rattle.neg_codec.specs.declared.Id.{Id};
 ghost use Rattle.offer_table.specs.Rows.{with_id, without_id};
-ghost use Rattle.offer_table.specs.Chunks.{flat, IsSpot, IsEnd};
+ghost use Rattle.offer_table.specs.Chunks.{flat, IsSpot, IsEnd, AreStarts};
 
 use crate::RelaySet;
 use crate::row::Row;
@@ -19,6 +19,8 @@ const MOST: usize = 2048;
 #[derive(Drop)]
 pub(crate) struct Chunks {
     chunks: Vec<Vec<(RelaySet, Row)>>,
+    /// How many rows stand in front of each of the first chunks, mostly of all.
+    starts: Vec<usize>,
     /// How many rows there are.
     count: usize,
 }
@@ -26,28 +28,88 @@ pub(crate) struct Chunks {
 impl Model for Chunks {
     ghost use Rattle.std.specs.Prelude.{◌≡◌, List, ℕ, length};
     ghost use Rattle.neg_codec.specs.declared.Id.{Id};
-    ghost use Rattle.offer_table.specs.Chunks.{flat};
+    ghost use Rattle.offer_table.specs.Chunks.{flat, AreStarts};
 
     ghost Value = { List (List ℕ × List Id) };
 
     ghost view = { λ c. flat c.chunks.items };
 
-    ghost invariant = { λ c. c.count ≡ length (flat c.chunks.items) };
+    ghost invariant = { λ c. record { count : c.count ≡ length (flat c.chunks.items); starts : AreStarts c.chunks.items c.starts.items } };
+}
+
+/// Counts anew how many rows stand in front of each chunk. Where memory runs out only the first are counted.
+fn recount(chunks: &[Vec<(RelaySet, Row)>], starts: &mut Vec<usize>)
+    requires { length (flat chunks.now) < 2 ^ 64 }
+    ensures { AreStarts chunks.now starts.new.items }
+{
+    starts.clear();
+    let mut before = 0;
+    for chunk in chunks {
+        if starts.push(before).is_err() {
+            return;
+        }
+        before += chunk.len();
+    }
+}
+
+/// Counts anew where the rows in front of some chunk are not counted yet.
+fn complete(chunks: &[Vec<(RelaySet, Row)>], starts: &mut Vec<usize>)
+    requires fits { length (flat chunks.now) < 2 ^ 64 }
+    requires starts { AreStarts chunks.now starts.old.items }
+    ensures { AreStarts chunks.now starts.new.items }
+{
+    if starts.len() < chunks.len() {
+        recount(chunks, starts);
+    }
+}
+
+/// The chunk of the row that so many stand in front of, counted from a chunk on, and the row's place in it.
+fn walk(chunks: &[Vec<(RelaySet, Row)>], first: usize, k: usize) -> (usize, usize)
+    requires { length (flat (take first chunks.now)) + k < length (flat chunks.now) }
+    ensures { IsSpot chunks.now (length (flat (take first chunks.now)) + k) result.0 result.1 }
+{
+    let mut place = first;
+    let mut left = k;
+    while place < chunks.len() {
+        let count = chunks[place].len();
+        if left < count {
+            return (place, left);
+        }
+        left -= count;
+        place += 1;
+    }
+    (0, left)
+}
+
+/// A chunk that a row does not stand in front of: the last such of those whose starts are known.
+fn near(starts: &[usize], k: usize) -> usize
+    ensures within { 0 < result → result < length starts.now }
+    ensures before { 0 < result → slice_index_or starts.now result 0 ≤ k }
+{
+    let mut low = 0;
+    let mut high = starts.len();
+    while low + 1 < high {
+        let middle = low + (high - low) / 2;
+        if starts[middle] <= k {
+            low = middle;
+        } else {
+            high = middle;
+        }
+    }
+    low
 }
 
 /// The chunk of a row, and the row's place in it.
-fn spot(chunks: &[Vec<(RelaySet, Row)>], k: usize) -> (usize, usize)
-    requires { k < length (flat chunks.now) }
+fn spot(chunks: &[Vec<(RelaySet, Row)>], starts: &[usize], k: usize) -> (usize, usize)
+    requires within { k < length (flat chunks.now) }
+    requires starts { AreStarts chunks.now starts.now }
     ensures { IsSpot chunks.now k result.0 result.1 }
 {
-    let mut left = k;
-    for (place, chunk) in chunks.iter().enumerate() {
-        if left < chunk.len() {
-            return (place, left);
-        }
-        left -= chunk.len();
+    let first = near(starts, k);
+    if first == 0 {
+        return walk(chunks, 0, k);
     }
-    (0, left)
+    walk(chunks, first, k - starts[first])
 }
 
 /// The chunk in which the first so many rows end, and how many of them it has.
@@ -59,7 +121,7 @@ fn end(chunks: &[Vec<(RelaySet, Row)>], count: usize) -> (usize, usize)
     if count == 0 {
         return (0, 0);
     }
-    let (place, at) = spot(chunks, count - 1);
+    let (place, at) = walk(chunks, 0, count - 1);
     (place, at + 1)
 }
 
@@ -130,9 +192,26 @@ fn gap(
     Ok(end(chunks, count))
 }
 
+/// Puts a row in front of the one at a place. Where memory runs out no row has changed.
+fn insert_at(
+    alloc: Global,
+    chunks: &mut Vec<Vec<(RelaySet, Row)>>,
+    k: usize,
+    row: (RelaySet, Row),
+) -> Result<(), AllocError>
+    requires { k ≤ length (flat chunks.old.items) }
+    ensures ok { OnOk result (flat chunks.new.items ≡ insert (flat chunks.old.items) k row) }
+    ensures err { OnErr result (flat chunks.new.items ≡ flat chunks.old.items) }
+{
+    let (place, at) = gap(alloc, chunks, k)?;
+    chunks[place].insert(at, row)?;
+    Ok(())
+}
+
 /// The last chunk, where it takes a row, or else a new one behind it.
 fn last(alloc: Global, chunks: &mut Vec<Vec<(RelaySet, Row)>>) -> Result<usize, AllocError>
     ensures same { flat chunks.new.items ≡ flat chunks.old.items }
+    ensures starts { (starts : List ℕ) → AreStarts chunks.old.items starts → AreStarts chunks.new.items starts }
     ensures last { IfOk result (λ place. place + 1 ≡ length chunks.new.items) }
 {
     let count = chunks.len();
@@ -150,6 +229,7 @@ impl Chunks {
     {
         Chunks {
             chunks: Vec::new(alloc),
+            starts: Vec::new(alloc),
             count: 0,
         }
     }
@@ -166,7 +246,7 @@ impl Chunks {
         requires { k < length self.now }
         ensures { slice_get self.now k ≡ Some (result.0, result.1.now) }
     {
-        let (place, at) = spot(&self.chunks, k);
+        let (place, at) = spot(&self.chunks, &self.starts, k);
         let row = &self.chunks[place][at];
         (row.0, row.1.as_slice())
     }
@@ -177,7 +257,7 @@ impl Chunks {
         ensures ok { OnOk result ((d : List ℕ × List Id) → self.new ≡ slice_set self.old k ((slice_index_or self.old k d).0, with_id id (slice_index_or self.old k d).1)) }
         ensures err { OnErr result (self.new ≡ self.old) }
     {
-        let (place, at) = spot(&self.chunks, k);
+        let (place, at) = spot(&self.chunks, &self.starts, k);
         self.chunks[place][at].1.put(id)
     }
 
@@ -186,7 +266,7 @@ impl Chunks {
         requires { k < length self.old }
         ensures { (d : List ℕ × List Id) → self.new ≡ slice_set self.old k ((slice_index_or self.old k d).0, without_id id.now (slice_index_or self.old k d).1) }
     {
-        let (place, at) = spot(&self.chunks, k);
+        let (place, at) = spot(&self.chunks, &self.starts, k);
         self.chunks[place][at].1.take(id);
     }
 
@@ -204,8 +284,9 @@ impl Chunks {
         if self.count == usize::MAX {
             return Err(AllocError);
         }
-        let (place, at) = gap(alloc, &mut self.chunks, k)?;
-        self.chunks[place].insert(at, row)?;
+        let inserted = insert_at(alloc, &mut self.chunks, k, row);
+        recount(&self.chunks, &mut self.starts);
+        inserted?;
         self.count += 1;
         Ok(())
     }
@@ -220,6 +301,7 @@ impl Chunks {
         }
         let place = last(alloc, &mut self.chunks)?;
         self.chunks[place].push(row)?;
+        complete(&self.chunks, &mut self.starts);
         self.count += 1;
         Ok(())
     }
@@ -229,9 +311,10 @@ impl Chunks {
         requires { k < length self.old }
         ensures { self.new ≡ remove self.old k }
     {
-        let (place, at) = spot(&self.chunks, k);
+        let (place, at) = spot(&self.chunks, &self.starts, k);
         self.chunks[place].remove(at);
         tidy(&mut self.chunks, place);
+        recount(&self.chunks, &mut self.starts);
         self.count -= 1;
     }
 }

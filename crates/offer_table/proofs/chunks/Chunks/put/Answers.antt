@@ -4,7 +4,7 @@ use Rattle.std.specs.Vec.{with_item}
 use Rattle.neg_codec.specs.declared.Id.{Id}
 use Rattle.offer_table.specs.Rows.{with_id}
 use Rattle.offer_table.specs.Chunks.{flat, IsSpot}
-use Rattle.offer_table.proofs.Chunked.{set_in, row_read, on_ok, on_err, set_same}
+use Rattle.offer_table.proofs.Chunked.{set_in, row_read, starts_same, on_ok, on_err, set_same}
 use Rattle.offer_table.proofs.chunks.Chunks.put.Goals.{After-self-1}
 use Rattle.offer_table.proofs.chunks.Chunks.put.Goals as goal
 
@@ -21,7 +21,12 @@ changed c =
     (ap (λ v. set v.items c.spot-place.result.1 (c.index_mut-2.result.now.0, c.put.new.self)) c.index_mut.ensures.value)
 
 pub invariant_of-self : goal.invariant_of-self
-invariant_of-self c = c.self.invariant ∙ sym (length-set (flat c.self.inside.chunks.items) c.args.k (c.index_mut-2.result.now.0, c.put.new.self)) ∙ ap length (sym (changed c))
+invariant_of-self c =
+    let chunk = c.index_mut.result.now in
+    record {
+      count = c.self.invariant.count ∙ sym (length-set (flat c.self.inside.chunks.items) c.args.k (c.index_mut-2.result.now.0, c.put.new.self)) ∙ ap length (sym (changed c));
+      starts = starts_same c.self.inside.chunks.items c.self.inside.starts.items c.spot-place.result.0 (with_item chunk c.spot-place.result.1 (c.index_mut-2.result.now.0, c.put.new.self)) chunk c.self.invariant.starts (length-set chunk.items c.spot-place.result.1 (c.index_mut-2.result.now.0, c.put.new.self) ∙ ap (λ v. length v.items) c.index_mut.ensures.value);
+    }
 
 pub returns-clause-ok : goal.returns-clause-ok
 returns-clause-ok c = on_ok c.put.result c.put.ensures.ok (λ new d.
