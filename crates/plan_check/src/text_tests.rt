@@ -1,9 +1,7 @@
 //! Plan texts: worked examples, and texts that are refused.
 
 use crate::lines::set_offer;
-use crate::{
-    LONGEST_LINE, PlanFault, PlanFile, check, read_plan, set_give, set_group, write_plan,
-};
+use crate::{LONGEST_LINE, PlanFault, PlanFile, check, read_plan, set_give, set_group, write_plan};
 use neg_codec::Id;
 use std::alloc::{AllocError, Global};
 use std::test::Fail;

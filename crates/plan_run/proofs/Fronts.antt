@@ -1,5 +1,5 @@
 -- The offers of a text, line by line.
-use Rattle.std.proofs.Common.{◌≡◌, ℕ, ◌+◌, ◌-◌, ◌<◌, ◌≤◌, ◌==◌, ◌||◌, Bool, true, false, List, [], ◌∷◌, ◌++◌, length, get_or, map, take, refl, sym, ap, ◌∙◌, subst, arith}
+use Rattle.std.proofs.Common.{◌≡◌, ℕ, ◌-◌, ◌<◌, ◌≤◌, ◌==◌, ◌||◌, Bool, true, false, List, [], ◌∷◌, ◌++◌, length, map, refl, sym, ap, ◌∙◌, subst, arith}
 use Rattle.std.specs.Ordering.{nat_cmp, is_lt}
 use Rattle.std.specs.declared.cmp.Ordering.{Ordering}
 use Rattle.std.specs.declared.cmp.Ordering.TheVariants.{Less, Equal, Greater}
@@ -16,10 +16,10 @@ use Rattle.sharing.specs.Offers.{AreRelays, Ascend, IsOffers, id_cmp}
 use Rattle.sharing.proofs.Orders.{same_sorted, sorted_push, less_from, head_sorted, tail_sorted, id_total}
 use Rattle.plan_check.specs.File.{File, IsFile}
 use Rattle.plan_check.specs.TextLines.{lines_of, ended}
-use Rattle.plan_check.specs.PlanText.{header_line, plan_lines, IsOffer, IsOfForm, IsTextOf}
+use Rattle.plan_check.specs.PlanText.{header_line, plan_lines, IsOffer, IsOfForm}
 use Rattle.plan_check.proofs.FormLemmas.{offered, given, grouped, plan_lines-is}
 use Rattle.plan_check.proofs.TextLemmas.{text_by_lines}
-use Rattle.plan_check.proofs.WriteLemmas.{text_split, split_room, split_front}
+use Rattle.plan_check.proofs.WriteLemmas.{text_split, split_front}
 use Rattle.plan_run.specs.Planned.{IsFront}
 
 or_swap : (a b : Bool) → (a || b) ≡ (b || (a || false))

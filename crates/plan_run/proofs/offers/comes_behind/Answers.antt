@@ -1,5 +1,4 @@
-use Rattle.std.proofs.Common.{sym, ap, ◌∙◌}
-use Rattle.std.specs.Ordering.{is_lt}
+use Rattle.std.proofs.Common.{sym, ◌∙◌}
 use Rattle.plan_run.proofs.Fronts.{ids_push, first_id, less_of}
 use Rattle.plan_run.proofs.offers.comes_behind.Goals as goal
 

@@ -1,4 +1,4 @@
-use Rattle.std.proofs.Common.{arith, flat_map}
+use Rattle.std.proofs.Common.{arith}
 use Rattle.plan_run.proofs.Written.{Appends-both, Appends-same}
 use Rattle.plan_run.proofs.Gathered.{one_more}
 use Rattle.plan_check.proofs.FormLemmas.{given}
