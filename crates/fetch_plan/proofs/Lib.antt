@@ -1,3 +1,4 @@
+pub mod Halves
 pub mod Trails
 pub mod Moves
 pub mod Walks

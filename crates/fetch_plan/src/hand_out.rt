@@ -36,17 +36,28 @@ fn count_of(table: &OfferTable) -> usize
     count
 }
 
-/// Where a set stands among sets in the order of their numbers.
+/// Where a set stands among sets in the order of their numbers. Each step halves the sets that are left, without
+/// a branch that a processor could guess wrongly.
 fn place_of(sets: &[RelaySet], relays: RelaySet) -> usize
     requires ordered { IsStrictlySortedBy set_cmp sets.now }
     requires there { (k : ℕ) × (k < length sets.now) × (bits_of (slice_index_or sets.now k []) ≡ bits_of relays) }
     ensures within { result < length sets.now }
     ensures is { bits_of (slice_index_or sets.now result []) ≡ bits_of relays }
 {
-    match sets.binary_search_by_key(&relays.number(), |set| set.number()) {
-        Ok(place) => place,
-        Err(place) => place,
+    let number = relays.number();
+    let mut place = 0;
+    let mut left = sets.len();
+    while left > 1 {
+        let half = left / 2;
+        let middle = place + half;
+        place = if sets[middle].number() <= number {
+            middle
+        } else {
+            place
+        };
+        left -= half;
     }
+    place
 }
 
 /// Takes one id of a group from the lowest relay that is given some.

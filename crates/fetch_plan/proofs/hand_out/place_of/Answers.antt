@@ -1,28 +1,26 @@
-use Rattle.std.proofs.Common.{rules, [], IfErr, sym, ◌∙◌, subst}
-use Rattle.std.specs.Ordering.{nat_cmp}
-use Rattle.std.proofs.lemmas.Cmp.{nat_cmp_total}
-use Rattle.std.proofs.lemmas.List.Sorted.{answers_always}
+use Rattle.std.proofs.Common.{◌≡◌, ℕ, ◌+◌, ◌/◌, [], length, get_or, sym, ap, ◌∙◌, arith}
+use Rattle.std.proofs.lemmas.List.{get_or_default}
 use Rattle.offer_table.specs.Relays.{bits_of}
-use Rattle.offer_table.specs.Places.{IsMiss}
-use Rattle.offer_table.proofs.Cuts.{missed}
-use Rattle.offer_table.proofs.RowEdits.{same_number}
-use Rattle.fetch_plan.proofs.Hands.{not_missed}
+use Rattle.fetch_plan.proofs.Halves.{upper, lower}
 use Rattle.fetch_plan.proofs.hand_out.place_of.Goals as goal
+use Rattle.fetch_plan.proofs.hand_out.place_of.Goals.{then-number, else-number}
 
-pub returns-in-Ok-clause-is : goal.returns-in-Ok-clause-is
-returns-in-Ok-clause-is c = same_number _ _ (c.in-Ok.ensures.position bits_of (answers_always _ _ _ (λ f a r g called. search rules)) []) ∙ c.number.ensures.value
-
-never : (c : goal.In-Err) → ⊥
-never c =
-    let e = c.binary_search_by_key.ensures in
-    let miss : IsMiss bits_of nat_cmp c.args.sets.now c.number.result c.in-Err.place =
-    subst (λ r. IfErr r (IsMiss bits_of nat_cmp c.args.sets.now c.number.result)) c.in-Err.is
-    (missed bits_of nat_cmp nat_cmp_total c.args.sets.now c.number.result c.binary_search_by_key.result c.requires.ordered e.bound (e.position bits_of (answers_always _ _ _ (λ f a r g called. search rules)))) in
-    let w = c.requires.there in
-    not_missed c.args.sets.now c.number.result c.in-Err.place w.0 miss w.1 (w.2 ∙ sym c.number.ensures.value)
-
-pub returns-in-Err-clause-within : goal.returns-in-Err-clause-within
-returns-in-Err-clause-within c = absurd (never c)
-
-pub returns-in-Err-clause-is : goal.returns-in-Err-clause-is
-returns-in-Err-clause-is c = absurd (never c)
+pub loop-left-preserved : goal.loop-left-preserved
+loop-left-preserved c =
+    let h = c.loop-left.invariant in
+    let sets = c.args.sets.now in
+    let k : ℕ = h.there.0 in
+    let m : ℕ = c.loop-left.place + c.loop-left.left / 2 in
+    let is : bits_of (get_or sets m []) ≡ c.number.result = ap bits_of (get_or_default sets m [] c.index-sets-middle.result (omega (arith, h.within, c.loop-left-test.true)) ∙ sym c.index-sets-middle.is) ∙ sym c.number.ensures.value in
+    elim c.if-number.branch [
+      | then-number w ↦ rw w.place-is (record {
+        within = omega (arith, h.within, c.loop-left-test.true);
+        there = (k, upper sets c.requires.ordered k m c.number-number.result (omega (arith, h.within, c.loop-left-test.true)) h.there.3 (omega (arith, is, w.if-number.true)), omega (arith, h.there.2, c.loop-left-test.true), h.there.3);
+      })
+      | else-number w ↦ rw w.place-is (record {
+        within = omega (arith, h.within, c.loop-left-test.true);
+        there =
+            let below = lower sets c.requires.ordered k m c.number-number.result (omega (arith, h.within, h.there.2)) h.there.3 (omega (arith, is, w.if-number.false)) in
+            (k, h.there.1, omega (arith, below, c.loop-left-test.true), h.there.3);
+      })
+    ]
