@@ -23,19 +23,6 @@ pub(crate) struct Share {
     pub relay: u16,
 }
 
-/// The number of offered ids.
-fn count_of(table: &OfferTable) -> usize
-    ensures { result ≡ length table.now.offers }
-{
-    let mut count = 0;
-    let mut rest = table.walk();
-    while let Some((_offer, others)) = rest.split_first() {
-        count += 1;
-        rest = others;
-    }
-    count
-}
-
 /// Where a set stands among sets in the order of their numbers. Each step halves the sets that are left, without
 /// a branch that a processor could guess wrongly.
 fn place_of(sets: &[RelaySet], relays: RelaySet) -> usize
@@ -82,8 +69,8 @@ pub(crate) fn hand_out(
     ensures handed { IfOk result (λ shares. AreHanded groups.old shares.items) }
 {
     let sets = sets_of(alloc, groups)?;
-    let mut shares = Vec::with_capacity(alloc, count_of(table))?;
     let mut rest = table.walk();
+    let mut shares = Vec::with_capacity(alloc, rest.most_left())?;
     while let Some((offer, others)) = rest.split_first() {
         let (id, relays) = *offer;
         let relay = take_from(groups, place_of(&sets, relays));

@@ -1,6 +1,6 @@
 //! Walks over offers.
 
-ghost use Rattle.std.specs.Prelude.{◌≡◌, ◌∷◌, true, ℕ, List, [], length, map, MatchOption};
+ghost use Rattle.std.specs.Prelude.{◌≡◌, ◌≤◌, ◌∷◌, true, ℕ, List, [], length, map, MatchOption};
 ghost use Rattle.std.specs.Iterator.{at_most};
 ghost use Rattle.std.specs.Map.Iter.{deref, TakesFirst};
 ghost use Rattle.neg_codec.specs.declared.Id.{Id};
@@ -34,6 +34,13 @@ impl<'a> Walk<'a> {
         ensures { result ≡ offered pairs.now }
     {
         Walk { pairs }
+    }
+
+    /// A number of offers that are left at most, in constant time: an id whose last offer was struck may count.
+    pub fn most_left(&self) -> usize
+        ensures { length self.now ≤ result }
+    {
+        self.pairs.len()
     }
 
     /// The first offer, and the walk over the others.
