@@ -1,13 +1,15 @@
 -- Rows of ids in order, cut at a place.
-use Rattle.std.proofs.Common.{◌≡◌, ℕ, suc, ◌+◌, ◌-◌, ◌<◌, ◌≤◌, false, cond, not, List, [], ◌∷◌, ◌++◌, length, get_or, take, drop, refl, sym, ap, ◌∙◌, subst, arith, take-append-drop}
+use Rattle.std.proofs.Common.{◌≡◌, ℕ, suc, ◌+◌, ◌-◌, ◌<◌, ◌≤◌, true, false, bytes_eq, cond, not, List, [], ◌∷◌, ◌++◌, length, get_or, take, drop, refl, sym, ap, ◌∙◌, subst, arith, take-append-drop}
 use Rattle.std.specs.declared.cmp.Ordering.TheVariants.{Less, Greater}
 use Rattle.std.specs.Ordering.{ordering_reverse, match_ordering, is_eq}
 use Rattle.std.specs.List.{All, insert, remove}
 use Rattle.std.specs.List.Sorted.{IsStrictlySortedBy}
+use Rattle.std.proofs.lemmas.Bool.{false≢true, false_from_ne_true}
 use Rattle.std.proofs.lemmas.Cmp.{tied_itself}
 use Rattle.std.proofs.lemmas.List.{length-take-le, drop_at, drop-drop}
 use Rattle.std.proofs.lemmas.List.Edits.{remove-append_right, insert-append_right}
 use Rattle.std.proofs.lemmas.List.Elements.{All-head, All-tail}
+use Rattle.std.proofs.lemmas.Slice.Eq.{bytes_eq-Decides}
 use Rattle.neg_codec.specs.declared.Id.{Id}
 use Rattle.sharing.specs.Offers.{id_cmp, is_id, Ascend}
 use Rattle.sharing.proofs.Orders.{id_total, same_id, id_itself, id_apart, id_flips}
@@ -84,9 +86,22 @@ module _ (xs : List Id) (k : Id) (i : ℕ) where
   pub miss_ascends : IsMiss (λ i. i) id_cmp xs k i → Ascend xs → Ascend (insert xs i k)
   miss_ascends h s = sorted_put id_cmp (take i xs) (drop i xs) k (subst Ascend (sym (take-append-drop i xs)) s) h.before h.behind
 
+-- one id, and an id that leaves it
+pub without_same : (k x : Id) → bytes_eq x.0 k.0 ≡ true → without_id k (x ∷ []) ≡ []
+without_same k x t =
+    let same : x ≡ k = ap (λ (b : List ℕ). record { 0 = b }) ((bytes_eq-Decides x.0 k.0).0 t) in
+    ap (λ b. cond (not b) (x ∷ []) []) (ap (is_id k) same ∙ id_itself k)
+
+pub without_other : (k x : Id) → bytes_eq x.0 k.0 ≡ false → without_id k (x ∷ []) ≡ x ∷ []
+without_other k x f = keep k x [] (false_from_ne_true (is_id k x) (λ t. false≢true (sym f ∙ (bytes_eq-Decides x.0 k.0).1 (ap (λ (i : Id). i.0) (sym (same_id k x t))))))
+
 pub none_ascends : Ascend []
 unfolding IsStrictlySortedBy
 none_ascends = tt
+
+pub one_ascends : (k : Id) → Ascend (k ∷ [])
+unfolding IsStrictlySortedBy
+one_ascends k = (tt, tt)
 
 -- ids of which some have left at the front
 module _ (xs : List Id) (gone at : ℕ) (le : gone ≤ length xs) where

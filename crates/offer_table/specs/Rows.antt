@@ -1,5 +1,5 @@
 -- Rows of ids, each with the set of relays that offers its ids.
-use Rattle.std.specs.Prelude.{◌≡◌, ℕ, ◌<◌, ◌==◌, not, List, [], ◌∷◌, length, if◌then◌else◌}
+use Rattle.std.specs.Prelude.{◌≡◌, ℕ, ◌<◌, ◌==◌, not, List, [], ◌∷◌, length, if◌then◌else◌, Option, None, Some}
 use Rattle.std.specs.declared.cmp.Ordering.{Ordering}
 use Rattle.std.specs.Ordering.{match_ordering}
 use Rattle.std.specs.List.{All, filter}
@@ -8,6 +8,11 @@ use Rattle.neg_codec.specs.declared.Id.{Id}
 use Rattle.sharing.specs.Offers.{AreRelays, id_cmp, is_id}
 use Rattle.offer_table.specs.Relays.{bits_of}
 use Rattle.offer_table.specs.Groups.{set_cmp, ids_numbered}
+
+-- one id, or else those of a list
+abbrev pub row_ids : Option Id → List Id → List Id
+row_ids None ids = ids
+row_ids (Some one) ids = one ∷ []
 
 -- one id more among ids in order
 abbrev pub with_id : Id → List Id → List Id

@@ -4,6 +4,7 @@
 mod chunks;
 mod entries;
 mod faults;
+mod gapped;
 mod groups;
 mod joined;
 mod offers;

@@ -263,7 +263,7 @@ fn has_just(row: &Row, numbers: &[u32]) -> bool {
 
 #[test]
 fn ids_come_and_go_on_both_sides_of_a_row(rt: HostRuntime) -> Result<(), Fail> {
-    let mut row = Row::new(rt.alloc());
+    let mut row = Row::from_ids(Vec::new(rt.alloc()));
     for k in (1..=20u32).rev() {
         row.put(numbered(2 * k))?;
     }
@@ -314,6 +314,27 @@ fn ids_come_and_go_on_both_sides_of_a_row(rt: HostRuntime) -> Result<(), Fail> {
         row.take(&numbered(40 - number));
     }
     assert!(rt; row.is_empty());
+    Ok(())
+}
+
+#[test]
+fn ids_come_to_a_row_of_one_and_leave_it(rt: HostRuntime) -> Result<(), Fail> {
+    for (number, ids) in [(3, [3, 7]), (9, [7, 9])] {
+        let mut row = Row::one(rt.alloc(), numbered(7));
+        row.take(&numbered(number));
+        row.put(numbered(number))?;
+        assert!(rt; has_just(&row, &ids));
+        row.take(&numbered(number));
+        assert!(rt; has_just(&row, &[7]));
+    }
+    let mut row = Row::one(rt.alloc(), numbered(7));
+    row.put(numbered(7))?;
+    assert!(rt; has_just(&row, &[7]));
+    let mut emptied = Row::one(rt.alloc(), numbered(7));
+    emptied.take(&numbered(7));
+    assert!(rt; emptied.is_empty());
+    emptied.put(numbered(5))?;
+    assert!(rt; has_just(&emptied, &[5]));
     Ok(())
 }
 

@@ -1,25 +1,18 @@
-use Rattle.std.proofs.Common.{List, drop, sym, ap, ◌∙◌, subst}
+use Rattle.std.proofs.Common.{◌≡◌, ◌∷◌, [], List, Some, ap, ◌∙◌, sym, subst}
+use Rattle.std.specs.Prelude.{OnSome}
 use Rattle.neg_codec.specs.declared.Id.{Id}
-use Rattle.sharing.specs.Offers.{Ascend, id_cmp}
-use Rattle.offer_table.specs.Places.{IsHit}
-use Rattle.offer_table.specs.Rows.{without_id}
-use Rattle.offer_table.proofs.IdRows.{take_hit, take_miss, hit_ascends}
+use Rattle.offer_table.specs.Rows.{row_ids, without_id}
+use Rattle.offer_table.proofs.IdRows.{without_same, without_other}
 use Rattle.offer_table.proofs.row.Row.take.Goals as goal
 
-pub returns-in-Err : goal.returns-in-Err
-returns-in-Err c = sym (take_miss c.args.self.now c.args.id.now c.in-Err.field-0 c.in-Err.ensures.absent)
+pub returns-then-eq : goal.returns-then-eq
+returns-then-eq c =
+    let was : c.in-Some.one ∷ [] ≡ c.args.self.now = sym (ap (λ one. row_ids one c.self.inside.rest) c.in-Some.is) ∙ c.self.view_is in
+    let none : c.self.inside.rest ≡ [] = subst (λ one. OnSome one (c.self.inside.rest ≡ [])) c.in-Some.is c.self.invariant in
+    none
+    ∙ sym (ap (without_id c.args.id.now) (sym was) ∙ without_same c.args.id.now c.in-Some.one (sym c.eq.ensures ∙ c.if-eq.true))
 
-pub invariant_of-self : goal.invariant_of-self
-invariant_of-self c =
-    let seen : List Id = drop c.self.inside.gone c.self.inside.ids.items in
-    let hit : IsHit (λ i. i) id_cmp seen c.args.id.now c.in-Ok.at = subst (λ (ys : List Id). IsHit (λ i. i) id_cmp ys c.args.id.now c.in-Ok.at) (sym c.self.view_is) c.in-Ok.ensures.found in
-    record {
-      within = c.take_at-self-inside.ensures.within;
-      ascend = subst Ascend (sym c.take_at-self-inside.ensures.rest) (hit_ascends seen c.args.id.now c.in-Ok.at hit c.self.invariant.ascend);
-    }
-
-pub returns-in-Ok : goal.returns-in-Ok
-returns-in-Ok c =
-    let seen : List Id = drop c.self.inside.gone c.self.inside.ids.items in
-    let hit : IsHit (λ i. i) id_cmp seen c.args.id.now c.in-Ok.at = subst (λ (ys : List Id). IsHit (λ i. i) id_cmp ys c.args.id.now c.in-Ok.at) (sym c.self.view_is) c.in-Ok.ensures.found in
-    c.take_at-self-inside.ensures.rest ∙ take_hit seen c.args.id.now c.in-Ok.at hit ∙ ap (without_id c.args.id.now) c.self.view_is
+pub returns-else-eq : goal.returns-else-eq
+returns-else-eq c =
+    let was : c.in-Some.one ∷ [] ≡ c.args.self.now = sym (ap (λ one. row_ids one c.self.inside.rest) c.in-Some.is) ∙ c.self.view_is in
+    sym (ap (without_id c.args.id.now) (sym was) ∙ without_other c.args.id.now c.in-Some.one (sym c.eq.ensures ∙ c.if-eq.false) ∙ was)

@@ -2,7 +2,7 @@ use Rattle.std.proofs.Common.{◌≡◌, ◌+◌, ◌-◌, ◌≤◌, List, leng
 use Rattle.std.proofs.lemmas.List.{take_at, length-set}
 use Rattle.neg_codec.specs.declared.Id.{Id}
 use Rattle.offer_table.proofs.Gaps.{gap_shorter, length_written, written}
-use Rattle.offer_table.proofs.row.open_in_front.Goals as goal
+use Rattle.offer_table.proofs.gapped.open_in_front.Goals as goal
 
 pub returns-clause-rest : goal.returns-clause-rest
 returns-clause-rest c =

@@ -2,7 +2,7 @@ use Rattle.std.proofs.Common.{◌+◌, ◌≤◌, List, length, drop, ap, ◌∙
 use Rattle.std.proofs.lemmas.List.{with_items_is}
 use Rattle.neg_codec.specs.declared.Id.{Id}
 use Rattle.offer_table.proofs.Gaps.{gap_longer, length_written, written}
-use Rattle.offer_table.proofs.row.close_in_front.Goals as goal
+use Rattle.offer_table.proofs.gapped.close_in_front.Goals as goal
 
 pub returns-clause-rest : goal.returns-clause-rest
 returns-clause-rest c =

@@ -2,7 +2,7 @@ use Rattle.std.proofs.Common.{sym, subst}
 use Rattle.sharing.specs.Offers.{Ascend, id_cmp}
 use Rattle.sharing.proofs.Orders.{id_total}
 use Rattle.offer_table.proofs.Cuts.{found, missed}
-use Rattle.offer_table.proofs.row.Row.place.Goals as goal
+use Rattle.offer_table.proofs.gapped.Gapped.place.Goals as goal
 
 pub returns-clause-found : goal.returns-clause-found
 returns-clause-found c =

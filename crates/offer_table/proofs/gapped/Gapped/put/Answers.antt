@@ -4,7 +4,7 @@ use Rattle.sharing.specs.Offers.{Ascend, id_cmp}
 use Rattle.offer_table.specs.Places.{IsMiss}
 use Rattle.offer_table.specs.Rows.{with_id}
 use Rattle.offer_table.proofs.IdRows.{put_hit, put_miss, miss_ascends}
-use Rattle.offer_table.proofs.row.Row.put.Goals as goal
+use Rattle.offer_table.proofs.gapped.Gapped.put.Goals as goal
 
 pub returns-in-Ok-clause-ok : goal.returns-in-Ok-clause-ok
 returns-in-Ok-clause-ok c = sym (put_hit c.args.self.now c.args.id c.in-Ok.field-0 c.in-Ok.ensures.found)
