@@ -1,5 +1,4 @@
-use Rattle.std.proofs.Common.{◌≡◌, ◌∷◌, [], List, ap, ◌∙◌, sym, subst}
-use Rattle.neg_codec.specs.declared.Id.{Id}
+use Rattle.std.proofs.Common.{ap, ◌∙◌, sym, subst}
 use Rattle.sharing.specs.Offers.{Ascend}
 use Rattle.offer_table.specs.Rows.{row_ids}
 use Rattle.offer_table.proofs.IdRows.{one_ascends}

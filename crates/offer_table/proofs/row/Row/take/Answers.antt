@@ -1,6 +1,5 @@
-use Rattle.std.proofs.Common.{◌≡◌, ◌∷◌, [], List, Some, ap, ◌∙◌, sym, subst}
+use Rattle.std.proofs.Common.{◌≡◌, ◌∷◌, [], ap, ◌∙◌, sym, subst}
 use Rattle.std.specs.Prelude.{OnSome}
-use Rattle.neg_codec.specs.declared.Id.{Id}
 use Rattle.offer_table.specs.Rows.{row_ids, without_id}
 use Rattle.offer_table.proofs.IdRows.{without_same, without_other}
 use Rattle.offer_table.proofs.row.Row.take.Goals as goal
