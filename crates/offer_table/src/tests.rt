@@ -263,8 +263,8 @@ fn has_just(row: &Row, numbers: &[u32]) -> bool {
 
 #[test]
 fn ids_come_and_go_on_both_sides_of_a_row(rt: HostRuntime) -> Result<(), Fail> {
-    let mut row = Row::from_ids(Vec::new(rt.alloc()));
-    for k in (1..=20u32).rev() {
+    let mut row = Row::one(rt.alloc(), numbered(40));
+    for k in (1..=19u32).rev() {
         row.put(numbered(2 * k))?;
     }
     assert!(rt;
