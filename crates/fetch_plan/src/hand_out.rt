@@ -23,8 +23,7 @@ pub(crate) struct Share {
     pub relay: u16,
 }
 
-/// Where a set stands among sets in the order of their numbers. Each step halves the sets that are left, without
-/// a branch that a processor could guess wrongly.
+/// Where a set stands among sets in the order of their numbers. Each step halves the sets that are left.
 fn place_of(sets: &[RelaySet], relays: RelaySet) -> usize
     requires ordered { IsStrictlySortedBy set_cmp sets.now }
     requires there { (k : ℕ) × (k < length sets.now) × (bits_of (slice_index_or sets.now k []) ≡ bits_of relays) }

@@ -73,7 +73,8 @@ fn take_offers(alloc: Global, text: &[u8]) -> Result<(Vec<(Id, RelaySet)>, &[u8]
     Ok((offers, rest))
 }
 
-/// The offers of a plan text, and where their lines end. None where the text isn't one.
+/// The offers of a plan text, and where their lines end. None for any other text; that those of a plan text are
+/// always found isn't promised.
 pub(crate) fn read_offers(
     alloc: Global,
     text: &str,
