@@ -1,4 +1,4 @@
-//! The shortest bound between two items.
+//! The minimal bound between two items.
 
 ghost use Rattle.std.specs.Prelude.{◌≡◌, ◌+◌, ◌-◌, ◌++◌, ◌<◌, ◌≤◌, take, replicate};
 ghost use Rattle.neg_codec.specs.Keys.{number_of_bytes, place, endless};
@@ -30,8 +30,8 @@ fn front_apart(first: &[u8; 32], second: &[u8; 32]) -> [u8; 32]
     id
 }
 
-/// The bound above the first item and not above the second that is shortest to write (Negentropy
-/// protocol V1, "Bound"): the second's time alone where the times differ, else its time and as many
+/// The minimal bound above the first item and not above the second (Negentropy protocol V1,
+/// "Bound"): the second's time alone where the times differ, else its time and as many
 /// first bytes of its id as tell the two apart.
 pub fn minimal_bound(first: &Item, second: &Item) -> Bound
     requires order { place first.now < place second.now }

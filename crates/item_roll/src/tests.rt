@@ -118,7 +118,7 @@ fn larger_pieces_are_told_by_16_fingerprints(rt: HostRuntime) -> Result<(), Fail
     Ok(())
 }
 
-/// The shortest bound between two items, which are in order.
+/// The minimal bound between two items, which are in order.
 fn between(rt: &impl Abort, first: Item, second: Item) -> Bound {
     assert!(rt; first.is_below(&second));
     assert!(rt; first.time < u64::MAX);

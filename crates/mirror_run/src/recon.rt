@@ -46,7 +46,13 @@ fn session(
     }
 }
 
-/// Reads two item lists, runs a session between them, and prints its messages and results.
+/// Reads two item lists, runs a session between them, and prints its messages and results. No message has more than
+/// `limit` bytes, 4,096 to 1,048,576.
+///
+/// # Errors
+///
+/// `Read`, `InputTooLong`, `NotUtf8`, `Line`, `Session` (1 to 5), `Write` and `Memory`; docs/FORMATS.md has their
+/// causes. Only after `Write` may something have been written.
 pub fn run_recon<R: Read, W: Write>(
     alloc: Global,
     reader: &mut R,

@@ -104,7 +104,8 @@ pub fn answer(
     limit: usize,
 ) -> Result<Vec<u8>, AnswerFault>
     requires { 4096 ≤ limit }
-    // The answer follows the roll, and skips what is the same on both sides, as far as it wasn't cut.
+    // The answer follows the roll, and skips what the query skips or tells by the roll's own fingerprint, as far as it
+    // wasn't cut.
     ensures follows { IfOk result (λ v. (q : List Span) → length query.now ≤ longest → Spells query.now q → (r : List Span) × Spells v.items r × Follows roll.now q r × SkipsSame limit (length v.items) roll.now q r) }
     // It is no longer than the limit.
     ensures short { IfOk result (λ v. length v.items ≤ limit) }

@@ -12,7 +12,8 @@ use neg_initiator::{InitFault, Initiator, Next, Outcome};
 use std::alloc::Global;
 
 /// Asks the peer until all is settled, and gives what was found. A fault ends the session, and the
-/// peer keeps its pairs. Of several faults of one answer the one with the lowest number is given.
+/// peer keeps its pairs. Of several faults of one answer the one with the lowest number is given; after an answer that
+/// is no message, or that asks for too many ids, there is no next question that could be one too many.
 pub fn reconcile_with<P: Peer>(
     alloc: Global,
     peer: &mut P,

@@ -11,9 +11,13 @@ pub enum RoundEvent {
     Report(u16, BTreeSet<Id>),
     /// The plan is made of the reports so far.
     Seal,
+    /// The lane asks for the cell, to fetch its id.
     Claim(u16, usize),
+    /// The lane has fetched the cell's id, which was placed.
     Finish(u16, usize),
+    /// The lane's relay didn't give the cell's id.
     Miss(u16, usize),
+    /// The lane gives the cell back.
     Release(u16, usize),
     /// An id was placed in the store.
     Insert(Id),
@@ -22,17 +26,23 @@ pub enum RoundEvent {
 /// What an event is answered.
 #[derive(Clone, Copy, Debug, PartialEq, Eq)]
 pub enum Answer {
+    /// The report counts.
     Taken,
     /// The plan's busiest load.
     Sealed(u64),
+    /// The lane holds the cell.
     Won,
     /// What the cell is, where it isn't free.
     Lost(Cell),
+    /// The cell is done.
     Finished,
+    /// The cell is missed.
     MissedIt,
+    /// The cell is free again.
     Released,
     /// Whether the id is new.
     Placed(bool),
+    /// The event changed nothing.
     Refused(Refusal),
 }
 
@@ -49,6 +59,7 @@ pub enum Refusal {
     Double,
     /// No plan was made yet.
     NotSealed,
+    /// No lane has this number.
     NoLane,
     /// The plan has no such cell.
     NoCell,

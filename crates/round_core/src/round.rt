@@ -42,7 +42,7 @@ impl Model for Round {
 }
 
 impl Round {
-    /// The round before any event, with a lane for each relay named.
+    /// The round before any event, with a lane for each relay named, at most 1,024, numbered from 0 in this order.
     pub fn new(alloc: Global, lanes: &[u16]) -> Result<Round, AllocError>
         requires { length lanes.now ≤ 1024 }
         ensures { IfOk result (Leaves lanes.now []) }
