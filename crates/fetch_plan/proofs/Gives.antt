@@ -134,7 +134,7 @@ module _ (groups : List Group) (g : Group) where
   at_last = get_or_push groups g no_group (length groups) refl
 
   -- a fact of each group and of the new one
-  each_more : (P : Group → ℕ → Type 0) → ((k : ℕ) → k < length groups → P (get_or groups k no_group) k) → P g (length groups) → (k : ℕ) → k < length more → P (get_or more k no_group) k
+  pub each_more : (P : Group → ℕ → Type 0) → ((k : ℕ) → k < length groups → P (get_or groups k no_group) k) → P g (length groups) → (k : ℕ) → k < length more → P (get_or more k no_group) k
   each_more P old new k lt =
       elim (cases_lt k (length groups)) [
         | inl below ↦ subst (λ x. P x k) (sym (at_before k below)) (old k below)

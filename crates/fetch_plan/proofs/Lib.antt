@@ -10,3 +10,5 @@ pub mod Planned
 pub mod Searched
 pub mod Counted
 pub mod Hands
+pub mod Decks
+pub mod Placing

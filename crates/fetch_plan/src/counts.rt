@@ -1,9 +1,9 @@
 //! Counts: how many ids each relay is given.
 
-ghost use Rattle.std.specs.Prelude.{◌≡◌, ◌≢◌, ◌≤◌, ◌<◌, ◌+◌, ◌^◌, ◌==◌, ℕ, length, cond, IfOk, slice_index};
+ghost use Rattle.std.specs.Prelude.{◌≡◌, ◌≢◌, ◌≤◌, ◌<◌, ◌+◌, ◌++◌, ◌^◌, ◌==◌, ℕ, length, replicate, cond, IfOk, OnOk, slice_index};
 ghost use Rattle.std.specs.List.{sum};
 ghost use Rattle.sharing.specs.declared.TheConstants.{MOST_IDS};
-ghost use Rattle.fetch_plan.specs.Counts.{one_at};
+ghost use Rattle.fetch_plan.specs.Counts.{one_at, IsSpread};
 
 use sharing::{RELAYS, SLOTS};
 use std::alloc::{AllocError, Global};
@@ -12,9 +12,8 @@ use std::marker::Model;
 /// How many ids each relay is given. One id alone takes no table.
 #[derive(Drop)]
 pub(crate) struct Counts {
-    /// No lower relay is given an id. Where there is no table this relay is given the one id; [`RELAYS`] once that
-    /// is taken.
-    first: u16,
+    /// Where there is no table, the relay that is given the one id.
+    only: u16,
     table: Vec<u32>,
 }
 
@@ -24,9 +23,9 @@ impl Model for Counts {
 
     ghost Value = { List ℕ };
 
-    ghost view = { λ c. counts_in c.first c.table.items };
+    ghost view = { λ c. counts_in c.only c.table.items };
 
-    ghost invariant = { λ c. AreCounted c.first c.table.items };
+    ghost invariant = { λ c. AreCounted c.only c.table.items };
 }
 
 impl Counts {
@@ -36,7 +35,7 @@ impl Counts {
         ensures { result ≡ one_at relay }
     {
         Counts {
-            first: relay,
+            only: relay,
             table: Vec::new(alloc),
         }
     }
@@ -46,7 +45,7 @@ impl Counts {
         ensures { IfOk result (λ counts. counts ≡ table) }
     {
         Ok(Counts {
-            first: 0,
+            only: 0,
             table: Vec::from_array(alloc, table)?,
         })
     }
@@ -58,7 +57,7 @@ impl Counts {
         ensures wide { length self.now ≡ RELAYS }
     {
         if self.table.is_empty() {
-            u64::from(relay == self.first)
+            u64::from(relay == self.only)
         } else {
             u64::from(self.table[usize::from(relay)])
         }
@@ -70,7 +69,7 @@ impl Counts {
         ensures { result ≡ sum self.now }
     {
         if self.table.is_empty() {
-            u64::from(self.first < RELAYS)
+            1
         } else {
             sum_of(&self.table)
         }
@@ -89,48 +88,36 @@ impl Counts {
     {
         if self.table.is_empty() {
             if some > 0 {
-                self.first = to;
+                self.only = to;
             }
         } else {
-            self.first = 0;
             self.table[usize::from(from)] -= some as u32;
             self.table[usize::from(to)] += some as u32;
         }
     }
 
-    /// Takes one id from the lowest relay that is given some.
-    pub(crate) fn take_one(&mut self) -> u16
-        requires { 0 < sum self.old }
-        ensures small { result < RELAYS }
-        ensures taken { (r : ℕ) → slice_index self.new r + cond (result == r) 1 0 ≡ slice_index self.old r }
-        ensures total { sum self.new + 1 ≡ sum self.old }
+    /// Puts each relay behind these as often as it is given an id.
+    pub(crate) fn spread(&self, relays: &mut Vec<u16>) -> Result<(), AllocError>
+        ensures { OnOk result (IsSpread relays.old.items self.now relays.new.items) }
     {
         if self.table.is_empty() {
-            let relay = self.first;
-            self.first = RELAYS;
-            return relay;
+            return push_times(relays, self.only, 1);
         }
-        let relay = lowest(&self.table, self.first);
-        self.first = relay;
-        self.table[usize::from(relay)] -= 1;
-        relay
+        for relay in 0..RELAYS {
+            push_times(relays, relay, self.table[usize::from(relay)])?;
+        }
+        Ok(())
     }
 }
 
-/// The lowest relay that is given some, where those below a relay are given none.
-fn lowest(table: &[u32], from: u16) -> u16
-    requires some { 0 < sum table.now }
-    requires wide { length table.now ≡ RELAYS }
-    requires below { (r : ℕ) → r < from → slice_index table.now r ≡ 0 }
-    ensures small { result < RELAYS }
-    ensures some { 0 < slice_index table.now result }
-    ensures below { (r : ℕ) → r < result → slice_index table.now r ≡ 0 }
+/// Puts a relay behind these so many times.
+fn push_times(relays: &mut Vec<u16>, relay: u16, times: u32) -> Result<(), AllocError>
+    ensures { OnOk result (relays.new.items ≡ relays.old.items ++ replicate times relay) }
 {
-    let mut relay = from;
-    while table[usize::from(relay)] == 0 {
-        relay += 1;
+    for _ in 0..times {
+        relays.push(relay)?;
     }
-    relay
+    Ok(())
 }
 
 /// The sum of these numbers.

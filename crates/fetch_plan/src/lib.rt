@@ -13,10 +13,12 @@ ghost use Rattle.fetch_plan.specs.Plan.{IsPlanOf};
 mod cell;
 mod chains;
 mod counts;
+mod deck;
 mod groups;
 mod hand_out;
 mod levels;
 mod outcome;
+mod places;
 
 pub use cell::Cell;
 use chains::{greatest, settle};

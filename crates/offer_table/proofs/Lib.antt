@@ -1,6 +1,5 @@
 pub mod Members
 pub mod Tables
-mod Offered
 pub mod Cuts
 pub mod IdRows
 pub mod Gaps

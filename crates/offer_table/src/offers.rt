@@ -1,9 +1,9 @@
 //! Tables of offers that are known.
 
-ghost use Rattle.std.specs.Prelude.{◌≡◌, ℕ, map, length, IfOk, MatchOption, IsOkUnless, Err};
+ghost use Rattle.std.specs.Prelude.{◌≡◌, ℕ, length, IfOk, MatchOption, IsOkUnless, Err};
 ghost use Rattle.std.specs.List.{list_any};
 ghost use Rattle.sharing.specs.Sharing.{is_among};
-ghost use Rattle.sharing.specs.Offers.{AreRelays, IsOffers};
+ghost use Rattle.sharing.specs.Offers.{IsOffers};
 ghost use Rattle.offer_table.specs.Table.{IsTable};
 ghost use Rattle.offer_table.specs.Faults.{offers_fault};
 ghost use Rattle.offer_table.specs.declared.faults.OfferFault.TheVariants.{Memory};
@@ -12,18 +12,6 @@ use crate::{OfferFault, OfferTable, RelaySet};
 use neg_codec::Id;
 use sharing::MOST_IDS;
 use std::alloc::Global;
-
-/// The set of these relays.
-fn set_of(relays: &[u16]) -> RelaySet
-    requires { AreRelays relays.now }
-    ensures { result ≡ relays.now }
-{
-    let mut all = RelaySet::empty();
-    for relay in relays {
-        all = all.with(*relay);
-    }
-    all
-}
 
 /// The relays that offer some id.
 fn all_of(offers: &[(Id, RelaySet)]) -> RelaySet
@@ -38,7 +26,11 @@ fn all_of(offers: &[(Id, RelaySet)]) -> RelaySet
 
 impl OfferTable {
     /// The table of these offers: ids in order, each with the set of relays that offer it. The relays that offer
-    /// an id are those that reported.
+    /// an id are those that reported. One sort of the sets, n log n in the number of ids.
+    ///
+    /// # Errors
+    ///
+    /// `TableFull` for more than 200,000 ids, else `Memory`.
     pub fn of_sets(alloc: Global, offers: Vec<(Id, RelaySet)>) -> Result<OfferTable, OfferFault>
         requires { IsOffers offers.items }
         ensures fault { MatchOption (offers_fault (length offers.items)) (IsOkUnless result Memory) (λ f. result ≡ Err f) }
@@ -51,27 +43,5 @@ impl OfferTable {
         }
         let reported = all_of(&offers);
         Ok(OfferTable::of_list(alloc, reported, offers)?)
-    }
-
-    /// The table of these offers: ids in order, each with its relays in order. The relays that offer an id
-    /// are those that reported.
-    pub fn of_offers(alloc: Global, offers: &[(Id, Vec<u16>)]) -> Result<OfferTable, OfferFault>
-        requires { IsOffers (map (λ o. (o.0, o.1.items)) offers.now) }
-        ensures fault { MatchOption (offers_fault (length offers.now)) (IsOkUnless result Memory) (λ f. result ≡ Err f) }
-        ensures offers { IfOk result (λ t. t.offers ≡ map (λ o. (o.0, o.1.items)) offers.now) }
-        ensures reported { IfOk result (λ t. (r : ℕ) → is_among t.reported r ≡ list_any (λ o. is_among o.1.items r) offers.now) }
-        ensures table { IfOk result IsTable }
-    {
-        if offers.len() > MOST_IDS {
-            return Err(OfferFault::TableFull);
-        }
-        let mut reported = RelaySet::empty();
-        let mut entries = Vec::with_capacity(alloc, offers.len())?;
-        for offer in offers {
-            let relays = set_of(&offer.1);
-            reported = reported.union(relays);
-            entries.push((offer.0, relays))?;
-        }
-        Ok(OfferTable::of_list(alloc, reported, entries)?)
     }
 }

@@ -48,7 +48,7 @@ impl RelaySet {
         relay < RELAYS && (self.bits >> relay) & 1 == 1
     }
 
-    /// The set with one more member.
+    /// The set with one more member, a number below 64.
     pub fn with(self, relay: u16) -> RelaySet
         requires { relay < RELAYS }
         ensures member { (r : ℕ) → is_among result r ≡ ((r == relay) || is_among self r) }

@@ -75,6 +75,10 @@ impl OfferTable {
     }
 
     /// The table of one relay's report: it offers each of these ids.
+    ///
+    /// # Errors
+    ///
+    /// `Relay` for a number of 64 and more, else `TableFull` for more than 200,000 ids, else `Memory`.
     pub fn of_report(
         alloc: Global,
         relay: u16,
@@ -99,7 +103,12 @@ impl OfferTable {
         Ok(OfferTable::of_list(alloc, relays, offers)?)
     }
 
-    /// The offers of both tables. After a fault both come back unchanged.
+    /// The offers of both tables: a pass over both, and a sort of the sets. After a fault both come back unchanged.
+    ///
+    /// # Errors
+    ///
+    /// `TableFull` where both offer more than 200,000 ids together, else `Double` where a relay reported to both, else
+    /// `Memory`.
     pub fn merge(
         self,
         other: OfferTable,
@@ -129,8 +138,8 @@ impl OfferTable {
     /// Takes one offer away, and the id with its last offer. False where there was none.
     ///
     /// Beside two searches in the ids it moves, in this one's old group and in its new one, the ids in front of
-    /// it or those behind it, whichever are fewer, 32 bytes each, and, where a group comes or goes, some hundred
-    /// groups behind it. So ids in ascending and in descending order are quick, while in random order each
+    /// it or those behind it, whichever are fewer, 32 bytes each, and, where a group comes or goes, up to two
+    /// thousand groups behind it. So ids in ascending and in descending order are quick, while in random order each
     /// moves a quarter of a group on average. Now and then a group whose ids have no room copies them all.
     pub fn strike(&mut self, id: &Id, relay: u16) -> Result<bool, AllocError>
         ensures found { IfOk result (λ b. b ≡ is_among (relays_of self.old.offers id.now) relay) }

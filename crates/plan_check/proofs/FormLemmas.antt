@@ -40,7 +40,7 @@ give_not_group l g o = let e : get_or (given g.0) 1 0 ≡ get_or (grouped o.0) 1
 offers_kind : (os : List (Id × List ℕ)) → All IsOffer os → All IsOfferLine (map offered os)
 offers_kind os h = All-map IsOfferLine offered os (All-weaker IsOffer (λ o. IsOfferLine (offered o)) (λ o is. (o, is, refl)) os h)
 
-gives_kind : (gs : List (Id × ℕ)) → All IsGive gs → All IsGiveLine (map given gs)
+pub gives_kind : (gs : List (Id × ℕ)) → All IsGive gs → All IsGiveLine (map given gs)
 gives_kind gs h = All-map IsGiveLine given gs (All-weaker IsGive (λ g. IsGiveLine (given g)) (λ g is. (g, is, refl)) gs h)
 
 -- after the offers comes no offer

@@ -1,18 +1,23 @@
 -- A text is that of one file.
-use Rattle.std.proofs.Common.{◌≡◌, ℕ, ◌<◌, List, [], ◌∷◌, ◌++◌, map, refl, ap, sym, ◌∙◌, decimal}
+use Rattle.std.proofs.Common.{◌≡◌, ℕ, ◌<◌, List, [], ◌∷◌, ◌++◌, length, map, refl, ap, sym, ◌∙◌, decimal}
 use Rattle.std.specs.List.{All}
-use Rattle.std.proofs.lemmas.List.Elements.{All-head, All-tail}
+use Rattle.std.specs.List.Sorted.{IsStrictlySortedBy}
+use Rattle.std.proofs.lemmas.List.Elements.{All-head, All-tail, All-nil}
 use Rattle.std.proofs.lemmas.Fmt.{decimal_injective}
 use Rattle.hex.specs.Hex.{encode_lower}
 use Rattle.neg_codec.specs.declared.Id.{Id}
 use Rattle.sharing.specs.declared.TheConstants.{RELAYS}
-use Rattle.plan_check.specs.File.{File}
+use Rattle.sharing.specs.Offers.{AreRelays}
+use Rattle.plan_check.specs.File.{File, IsFile}
 use Rattle.plan_check.specs.PlanText.{relay_text, relays_text, offer_line, give_line, group_line, plan_lines, plan_text, IsOffer, IsGive, IsOfForm}
+use Rattle.plan_check.specs.TextLines.{FirstIsNot}
+use Rattle.plan_check.specs.PlanParts.{IsGiveLine}
 use Rattle.plan_check.specs.PlanReading.{OneFile}
+use Rattle.plan_check.proofs.Spans.{peel}
 use Rattle.plan_check.proofs.IdLemmas.{same_id, after_id}
 use Rattle.plan_check.proofs.LineLemmas.{same_words}
 use Rattle.plan_check.proofs.RelayLemmas.{relay_small, one_word, no_space, next_relays}
-use Rattle.plan_check.proofs.FormLemmas.{offered, given, grouped, plan_lines-is, plan_parts, behind_offers, behind_gives}
+use Rattle.plan_check.proofs.FormLemmas.{offered, given, grouped, plan_lines-is, plan_parts, gives_kind, behind_offers, behind_gives}
 use Rattle.plan_check.proofs.TextLemmas.{lines_of-plan}
 
 same_relays : (rs qs : List ℕ) → All (λ r. r < RELAYS) rs → All (λ r. r < RELAYS) qs → relays_text rs ≡ relays_text qs → rs ≡ qs
@@ -31,7 +36,7 @@ same_relays (r ∷ rs) (q ∷ qs) hr hq e =
 same_pair : {X Y : Type 0} (a b : X × Y) → a.0 ≡ b.0 → a.1 ≡ b.1 → a ≡ b
 same_pair a b h k = ap (λ (x : _). (x, a.1)) h ∙ ap (λ (y : _). (b.0, y)) k
 
-same_offer : (a b : Id × List ℕ) → IsOffer a → IsOffer b → offered a ≡ offered b → a ≡ b
+pub same_offer : (a b : Id × List ℕ) → IsOffer a → IsOffer b → offered a ≡ offered b → a ≡ b
 same_offer a b ha hb e =
     let words : offer_line a ≡ offer_line b = same_words (offer_line a) (offer_line b) e in
     let behind : encode_lower a.0.0 ++ relays_text a.1 ≡ encode_lower b.0.0 ++ relays_text b.1 = cc in
@@ -66,7 +71,7 @@ same_records f P same (x ∷ xs) (y ∷ ys) hx hy e =
     let tail : xs ≡ ys = same_records f P same xs ys (All-tail P x xs hx) (All-tail P y ys hy) others in
     cc
 
-same_file : (a b : File) → a.offers ≡ b.offers → a.gives ≡ b.gives → a.group ≡ b.group → a ≡ b
+pub same_file : (a b : File) → a.offers ≡ b.offers → a.gives ≡ b.gives → a.group ≡ b.group → a ≡ b
 same_file a b o g r =
     ap (λ os. record { offers = os; gives = a.gives; group = a.group }) o
     ∙ ap (λ gs. record { offers = b.offers; gives = gs; group = a.group }) g
@@ -84,3 +89,26 @@ one_plan a b ha hb e =
 
 pub one_file_each : OneFile
 one_file_each a b ha hb e = one_plan a b ha hb (sym (lines_of-plan (plan_text a) a ha refl) ∙ lines_of-plan (plan_text a) b hb e)
+
+-- gives, and what comes behind them and is no give, are those of the file's tail
+pub tail_parts : (gives : List (Id × ℕ)) (rest : List (List ℕ)) (tail : File) → All IsGive gives → FirstIsNot IsGiveLine rest → IsOfForm tail
+    → map given gives ++ rest ≡ map given tail.gives ++ grouped tail.group ∷ [] → (gives ≡ tail.gives) × (rest ≡ grouped tail.group ∷ [])
+tail_parts gives rest tail are last form e =
+    let parts = peel IsGiveLine (map given gives) (map given tail.gives) rest (grouped tail.group ∷ []) (gives_kind gives are) (gives_kind tail.gives form.gives) last (behind_gives tail.group form.group) e in
+    (same_records given IsGive same_give gives tail.gives are form.gives parts.0, parts.1)
+
+-- the group of the file's tail, and nothing behind it
+pub group_parts : (group : List ℕ) (rest : List (List ℕ)) (tail : File) → All (λ r. r < RELAYS) group → IsOfForm tail → grouped group ∷ rest ≡ grouped tail.group ∷ [] → (group ≡ tail.group) × (rest ≡ [])
+group_parts group rest tail small form e =
+    let line : grouped group ≡ grouped tail.group = cc in
+    (same_group group tail.group small form.group line, cc)
+
+-- a file's tail, as a file without offers, is in order
+pub tail_file : (file : File) → IsFile file → IsFile (record { offers = []; gives = file.gives; group = file.group })
+unfolding IsStrictlySortedBy
+tail_file file is = record {
+  offers_ok = record { ascend = tt; relays = All-nil (λ (p : Id × List ℕ). AreRelays p.1); some = All-nil (λ (p : Id × List ℕ). 0 < length p.1) };
+  ascend = is.ascend;
+  relays = is.relays;
+  group_ok = is.group_ok;
+}

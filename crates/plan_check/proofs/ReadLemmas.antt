@@ -1,5 +1,5 @@
 -- What a text is read as.
-use Rattle.std.proofs.Common.{◌≡◌, ◌≢◌, ◌⊎◌, ◌<◌, ◌≤◌, ◌-◌, ◌++◌, append_assoc, take, ℕ, inl, inr, List, length, drop, Option, Some, None, Result, Ok, Err, refl, ap, sym, ◌∙◌, subst, arith, take-append-drop}
+use Rattle.std.proofs.Common.{◌≡◌, ◌≢◌, ◌⊎◌, ◌<◌, ◌≤◌, ◌-◌, ◌++◌, [], append_assoc, take, ℕ, inl, inr, List, length, drop, Option, Some, None, Result, Ok, Err, refl, ap, sym, ◌∙◌, subst, arith, take-append-drop}
 use Rattle.std.specs.Prelude.{MatchOption, IsOk, IsErr, IfOk, IfErr}
 use Rattle.std.proofs.lemmas.Bool.{cases_lt, false≢true}
 use Rattle.plan_check.specs.declared.faults.PlanFault.{PlanFault}
@@ -12,7 +12,7 @@ use Rattle.std.proofs.lemmas.List.{take-take}
 use Rattle.plan_check.specs.PlanReading.{Begins, IsFirstWrong, IsOutOfOrder, IsReadFault, Reads, RoundTrip}
 use Rattle.plan_check.proofs.InOrder.{in_order}
 use Rattle.plan_check.proofs.TextLemmas.{lines_of-plan}
-use Rattle.plan_check.proofs.OneText.{one_file_each}
+use Rattle.plan_check.proofs.OneText.{one_file_each, same_file, tail_file}
 
 -- a plan text has no wrong line
 no_wrong_line : (text : List ℕ) (file : File) (n : ℕ) → IsOfForm file → text ≡ plan_text file → IsFirstWrong (lines_of text) n → ⊥
@@ -58,6 +58,15 @@ reads_err text (Err f) h = h
 pub fault_reads : (text : List ℕ) (result : Result File PlanFault) → IsErr result → IfErr result (IsReadFault text) → Reads text result
 fault_reads text (Ok file) is h = absurd (false≢true is)
 fault_reads text (Err f) is h = h
+
+-- a tail in order has no fault
+pub tail_taken : (made tail : File) (result : Result File PlanFault) (f : PlanFault) → made.offers ≡ [] → made.gives ≡ tail.gives → made.group ≡ tail.group → IsFile tail
+    → MatchOption (misplaced_fault (misplaced_at made)) (IsOk result) (λ g. result ≡ Err g) → result ≡ Err f → ⊥
+tail_taken made tail result f offers gives group is fault err =
+    let ordered : IsFile made = subst IsFile (sym (same_file made (record { offers = []; gives = tail.gives; group = tail.group }) offers gives group)) (tail_file tail is) in
+    let none : misplaced_fault (misplaced_at made) ≡ None = ap misplaced_fault (in_order made ordered) in
+    let ok : IsOk result = subst (λ o. MatchOption o (IsOk result) (λ g. result ≡ Err g)) none fault in
+    false≢true (subst IsOk err ok)
 
 -- ---- one fault
 -- a front of lines that begin a plan text begins one

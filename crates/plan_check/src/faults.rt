@@ -5,6 +5,7 @@ ghost use Rattle.plan_check.specs.declared.faults.PlanFault.TheVariants.{Memory 
 
 use std::alloc::{AllocError, AllocFailed};
 
+/// Why a text or lists are no plan file, or a plan file is no plan.
 #[derive(Clone, Copy, Debug, PartialEq, Eq)]
 pub enum PlanFault {
     /// The line with this number, counted from 1, is not of the form, is out of place or is missing.

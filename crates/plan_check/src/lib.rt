@@ -17,7 +17,7 @@ pub use faults::PlanFault;
 pub use file::PlanFile;
 pub use laws::{one_answer, one_fault, one_file, round_trip};
 pub use lines::{LONGEST_LINE, set_give, set_group};
-pub use reading::{read_parts, read_plan, read_tail, skip_header};
+pub use reading::{read_plan, read_tail, skip_header};
 pub use records::cut_offer;
 pub use text_lines::cut_line;
 pub use verdict::check;

@@ -88,7 +88,8 @@ pub(crate) fn set_offer(line: &mut [u8], id: &Id, relays: &[u16]) -> usize
     set_word(line, last, b"\n")
 }
 
-/// Sets the line of a give, and answers where it ends.
+/// Sets the line of a give, with its line feed, at the front of a buffer of at least [`LONGEST_LINE`] bytes, and answers
+/// where it ends.
 pub fn set_give(line: &mut [u8], id: &Id, relay: u16) -> usize
     requires relay { relay < RELAYS }
     requires room { LONGEST_LINE ≤ length line.old }
@@ -103,7 +104,8 @@ pub fn set_give(line: &mut [u8], id: &Id, relay: u16) -> usize
     set_word(line, last, b"\n")
 }
 
-/// Sets the line of a group, and answers where it ends.
+/// Sets the line of a group, with its line feed, at the front of a buffer of at least [`LONGEST_LINE`] bytes, and answers
+/// where it ends.
 pub fn set_group(line: &mut [u8], relays: &[u16]) -> usize
     requires relays { AreRelays relays.now }
     requires room { LONGEST_LINE ≤ length line.old }

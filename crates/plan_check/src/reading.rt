@@ -1,12 +1,12 @@
 //! Plan files that are read from their texts.
 
-ghost use Rattle.std.specs.Prelude.{◌≡◌, ◌≢◌, ◌<◌, ◌≤◌, ◌++◌, ◌∷◌, ◌⊎◌, [], ℕ, List, length, take, map, All, IfOk, IfErr, IfSome, IfNone, Ok, Err};
+ghost use Rattle.std.specs.Prelude.{◌≡◌, ◌≢◌, ◌<◌, ◌++◌, ◌∷◌, ◌⊎◌, [], ℕ, List, map, All, IfOk, IfErr, IfSome, IfNone, Ok, Err};
 ghost use Rattle.sharing.specs.declared.TheConstants.{RELAYS};
 ghost use Rattle.plan_check.specs.declared.faults.PlanFault.{PlanFault as AFault};
 ghost use Rattle.plan_check.specs.declared.faults.PlanFault.TheVariants.{Memory as memory};
 ghost use Rattle.plan_check.specs.File.{File, IsFile, pairs_of};
 ghost use Rattle.plan_check.specs.TextLines.{lines_of, ended, FirstIsNot};
-ghost use Rattle.plan_check.specs.PlanText.{header_line, offer_line, give_line, group_line, plan_lines, offers_text, IsOffer, IsGive, IsOfForm, IsTextOf};
+ghost use Rattle.plan_check.specs.PlanText.{header_line, offer_line, give_line, group_line, plan_lines, IsOffer, IsGive, IsOfForm, IsTextOf};
 ghost use Rattle.plan_check.specs.PlanParts.{IsOfferLine, IsGiveLine, IsGroupLine, IsFormFault};
 ghost use Rattle.plan_check.specs.PlanReading.{IsReadFault};
 
@@ -22,8 +22,6 @@ struct Lists {
     offers: Vec<(Id, Vec<u16>)>,
     gives: Vec<(Id, u16)>,
     group: Vec<u16>,
-    /// Where the lines of the offers end.
-    end: usize,
 }
 
 /// The text after the header.
@@ -94,15 +92,12 @@ fn take_group(alloc: Global, text: &[u8]) -> Result<Option<(Vec<u16>, &[u8])>, A
 fn read_lists(alloc: Global, text: &[u8]) -> Result<Lists, PlanFault>
     ensures lines { IfOk result (λ l. lines_of text.now ≡ plan_lines (record { offers = pairs_of l.offers.items; gives = l.gives.items; group = l.group.items })) }
     ensures form { IfOk result (λ l. IsOfForm (record { offers = pairs_of l.offers.items; gives = l.gives.items; group = l.group.items })) }
-    ensures end { IfOk result (λ l. take l.end text.now ≡ offers_text (pairs_of l.offers.items)) }
-    ensures within { IfOk result (λ l. l.end ≤ length text.now) }
     ensures err { IfErr result (IsFormFault (lines_of text.now)) }
 {
     let Some(rest) = skip_header(text) else {
         return Err(PlanFault::Line(1));
     };
     let (offers, rest) = take_offers(alloc, rest)?;
-    let end = text.len() - rest.len();
     let (gives, rest) = take_gives(alloc, rest)?;
     let Some((group, rest)) = take_group(alloc, rest)? else {
         return Err(PlanFault::Line(offers.len() + gives.len() + 2));
@@ -114,7 +109,6 @@ fn read_lists(alloc: Global, text: &[u8]) -> Result<Lists, PlanFault>
         offers,
         gives,
         group,
-        end,
     })
 }
 
@@ -124,6 +118,8 @@ pub fn read_tail(alloc: Global, text: &[u8]) -> Result<Option<PlanFile>, AllocEr
     ensures lines { IfOk result (λ o. IfSome o (λ tail. lines_of text.now ≡ map (λ g. ended (give_line g)) tail.gives ++ ended (group_line tail.group) ∷ [])) }
     ensures form { IfOk result (λ o. IfSome o IsOfForm) }
     ensures file { IfOk result (λ o. IfSome o IsFile) }
+    ensures bare { IfOk result (λ o. IfSome o (λ tail. tail.offers ≡ [])) }
+    ensures none { IfOk result (λ o. IfNone o ((tail : File) → IsOfForm tail → IsFile tail → lines_of text.now ≢ map (λ g. ended (give_line g)) tail.gives ++ ended (group_line tail.group) ∷ [])) }
 {
     let (gives, rest) = take_gives(alloc, text)?;
     let Some((group, rest)) = take_group(alloc, rest)? else {
@@ -138,21 +134,6 @@ pub fn read_tail(alloc: Global, text: &[u8]) -> Result<Option<PlanFile>, AllocEr
     }
 }
 
-/// The plan file of a text, as [`read_plan`] reads it, and where the lines of its offers end in the text.
-pub fn read_parts(alloc: Global, text: &str) -> Result<(PlanFile, usize), PlanFault>
-    ensures ok { IfOk result (λ r. IsTextOf text.now r.0) }
-    ensures offers { IfOk result (λ r. take r.1 text.now ≡ offers_text r.0.offers) }
-    ensures within { IfOk result (λ r. r.1 ≤ length text.now) }
-    ensures err { IfErr result (IsReadFault text.now) }
-{
-    let lists = read_lists(alloc, text.as_bytes())?;
-    let end = lists.end;
-    match PlanFile::of_form(lists.offers, lists.gives, lists.group) {
-        Ok(file) => Ok((file, end)),
-        Err(fault) => Err(fault),
-    }
-}
-
 /// The plan file of a text, in time linear in the text's length.
 ///
 /// `Line` goes before `Order`: it is answered where any line is not of the form, out of place or missing. A last line
@@ -164,8 +145,6 @@ pub fn read_plan(alloc: Global, text: &str) -> Result<PlanFile, PlanFault>
     ensures exact { (file : File) → IsTextOf text.now file → (result ≡ Ok file) ⊎ (result ≡ Err memory) }
     ensures refused { (fault : AFault) → IsReadFault text.now fault → fault ≢ memory → (result ≡ Err fault) ⊎ (result ≡ Err memory) }
 {
-    match read_parts(alloc, text) {
-        Ok((file, _)) => Ok(file),
-        Err(fault) => Err(fault),
-    }
+    let lists = read_lists(alloc, text.as_bytes())?;
+    PlanFile::of_form(lists.offers, lists.gives, lists.group)
 }

@@ -107,7 +107,8 @@ fn cut_number(text: &[u8]) -> Option<(u16, &[u8])>
     }
 }
 
-/// The relay behind the space at the front, and the text after it.
+/// The relay behind the space at the front, and the text after it. A relay is a number from 0 to 63 without leading
+/// zeros; none is answered where no such word stands there.
 pub fn cut_relay(text: &[u8]) -> Option<(u16, &[u8])>
     ensures found { IfSome result (λ cut. text.now ≡ relay_text cut.0 ++ cut.1.now) }
     ensures small { IfSome result (λ cut. cut.0 < RELAYS) }

@@ -1,14 +1,15 @@
 -- The plan file that is made of the offers of another, and what the checker says of a file.
-use Rattle.std.specs.Prelude.{◌≡◌, ℕ, ◌<◌, ◌≤◌, List, length, take, Err}
+use Rattle.std.specs.Prelude.{◌≡◌, ℕ, ◌<◌, ◌≤◌, List, [], ◌∷◌, ◌++◌, length, take, map, Err}
 use Rattle.neg_codec.specs.declared.Id.{Id}
 use Rattle.sharing.specs.declared.TheConstants.{MOST_IDS}
 use Rattle.sharing.specs.Sharing.{Shows}
 use Rattle.sharing.specs.Reached.{IsLeast}
-use Rattle.sharing.specs.Offers.{relay_in}
+use Rattle.sharing.specs.Offers.{AreRelays, Ascend, relay_in}
 use Rattle.plan_check.specs.declared.faults.PlanFault.{PlanFault}
 use Rattle.plan_check.specs.declared.faults.PlanFault.TheVariants.{NotOffered, Missing, Stranger, GroupTooSmall}
 use Rattle.plan_check.specs.File.{File}
-use Rattle.plan_check.specs.PlanText.{offers_text, IsTextOf}
+use Rattle.plan_check.specs.TextLines.{ended}
+use Rattle.plan_check.specs.PlanText.{offer_line, offers_text, IsOffer, IsTextOf}
 use Rattle.plan_check.specs.Verdict.{IsSharedOut, Judges}
 
 -- The gives are a sharing of the offers with this busiest load, and the group shows that none has less. Just then
@@ -32,6 +33,10 @@ pub record IsFront (text : List ℕ) (offers : List (Id × List ℕ)) (end : ℕ
   pub offers_are : file.offers ≡ offers
   pub front : take end text ≡ offers_text offers
   pub within : end ≤ length text
+
+-- the line is of an offer that comes behind these in order
+abbrev pub IsNextOffer : List (Id × List ℕ) → List ℕ → Type 0
+IsNextOffer offers line = (o : Id × List ℕ) × IsOffer o × AreRelays o.1 × Ascend (map (λ o. o.0) offers ++ o.0 ∷ []) × (line ≡ ended (offer_line o))
 
 -- more ids are offered than a table takes
 abbrev pub IsTooMany : File → Type 0

@@ -39,6 +39,11 @@ fn line_of(alloc: Global, most: u64) -> Result<String, AllocError>
 
 /// Reads a plan text, and writes `least` and its busiest load, where its gives are a sharing of its offers and
 /// its group shows that none has less.
+///
+/// # Errors
+///
+/// `Read`, `InputTooLong`, `NotUtf8`, `Line`, `Plan` (3 to 6), `Write` and `Memory`; docs/FORMATS.md has their causes.
+/// Only after `Write` may something have been written.
 pub fn run_check<R: Read, W: Write>(
     alloc: Global,
     reader: &mut R,

@@ -1,10 +1,12 @@
 //! The offers of a plan text whose lines are in order, read as sets, without a list for each.
 
-ghost use Rattle.std.specs.Prelude.{◌≡◌, ◌++◌, ◌∷◌, [], true, map, All, IfOk, IfSome};
+ghost use Rattle.std.specs.Prelude.{◌≡◌, ◌≢◌, ◌↔◌, ◌++◌, ◌∷◌, [], ℕ, List, true, map, All, IfOk, IfSome, IfNone};
+ghost use Rattle.neg_codec.specs.declared.Id.{Id as AnId};
 ghost use Rattle.sharing.specs.Offers.{AreRelays, IsOffers, Ascend};
-ghost use Rattle.plan_check.specs.TextLines.{lines_of, ended};
-ghost use Rattle.plan_check.specs.PlanText.{relays_text, offer_line, IsOffer};
-ghost use Rattle.plan_run.specs.Planned.{IsFront};
+ghost use Rattle.plan_check.specs.File.{File};
+ghost use Rattle.plan_check.specs.TextLines.{lines_of, ended, FirstIsNot};
+ghost use Rattle.plan_check.specs.PlanText.{relays_text, offer_line, IsOffer, IsTextOf};
+ghost use Rattle.plan_run.specs.Planned.{IsFront, IsNextOffer};
 
 use neg_codec::Id;
 use offer_table::RelaySet;
@@ -15,6 +17,7 @@ use std::alloc::{AllocError, Global};
 fn parse_set(text: &[u8]) -> Option<RelaySet>
     ensures found { IfSome result (λ relays. text.now ≡ relays_text relays) }
     ensures relays { IfSome result AreRelays }
+    ensures none { IfNone result ((relays : List ℕ) → AreRelays relays → text.now ≢ relays_text relays) }
 {
     let mut relays = RelaySet::empty();
     let mut next = 0;
@@ -35,6 +38,7 @@ fn parse_offer(line: &[u8]) -> Option<(Id, RelaySet)>
     ensures found { IfSome result (λ o. line.now ≡ offer_line o) }
     ensures offer { IfSome result IsOffer }
     ensures relays { IfSome result (λ o. AreRelays o.1) }
+    ensures none { IfNone result ((o : AnId × List ℕ) → IsOffer o → AreRelays o.1 → line.now ≢ offer_line o) }
 {
     let (id, rest) = cut_offer(line)?;
     let relays = parse_set(rest)?;
@@ -44,7 +48,7 @@ fn parse_offer(line: &[u8]) -> Option<(Id, RelaySet)>
 /// Whether an id comes behind the ids of these offers.
 fn comes_behind(offers: &[(Id, RelaySet)], id: &Id) -> bool
     requires { Ascend (map (λ o. o.0) offers.now) }
-    ensures { result ≡ true → Ascend (map (λ o. o.0) offers.now ++ id.now ∷ []) }
+    ensures { (result ≡ true) ↔ Ascend (map (λ o. o.0) offers.now ++ id.now ∷ []) }
 {
     match offers.split_last() {
         Some((last, _)) => last.0.cmp(id).is_lt(),
@@ -57,6 +61,7 @@ fn take_offers(alloc: Global, text: &[u8]) -> Result<(Vec<(Id, RelaySet)>, &[u8]
     ensures lines { IfOk result (λ r. lines_of text.now ≡ map (λ o. ended (offer_line o)) r.0.items ++ lines_of r.1.now) }
     ensures form { IfOk result (λ r. All IsOffer r.0.items) }
     ensures offers { IfOk result (λ r. IsOffers r.0.items) }
+    ensures all { IfOk result (λ r. FirstIsNot (IsNextOffer r.0.items) (lines_of r.1.now)) }
 {
     let mut offers = Vec::new(alloc);
     let mut rest = text;
@@ -73,14 +78,14 @@ fn take_offers(alloc: Global, text: &[u8]) -> Result<(Vec<(Id, RelaySet)>, &[u8]
     Ok((offers, rest))
 }
 
-/// The offers of a plan text, and where their lines end. None for any other text; that those of a plan text are
-/// always found isn't promised.
+/// The offers of a plan text, and where their lines end. None where the text is no plan text.
 pub(crate) fn read_offers(
     alloc: Global,
     text: &str,
 ) -> Result<Option<(Vec<(Id, RelaySet)>, usize)>, AllocError>
     ensures front { IfOk result (λ o. IfSome o (λ r. IsFront text.now r.0.items r.1)) }
     ensures offers { IfOk result (λ o. IfSome o (λ r. IsOffers r.0.items)) }
+    ensures none { IfOk result (λ o. IfNone o ((file : File) → IsTextOf text.now file → ⊥)) }
 {
     let Some(rest) = skip_header(text.as_bytes()) else {
         return Ok(None);

@@ -7,7 +7,7 @@ ghost use Rattle.plan_run.specs.Jobs.{IsPlanWritten, IsPlanRefusal};
 
 use crate::offers::read_offers;
 use crate::printing::write_plan;
-use crate::reading::parts_of;
+use crate::reading::refusal_of_text;
 use fetch_plan::plan;
 use mirror_run::{Refusal, read_input};
 use offer_table::{OfferFault, OfferTable};
@@ -30,14 +30,10 @@ fn table_of(alloc: Global, text: &str) -> Result<(OfferTable, usize), Refusal>
     ensures front { IfOk result (λ r. IsFront text.now r.0.offers r.1) }
     ensures err { IfErr result (IsPlanRefusal text.now) }
 {
-    if let Some((offers, end)) = read_offers(alloc, text)? {
-        return match OfferTable::of_sets(alloc, offers) {
-            Ok(table) => Ok((table, end)),
-            Err(fault) => Err(refusal_of(fault)),
-        };
-    }
-    let (file, end) = parts_of(alloc, text)?;
-    match OfferTable::of_offers(alloc, file.offers()) {
+    let Some((offers, end)) = read_offers(alloc, text)? else {
+        return Err(refusal_of_text(alloc, text));
+    };
+    match OfferTable::of_sets(alloc, offers) {
         Ok(table) => Ok((table, end)),
         Err(fault) => Err(refusal_of(fault)),
     }
@@ -45,6 +41,11 @@ fn table_of(alloc: Global, text: &str) -> Result<(OfferTable, usize), Refusal>
 
 /// Reads a plan text, and writes the plan text of the same offers with a least sharing of them. The lines of the
 /// offers are written as they stand.
+///
+/// # Errors
+///
+/// `Read`, `InputTooLong`, `NotUtf8`, `Line`, `TableFull` (more than 200,000 offers), `Write` and `Memory`;
+/// docs/FORMATS.md has their causes. Only after `Write` may something have been written.
 pub fn run_plan<R: Read, W: Write>(
     alloc: Global,
     reader: &mut R,

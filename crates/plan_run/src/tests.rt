@@ -1,5 +1,6 @@
 //! Plans and checks of texts from a table, readers and writers that fail.
 
+use crate::offers::read_offers;
 use crate::{read_file, run_check, run_plan};
 use mirror_run::Refusal;
 use neg_codec::Id;
@@ -292,15 +293,16 @@ fn an_id_that_all_relays_offer(rt: HostRuntime) -> Result<(), Fail> {
 }
 
 #[test]
-fn the_offers_of_a_file_make_a_table(rt: HostRuntime) -> Result<(), Fail> {
+fn the_offers_of_a_text_make_a_table(rt: HostRuntime) -> Result<(), Fail> {
     let alloc = rt.alloc();
     let text = plan_text(alloc, &["offer a 0 33", "offer b 33 63", "group"])?;
     let file = read_file(alloc, &mut text.as_str().as_bytes())
         .ok()
         .ok_or("not read")?;
-    let table = OfferTable::of_offers(alloc, file.offers())
-        .ok()
-        .ok_or("no table")?;
+    assert_eq!(rt; file.offers().len(), 2);
+    let (offers, end) = read_offers(alloc, text.as_str())?.ok_or("no offers")?;
+    assert_eq!(rt; text.len().checked_sub(end), Some("group\n".len()));
+    let table = OfferTable::of_sets(alloc, offers).ok().ok_or("no table")?;
     assert_eq!(rt; table.ids().count(), 2);
     for (byte, relays) in [(0x0a, [0, 33]), (0x0b, [33, 63])] {
         let offered = table.offers(&Id([byte; 32]));
@@ -312,6 +314,21 @@ fn the_offers_of_a_file_make_a_table(rt: HostRuntime) -> Result<(), Fail> {
     for relay in 0..66u16 {
         let there = relay == 0 || relay == 33 || relay == 63;
         assert_eq!(rt; table.reported().has(relay), there, "relay {relay}");
+    }
+    Ok(())
+}
+
+#[test]
+fn a_text_that_is_no_plan_text_tells_no_offers(rt: HostRuntime) -> Result<(), Fail> {
+    let alloc = rt.alloc();
+    for lines in [
+        ["offer b 0", "offer a 0", "group"],
+        ["offer a 3 3", "offer b 0", "group"],
+        ["offer a 0", "give b 64", "group"],
+        ["offer a 0", "give a 0", "group 2 1"],
+    ] {
+        let text = plan_text(alloc, &lines)?;
+        assert!(rt; read_offers(alloc, text.as_str())?.is_none());
     }
     Ok(())
 }

@@ -9,7 +9,6 @@ use Rattle.plan_check.specs.File.{pairs_of}
 use Rattle.plan_check.proofs.Files.{none_left}
 use Rattle.plan_check.proofs.LineLemmas.{some_lines, no_lines}
 use Rattle.plan_check.proofs.FormLemmas.{offered, given, grouped, wrong_at_header, wrong_at_group, wrong_at_end, plan_lines-is}
-use Rattle.plan_check.proofs.WriteLemmas.{text_split, split_room, split_front}
 use Rattle.plan_check.proofs.reading.read_lists.Goals as goal
 
 length-pairs : (offers : List (Id × Vec ℕ)) → length (pairs_of offers) ≡ length offers
@@ -56,9 +55,3 @@ returns-clause-lines c =
     joined _ _ _ _ (map offered os) (map given gs) c.in-Some.ensures.found c.in_ok-offers.ensures.lines
     (c.in_ok-gives.ensures.lines ∙ ap (λ t. map given gs ++ t) (found ∙ ap (λ t. grouped c.in-Some-2.group.items ∷ t) end))
     ∙ sym (plan_lines-is _)
-
-pub overflow_sub-end : goal.overflow_sub-end
-overflow_sub-end c = split_room _ _ _ (text_split _ _ _ _ c.in-Some.ensures.found c.in_ok-offers.ensures.lines)
-
-pub returns-clause-end : goal.returns-clause-end
-returns-clause-end c = split_front _ _ _ (text_split _ _ _ _ c.in-Some.ensures.found c.in_ok-offers.ensures.lines)

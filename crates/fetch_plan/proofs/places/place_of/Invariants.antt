@@ -1,6 +1,6 @@
 use Rattle.std.proofs.Common.{ℕ, ◌<◌, ◌+◌, ◌≤◌, ◌≡◌, [], length, slice_index_or}
 use Rattle.offer_table.specs.Relays.{bits_of}
-use Rattle.fetch_plan.proofs.hand_out.place_of.Given as goal
+use Rattle.fetch_plan.proofs.places.place_of.Given as goal
 
 abbrev pub invariant-loop-left : goal.invariant-loop-left
 invariant-loop-left l = record {
