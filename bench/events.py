@@ -6,8 +6,8 @@
 The baseline makes the events (`BASELINE gen events --n N`), JSON objects of kinds 0, 1, 3, 6, 7 and others,
 one a line, with right ids. `event_copy read` reads each line as JSON, makes the event and checks its id;
 `event_copy` also writes each as compact JSON. The baseline does the same at the start and the end of
-`serve`, which here serves one connection that is closed at once; it also keeps the events in its store, and reads the file
-in several threads, so compare processor times. Each runs R times in turn; the least times and the greatest
+`serve`, which here serves one connection that is closed at once; it also keeps the events in its store, and reads
+the file in several threads, so compare processor times. Each runs R times in turn; the least times and the greatest
 peak of resident memory are shown. The texts that are written are compared.
 """
 import argparse
