@@ -189,8 +189,8 @@ module _ (groups : List Group) (deck : List (List ℕ)) (h : AreLeft groups deck
   still_left =
       let fewer_left : total fewer place ≡ left = omega (arith, dealt.totals place, ap {B = ℕ} (λ b. cond b 1 0) (eq-eqb place place refl)) in
       let other : (k : ℕ) → k ≢ place → (total fewer k ≡ total groups k) × ((r : ℕ) → amount fewer k r ≡ amount groups k r) =
-        λ k ne. (let no : (place == k) ≡ false = ne_eqb place k (λ e. ne (sym e)) in
-          (omega (arith, dealt.totals k, ap {B = ℕ} (λ b. cond b 1 0) no), λ r. omega (arith, dealt.amounts k r, ap {B = ℕ} (λ b. cond b (cond (relay == r) 1 0) 0) no))) in
+      λ k ne. (let no : (place == k) ≡ false = ne_eqb place k (λ e. ne (sym e)) in
+      (omega (arith, dealt.totals k, ap {B = ℕ} (λ b. cond b 1 0) no), λ r. omega (arith, dealt.amounts k r, ap {B = ℕ} (λ b. cond b (cond (relay == r) 1 0) 0) no))) in
       let same : (k : ℕ) → k < length fewer → k < length groups = λ k fits. omega (arith, fits, length-set groups place group) in
       record {
         long = long ∙ h.long ∙ sym (length-set groups place group);
@@ -200,7 +200,7 @@ module _ (groups : List Group) (deck : List (List ℕ)) (h : AreLeft groups deck
         ];
         counted = λ k r fits. elim (cases_eq k place) [
           | inl e ↦ subst (λ k. times (take (total fewer k) (get_or after k [])) r ≡ amount fewer k r) (sym e)
-            (ap (λ n. times (take n (get_or after place [])) r) fewer_left
+              (ap (λ n. times (take n (get_or after place [])) r) fewer_left
               ∙ (let a : times (take left (get_or after place [])) r ≡ amount fewer place r = omega (arith, stood r, dealt.amounts place r, ap {B = ℕ} (λ b. cond b (cond (relay == r) 1 0) 0) (eq-eqb place place refl)) in a))
           | inr ne ↦ ap (λ n. times (take n (get_or after k [])) r) (other k ne).0 ∙ ap (λ xs. times (take (total groups k) xs) r) (others k ne) ∙ h.counted k r (same k fits) ∙ sym ((other k ne).1 r)
         ];

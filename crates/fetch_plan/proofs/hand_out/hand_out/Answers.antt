@@ -69,11 +69,10 @@ loop-offer-preserved c =
     let kept : AreLeft left deck = c.loop-offer.invariant.2 in
     let fewer : List Group = fewer left deck kept place next.inside next.some relay after c.deal-relay.ensures.next c.deal-relay.ensures.others c.deal-relay.ensures.long in
     let taken : IsTaken left place relay fewer = dealt left deck kept place next.inside next.some relay after c.deal-relay.ensures.next c.deal-relay.ensures.others c.deal-relay.ensures.long in
-    rw c.in_ok-push.ensures.items
-    (
+    rw c.in_ok-push.ensures.items (
       fewer,
       dealing_step c.args.table.now.offers c.args.groups.now left c.loop-offer.shares.items c.in-Some.offer.now c.in-Some.others place
-      (groups_in_order c.args.table.now.offers c.args.groups.now c.requires.table.offers_ok c.requires.tabled) dealing next.within next.found relay fewer taken,
+          (groups_in_order c.args.table.now.offers c.args.groups.now c.requires.table.offers_ok c.requires.tabled) dealing next.within next.found relay fewer taken,
       still_left left deck kept place next.inside next.some relay after c.deal-relay.ensures.next c.deal-relay.ensures.others c.deal-relay.ensures.long,
     )
 
