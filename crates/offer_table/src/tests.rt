@@ -27,11 +27,16 @@ fn spread(alloc: Global, first: u32, count: u32) -> Result<BTreeSet<Id>, AllocEr
     Ok(ids)
 }
 
-fn report(alloc: Global, relay: u16, numbers: &[u32]) -> Result<OfferTable, Fail> {
+fn ids_of(alloc: Global, numbers: &[u32]) -> Result<BTreeSet<Id>, AllocError> {
     let mut ids = BTreeSet::new(alloc);
     for number in numbers {
         ids.insert(numbered(*number))?;
     }
+    Ok(ids)
+}
+
+fn report(alloc: Global, relay: u16, numbers: &[u32]) -> Result<OfferTable, Fail> {
+    let ids = ids_of(alloc, numbers)?;
     table_of(alloc, relay, &ids)
 }
 
@@ -47,6 +52,24 @@ fn merged(a: OfferTable, b: OfferTable) -> Result<OfferTable, Fail> {
         Ok(both) => Ok(both),
         Err(_) => Err("no merge")?,
     }
+}
+
+/// Why two tables can't be put together, and the two.
+fn refused(a: OfferTable, b: OfferTable) -> Result<(OfferFault, OfferTable, OfferTable), Fail> {
+    match a.merge(b) {
+        Ok(_) => Err("a merge")?,
+        Err(refused) => Ok(refused),
+    }
+}
+
+/// Strikes an offer, and says whether it was there.
+fn struck(table: &mut OfferTable, id: &Id, relay: u16) -> Result<bool, Fail> {
+    Ok(table.strike(id, relay)?)
+}
+
+/// How many ids and how many groups a table has.
+fn sizes(table: &OfferTable) -> (usize, usize) {
+    (table.ids().count(), table.groups())
 }
 
 #[test]
@@ -87,14 +110,10 @@ fn a_set_has_a_number(rt: HostRuntime) -> Result<(), Fail> {
 fn each_relay_reports_once(rt: HostRuntime) -> Result<(), Fail> {
     let a = report(rt.alloc(), 0, &[9])?;
     let b = report(rt.alloc(), 0, &[9])?;
-    match a.merge(b) {
-        Ok(_) => Err("two reports of one relay were merged")?,
-        Err((fault, a, b)) => {
-            assert_eq!(rt; fault, OfferFault::Double);
-            assert!(rt; a.offers(&numbered(9)).has(0) && b.offers(&numbered(9)).has(0));
-            Ok(())
-        }
-    }
+    let (fault, a, b) = refused(a, b)?;
+    assert_eq!(rt; fault, OfferFault::Double);
+    assert!(rt; a.offers(&numbered(9)).has(0) && b.offers(&numbered(9)).has(0));
+    Ok(())
 }
 
 #[test]
@@ -110,14 +129,11 @@ fn a_number_may_be_no_relay(rt: HostRuntime) -> Result<(), Fail> {
 fn a_table_is_full(rt: HostRuntime) -> Result<(), Fail> {
     let a = table_of(rt.alloc(), 0, &spread(rt.alloc(), 0, 200_000)?)?;
     let b = table_of(rt.alloc(), 1, &spread(rt.alloc(), 200_000, 1)?)?;
-    match a.merge(b) {
-        Ok(_) => Err("200,001 ids")?,
-        Err((fault, a, b)) => {
-            assert_eq!(rt; fault, OfferFault::TableFull);
-            assert_eq!(rt; (a.ids().count(), b.ids().count()), (200_000, 1));
-            Ok(())
-        }
-    }
+    let (fault, a, b) = refused(a, b)?;
+    assert_eq!(rt; fault, OfferFault::TableFull);
+    assert_eq!(rt; sizes(&a), (200_000, 1));
+    assert_eq!(rt; sizes(&b), (1, 1));
+    Ok(())
 }
 
 #[test]
@@ -137,10 +153,9 @@ fn large_tables_are_merged_and_struck(rt: HostRuntime) -> Result<(), Fail> {
     let mut both = merged(a, b)?;
     for (relay, left) in [(3, 200_000), (5, 0)] {
         for id in &many {
-            assert!(rt; both.strike(id, relay)?);
+            assert!(rt; struck(&mut both, id, relay)?);
         }
-        assert_eq!(rt; both.ids().count(), left, "after relay {relay}");
-        assert_eq!(rt; both.groups(), left.min(1), "after relay {relay}");
+        assert_eq!(rt; sizes(&both), (left, left.min(1)), "after relay {relay}");
     }
     Ok(())
 }
@@ -192,23 +207,23 @@ fn ids_stand_in_groups_of_equal_relays(rt: HostRuntime) -> Result<(), Fail> {
 #[test]
 fn strikes_move_ids_between_groups(rt: HostRuntime) -> Result<(), Fail> {
     let mut table = three_groups(rt.alloc())?;
-    assert!(rt; table.strike(&numbered(12), 1)?);
+    assert!(rt; struck(&mut table, &numbered(12), 1)?);
     assert_eq!(rt; table.groups(), 3);
     assert!(rt; is_group(&table, 1, &[2], &[12, 15, 16, 17]));
     assert!(rt; is_group(&table, 2, &[1, 2], &[10, 11, 13, 14]));
-    assert!(rt; table.strike(&numbered(4), 1)?);
+    assert!(rt; struck(&mut table, &numbered(4), 1)?);
     assert_eq!(rt; table.groups(), 4);
     assert!(rt; is_group(&table, 0, &[0], &[4]));
     assert!(rt; is_group(&table, 1, &[0, 1], &[0, 1, 2, 3, 5, 6, 7, 8, 9]));
-    assert!(rt; table.strike(&numbered(4), 0)?);
+    assert!(rt; struck(&mut table, &numbered(4), 0)?);
     assert_eq!(rt; table.groups(), 3);
     assert!(rt; is_group(&table, 0, &[0, 1], &[0, 1, 2, 3, 5, 6, 7, 8, 9]));
     for number in [17, 12, 15, 16] {
-        assert!(rt; table.strike(&numbered(number), 2)?);
+        assert!(rt; struck(&mut table, &numbered(number), 2)?);
     }
     assert_eq!(rt; table.groups(), 2);
     assert!(rt; is_group(&table, 1, &[1, 2], &[10, 11, 13, 14]));
-    assert!(rt; !table.strike(&numbered(10), 0)?);
+    assert!(rt; !struck(&mut table, &numbered(10), 0)?);
     assert!(rt; is_group(&table, 1, &[1, 2], &[10, 11, 13, 14]));
     Ok(())
 }
@@ -228,9 +243,13 @@ fn the_last_offer_takes_the_id_away(rt: HostRuntime) -> Result<(), Fail> {
     let a = merged(report(rt.alloc(), 0, &[5])?, report(rt.alloc(), 1, &[5])?)?;
     let mut table = merged(a, report(rt.alloc(), 2, &[5])?)?;
     for (relay, there) in [(0, true), (0, false), (1, true), (2, true)] {
-        assert_eq!(rt; table.strike(&numbered(5), relay)?, there, "relay {relay}");
+        assert_eq!(rt;
+            struck(&mut table, &numbered(5), relay)?,
+            there,
+            "relay {relay}"
+        );
     }
-    assert_eq!(rt; table.ids().count(), 0);
+    assert_eq!(rt; sizes(&table), (0, 0));
     assert!(rt; table.reported().has(0));
     Ok(())
 }
@@ -239,13 +258,12 @@ fn the_last_offer_takes_the_id_away(rt: HostRuntime) -> Result<(), Fail> {
 fn struck_ids_are_passed_over(rt: HostRuntime) -> Result<(), Fail> {
     let mut table = report(rt.alloc(), 0, &[1, 2, 3, 4])?;
     for number in [1, 3, 4] {
-        assert!(rt; table.strike(&numbered(number), 0)?);
+        assert!(rt; struck(&mut table, &numbered(number), 0)?);
     }
     let listed = table.ids().copied().collect::<Vec<Id>>(rt.alloc())?;
     assert!(rt; listed.as_slice() == [numbered(2)].as_slice());
     let both = merged(table, report(rt.alloc(), 1, &[1, 2])?)?;
-    assert_eq!(rt; both.ids().count(), 2);
-    assert_eq!(rt; both.groups(), 2);
+    assert_eq!(rt; sizes(&both), (2, 2));
     assert!(rt; is_group(&both, 0, &[1], &[1]));
     assert!(rt; is_group(&both, 1, &[0, 1], &[2]));
     Ok(())
@@ -345,7 +363,7 @@ fn a_large_group_moves_in_descending_order(rt: HostRuntime) -> Result<(), Fail> 
     let mut both = merged(a, table_of(rt.alloc(), 1, &many)?)?;
     let ids = many.iter().copied().collect::<Vec<Id>>(rt.alloc())?;
     for id in ids.iter().rev() {
-        assert!(rt; both.strike(id, 0)?);
+        assert!(rt; struck(&mut both, id, 0)?);
     }
     assert_eq!(rt; both.groups(), 1);
     let (relays, moved) = both.group_at(0);
@@ -394,7 +412,7 @@ fn thousands_of_groups_come_and_go(rt: HostRuntime) -> Result<(), Fail> {
         );
     }
     for k in (0..3_000u32).rev() {
-        assert!(rt; table.strike(&numbered(2 * k), 0)?);
+        assert!(rt; struck(&mut table, &numbered(2 * k), 0)?);
     }
     assert_eq!(rt; table.groups(), 6_000);
     for k in 0..3_000u32 {
@@ -409,7 +427,7 @@ fn thousands_of_groups_come_and_go(rt: HostRuntime) -> Result<(), Fail> {
         );
     }
     for k in 0..3_000u32 {
-        assert!(rt; table.strike(&numbered(2 * k + 1), 1)?);
+        assert!(rt; struck(&mut table, &numbered(2 * k + 1), 1)?);
     }
     assert_eq!(rt; table.groups(), 6_000);
     for k in 0..3_000u32 {
@@ -424,8 +442,8 @@ fn thousands_of_groups_come_and_go(rt: HostRuntime) -> Result<(), Fail> {
         );
     }
     for k in 0..3_000u32 {
-        assert!(rt; table.strike(&numbered(2 * k), 1)?);
-        assert!(rt; table.strike(&numbered(2 * k + 1), 0)?);
+        assert!(rt; struck(&mut table, &numbered(2 * k), 1)?);
+        assert!(rt; struck(&mut table, &numbered(2 * k + 1), 0)?);
     }
     assert_eq!(rt; table.groups(), 2_999);
     for k in 1..3_000u32 {
@@ -436,7 +454,7 @@ fn thousands_of_groups_come_and_go(rt: HostRuntime) -> Result<(), Fail> {
     }
     for relay in 2..14u16 {
         for k in 0..6_000u32 {
-            table.strike(&numbered(k), relay)?;
+            struck(&mut table, &numbered(k), relay)?;
         }
     }
     assert_eq!(rt; (table.groups(), table.ids().count()), (0, 0));
