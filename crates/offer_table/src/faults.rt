@@ -3,16 +3,22 @@
 use crate::RelaySet;
 use neg_codec::Id;
 use std::alloc::{AllocError, AllocFailed};
+use thiserror::Error;
 
 /// Why a table wasn't made.
-#[derive(Clone, Copy, Debug, PartialEq, Eq)]
+#[derive(Clone, Copy, Debug, PartialEq, Eq, Error)]
 pub enum OfferFault {
     /// The number is no relay.
+    #[error("not a relay's number")]
     Relay,
     /// More than [`sharing::MOST_IDS`] ids.
+    #[error("more than 200,000 ids")]
     TableFull,
     /// Both tables hold a report of one relay.
+    #[error("two reports of one relay")]
     Double,
+    /// A growth was refused.
+    #[error("out of memory")]
     Memory,
 }
 

@@ -460,3 +460,16 @@ fn thousands_of_groups_come_and_go(rt: HostRuntime) -> Result<(), Fail> {
     assert_eq!(rt; (table.groups(), table.ids().count()), (0, 0));
     Ok(())
 }
+
+#[test]
+fn faults_have_texts(rt: HostRuntime) -> Result<(), Fail> {
+    for (fault, text) in [
+        (OfferFault::Relay, "not a relay's number"),
+        (OfferFault::TableFull, "more than 200,000 ids"),
+        (OfferFault::Double, "two reports of one relay"),
+        (OfferFault::Memory, "out of memory"),
+    ] {
+        assert_eq!(rt; format!(in rt.alloc(); "{fault}")?.as_str(), text);
+    }
+    Ok(())
+}

@@ -157,3 +157,28 @@ fn a_file_lends_its_lists(rt: HostRuntime) -> Result<(), Fail> {
         Err(_) => Err("no file")?,
     }
 }
+
+#[test]
+fn faults_have_texts(rt: HostRuntime) -> Result<(), Fail> {
+    for (fault, text) in [
+        (
+            PlanFault::Line(3),
+            "line 3: not of the form, out of place or missing",
+        ),
+        (PlanFault::Order(4), "line 4: out of order"),
+        (
+            PlanFault::NotOffered,
+            "an id is given to a relay that doesn't offer it",
+        ),
+        (PlanFault::Missing, "an offered id isn't given"),
+        (PlanFault::Stranger, "a given id isn't offered"),
+        (
+            PlanFault::GroupTooSmall,
+            "the group doesn't show that the busiest relay can't have fewer",
+        ),
+        (PlanFault::Memory, "out of memory"),
+    ] {
+        assert_eq!(rt; format!(in rt.alloc(); "{fault}")?.as_str(), text);
+    }
+    Ok(())
+}
