@@ -401,63 +401,62 @@ fn is_numbered(table: &OfferTable, k: usize, number: u64, numbers: &[u32]) -> bo
             .all(|(id, number)| *id == numbered(*number))
 }
 
+/// Strikes a relay's offers of the even or the odd ids below 6,000, the last one first. Whether all were there.
+fn struck_halves(table: &mut OfferTable, is_odd: bool, relay: u16) -> Result<bool, Fail> {
+    for k in (0..3_000u32).rev() {
+        if !struck(table, &numbered(2 * k + u32::from(is_odd)), relay)? {
+            return Ok(false);
+        }
+    }
+    Ok(true)
+}
+
+/// Whether the groups from the first on are those of two ids each whose sets' numbers end with these two bits.
+fn are_pairs(table: &OfferTable, first: u32, bits: u8) -> bool {
+    for k in first..3_000u32 {
+        let number = k as u64 * 4 + u64::from(bits);
+        if !is_numbered(table, (k - first) as usize, number, &[2 * k, 2 * k + 1]) {
+            return false;
+        }
+    }
+    true
+}
+
+/// Whether the groups are those of one id each, by twos: one whose set's number ends with these two bits, and one
+/// whose set's number is the next. The first of the two has the even id or the odd one.
+fn are_halves(table: &OfferTable, bits: u8, is_odd_first: bool) -> bool {
+    for k in 0..3_000u32 {
+        let (at, number) = (2 * k as usize, k as u64 * 4 + u64::from(bits));
+        let odd = u32::from(is_odd_first);
+        if !is_numbered(table, at, number, &[2 * k + odd])
+            || !is_numbered(table, at + 1, number + 1, &[2 * k + 1 - odd])
+        {
+            return false;
+        }
+    }
+    true
+}
+
 #[test]
 fn thousands_of_groups_come_and_go(rt: HostRuntime) -> Result<(), Fail> {
     let mut table = many_groups(rt.alloc())?;
-    assert_eq!(rt; table.groups(), 3_000);
-    for k in 0..3_000u32 {
-        assert!(rt;
-            is_numbered(&table, k as usize, k as u64 * 4 + 3, &[2 * k, 2 * k + 1]),
-            "at {k}"
-        );
-    }
-    for k in (0..3_000u32).rev() {
-        assert!(rt; struck(&mut table, &numbered(2 * k), 0)?);
-    }
-    assert_eq!(rt; table.groups(), 6_000);
-    for k in 0..3_000u32 {
-        let at = 2 * k as usize;
-        assert!(rt;
-            is_numbered(&table, at, k as u64 * 4 + 2, &[2 * k]),
-            "at {k}"
-        );
-        assert!(rt;
-            is_numbered(&table, at + 1, k as u64 * 4 + 3, &[2 * k + 1]),
-            "at {k}"
-        );
-    }
-    for k in 0..3_000u32 {
-        assert!(rt; struck(&mut table, &numbered(2 * k + 1), 1)?);
-    }
-    assert_eq!(rt; table.groups(), 6_000);
-    for k in 0..3_000u32 {
-        let at = 2 * k as usize;
-        assert!(rt;
-            is_numbered(&table, at, k as u64 * 4 + 1, &[2 * k + 1]),
-            "at {k}"
-        );
-        assert!(rt;
-            is_numbered(&table, at + 1, k as u64 * 4 + 2, &[2 * k]),
-            "at {k}"
-        );
-    }
-    for k in 0..3_000u32 {
-        assert!(rt; struck(&mut table, &numbered(2 * k), 1)?);
-        assert!(rt; struck(&mut table, &numbered(2 * k + 1), 0)?);
-    }
-    assert_eq!(rt; table.groups(), 2_999);
-    for k in 1..3_000u32 {
-        assert!(rt;
-            is_numbered(&table, k as usize - 1, k as u64 * 4, &[2 * k, 2 * k + 1]),
-            "at {k}"
-        );
-    }
+    assert_eq!(rt; sizes(&table), (6_000, 3_000));
+    assert!(rt; are_pairs(&table, 0, 3));
+    assert!(rt; struck_halves(&mut table, false, 0)?);
+    assert_eq!(rt; sizes(&table), (6_000, 6_000));
+    assert!(rt; are_halves(&table, 2, false));
+    assert!(rt; struck_halves(&mut table, true, 1)?);
+    assert_eq!(rt; sizes(&table), (6_000, 6_000));
+    assert!(rt; are_halves(&table, 1, true));
+    assert!(rt; struck_halves(&mut table, false, 1)? && struck_halves(&mut table, true, 0)?);
+    assert_eq!(rt; sizes(&table), (5_998, 2_999));
+    assert!(rt; are_pairs(&table, 1, 0));
     for relay in 2..14u16 {
         for k in 0..6_000u32 {
             struck(&mut table, &numbered(k), relay)?;
         }
     }
-    assert_eq!(rt; (table.groups(), table.ids().count()), (0, 0));
+    assert_eq!(rt; sizes(&table), (0, 0));
     Ok(())
 }
 
