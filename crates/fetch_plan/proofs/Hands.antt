@@ -16,8 +16,7 @@ use Rattle.offer_table.specs.Groups as tabled
 use Rattle.offer_table.proofs.Numbers.{same_set}
 use Rattle.offer_table.proofs.Partition.{are_groups}
 use Rattle.fetch_plan.specs.declared.groups.Group.{Group}
-use Rattle.fetch_plan.specs.declared.hand_out.Share.{Share}
-use Rattle.fetch_plan.specs.Shares.{held, offers_of}
+use Rattle.fetch_plan.specs.Shares.{Share, held, offers_of}
 use Rattle.fetch_plan.specs.Groups.{amount, shared_by, total, load_of, row_relays, row_ids, AreSets, AreTabled}
 use Rattle.fetch_plan.specs.Handed.{IsTaken, IsCounted, HasShare, AreHanded}
 use Rattle.fetch_plan.specs.Places.{IsPlace, ArePlaces}
