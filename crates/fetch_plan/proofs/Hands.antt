@@ -3,7 +3,7 @@ use Rattle.std.proofs.Common.{◌≡◌, ℕ, suc, ◌+◌, ◌<◌, ◌≤◌, 
 use Rattle.std.specs.List.{sum, sum_by, filter, All}
 use Rattle.std.specs.List.Sorted.{IsStrictlySortedBy}
 use Rattle.std.proofs.lemmas.Bool.{cases_lt, cases_eq, cases_Bool, eq-eqb, ne_eqb, eqb-true}
-use Rattle.std.proofs.lemmas.List.{map-append, append_assoc, length-map, length-set, get_or-map, same_lists}
+use Rattle.std.proofs.lemmas.List.{map-append, append_assoc, length-map, length-set, get_or-map}
 use Rattle.std.proofs.lemmas.List.Elements.{All-nil, All-push, All-head, All-tail, Contains-append_left, Contains-push}
 use Rattle.std.proofs.lemmas.List.Sums.{sum_by-cons, sum_by_push, get_or-le-sum_by}
 use Rattle.std.proofs.lemmas.Map.Keys.{Less-from_sorted}
@@ -17,7 +17,7 @@ use Rattle.offer_table.proofs.Numbers.{same_set}
 use Rattle.offer_table.proofs.Partition.{are_groups}
 use Rattle.fetch_plan.specs.declared.groups.Group.{Group}
 use Rattle.fetch_plan.specs.Shares.{Share, held, offers_of}
-use Rattle.fetch_plan.specs.Groups.{amount, shared_by, total, load_of, row_relays, row_ids, AreSets, AreTabled}
+use Rattle.fetch_plan.specs.Groups.{amount, shared_by, total, load_of, row_relays, row_ids, AreSets, AreOrdered, AreTabled}
 use Rattle.fetch_plan.specs.Handed.{IsTaken, IsCounted, HasShare, AreHanded}
 use Rattle.fetch_plan.specs.Places.{IsPlace, ArePlaces}
 use Rattle.fetch_plan.proofs.Gives.{at-le-sum}
@@ -99,10 +99,6 @@ first_row : (rows : Rows) (k : ℕ) → k < length rows → row_relays rows k �
 unfolding row_relays
 first_row rows k lt = sym (get_or-map (λ (g : List ℕ × List Id). g.0) rows k ([], []) [] lt)
 
--- the sets of groups are in order
-abbrev pub AreOrdered : List Group → Type 0
-AreOrdered groups = (j k : ℕ) → j < k → k < length groups → bits_of (shared_by groups j) < bits_of (shared_by groups k)
-
 module _ (rows : Rows) (groups : List Group) (same : AreTabled rows groups) (ordered : IsStrictlySortedBy set_cmp (map (λ g. g.0) rows)) where
   first_of : (k : ℕ) → k < length groups → get_or (map (λ (g : List ℕ × List Id). g.0) rows) k [] ≡ shared_by groups k
   first_of k lt = sym (same.relays k lt ∙ first_row rows k (omega (arith, same.long)))
@@ -124,14 +120,6 @@ same_place groups j k h below within e =
         | inr le ↦ omega arith
       ]
     ]
-
--- the sets of the groups are those of the rows
-pub sets_are : (rows : Rows) (groups : List Group) (sets : List (List ℕ)) → AreTabled rows groups → AreSets groups sets → sets ≡ map (λ g. g.0) rows
-sets_are rows groups sets same are =
-    let long : length (map (λ (g : List ℕ × List Id). g.0) rows) ≡ length rows = length-map rows (λ (g : List ℕ × List Id). g.0) in
-    same_lists sets (map (λ (g : List ℕ × List Id). g.0) rows) (omega (arith, are.long, same.long, long)) (λ k d lt.
-    (let fits : k < length groups = omega (arith, are.long) in
-    get_or_any sets k d [] lt ∙ are.relays k fits ∙ same.relays k fits ∙ first_row rows k (omega (arith, same.long)) ∙ get_or_any (map (λ (g : List ℕ × List Id). g.0) rows) k [] d (omega (arith, same.long, long))))
 
 -- just these relays offer the ids of some group
 abbrev pub HasGroup : List Group → Id × List ℕ → Type 0

@@ -1,4 +1,4 @@
--- Where the relays of offers stand among sets.
+-- Where relays stand among sets.
 use Rattle.std.specs.Prelude.{◌≡◌, ℕ, ◌<◌, List, [], length, slice_index_or}
 use Rattle.neg_codec.specs.declared.Id.{Id}
 use Rattle.offer_table.specs.Relays.{bits_of}
@@ -6,6 +6,10 @@ use Rattle.offer_table.specs.Relays.{bits_of}
 -- the set at this place has these relays
 abbrev pub IsPlace : List (List ℕ) → List ℕ → ℕ → Type 0
 IsPlace sets relays k = (k < length sets) × (bits_of (slice_index_or sets k []) ≡ bits_of relays)
+
+-- the numbers of the sets ascend
+abbrev pub AreInOrder : List (List ℕ) → Type 0
+AreInOrder sets = (j k : ℕ) → j < k → k < length sets → bits_of (slice_index_or sets j []) < bits_of (slice_index_or sets k [])
 
 abbrev pub no_offer : Id × List ℕ
 no_offer = (record { 0 = [] }, [])

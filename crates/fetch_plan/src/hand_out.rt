@@ -8,8 +8,7 @@ ghost use Rattle.fetch_plan.specs.Handed.{AreHandedOut};
 
 use crate::deck::Deck;
 use crate::groups::Group;
-use crate::levels::sets_of;
-use crate::places::places_of;
+use crate::places::Places;
 use neg_codec::Id;
 use offer_table::OfferTable;
 use std::alloc::{AllocError, Global};
@@ -25,7 +24,7 @@ pub(crate) fn hand_out(
     requires table { IsTable table.now }
     ensures { IfOk result (λ gives. AreHandedOut groups.now table.now.offers gives.items) }
 {
-    let places = places_of(alloc, &sets_of(alloc, groups)?, table)?;
+    let places = Places::of(alloc, groups)?.all(alloc, table)?;
     let mut rest = table.walk();
     let mut deck = Deck::of(alloc, groups, rest.most_left())?;
     let mut gives = Vec::with_capacity(alloc, rest.most_left())?;

@@ -2,29 +2,102 @@
 
 ghost use Rattle.std.specs.Prelude.{◌≡◌, ◌≤◌, ◌<◌, ℕ, IfOk};
 ghost use Rattle.std.specs.List.{All};
-ghost use Rattle.std.specs.List.Sorted.{IsStrictlySortedBy};
-ghost use Rattle.offer_table.specs.Groups.{set_cmp};
-ghost use Rattle.fetch_plan.specs.Places.{IsPlace, ArePlaces};
+ghost use Rattle.fetch_plan.specs.Groups.{AreSets, AreOrdered};
+ghost use Rattle.fetch_plan.specs.Places.{IsPlace, ArePlaces, AreInOrder};
 
+use crate::groups::Group;
+use crate::levels::sets_of;
 use offer_table::{OfferTable, RelaySet};
 use std::alloc::{AllocError, Global};
+use std::marker::Model;
 
 /// One more than the greatest number of a set.
 const BASE: u128 = 1 << 64;
 
-/// Half, where this number is not below the middle one, otherwise nothing. It is reckoned, since a choice between the
-/// two was compiled to a branch, and which way a search goes can't be foreseen.
-fn step(half: usize, number: u64, middle: u64) -> usize
-    ensures up { middle ≤ number → result ≡ half }
-    ensures stay { number < middle → result ≡ 0 }
-{
-    let past = (BASE + u128::from(number) - u128::from(middle)) / BASE;
-    half * past as usize
+/// How many slots there are for each set, and how many at least: so many that most sets have one of their own.
+const ROOM: usize = 4;
+
+const LEAST: usize = 4_096;
+
+/// 2^64 over the golden ratio, an odd number: its multiples spread over all numbers below 2^64.
+const MIXER: u64 = 0x9e37_79b9_7f4a_7c15;
+
+/// Sets in the order of their numbers, and where to look for them first.
+#[derive(Drop)]
+pub(crate) struct Places {
+    sets: Vec<RelaySet>,
+    /// For each slot the place of a set that has it. Another set may have it too.
+    guesses: Vec<u32>,
+}
+
+impl Model for Places {
+    ghost use Rattle.std.specs.Prelude.{List, ℕ};
+    ghost use Rattle.fetch_plan.specs.Places.{AreInOrder};
+
+    ghost Value = { List (List ℕ) };
+
+    ghost view = { λ p. p.sets.items };
+
+    ghost invariant = { λ p. AreInOrder p.sets.items };
+}
+
+impl Places {
+    /// The places of groups.
+    pub(crate) fn of(alloc: Global, groups: &[Group]) -> Result<Places, AllocError>
+        requires { AreOrdered groups.now }
+        ensures { IfOk result (AreSets groups.now) }
+    {
+        let sets = sets_of(alloc, groups)?;
+        let mut guesses = vec![in alloc; 0u32; sets.len().saturating_mul(ROOM).max(LEAST)]?;
+        for (place, set) in sets.iter().enumerate() {
+            let slot = slot_of(set.number(), guesses.len());
+            if let Some(guess) = guesses.get_mut(slot) {
+                *guess = u32::try_from(place).unwrap_or(0);
+            }
+        }
+        Ok(Places { sets, guesses })
+    }
+
+    /// Where a set stands.
+    fn find(&self, relays: RelaySet) -> usize
+        requires { (k : ℕ) × IsPlace self.now relays k }
+        ensures { IsPlace self.now relays result }
+    {
+        let number = relays.number();
+        if let Some(guess) = self.guesses.get(slot_of(number, self.guesses.len())) {
+            let place = *guess as usize;
+            if place < self.sets.len() && self.sets[place].number() == number {
+                return place;
+            }
+        }
+        place_of(&self.sets, relays)
+    }
+
+    /// Where the relays of each offer stand. All are looked up before any is used, so that the processor needn't wait
+    /// for what it reads for one id before it begins with the next.
+    pub(crate) fn all(&self, alloc: Global, table: &OfferTable) -> Result<Vec<usize>, AllocError>
+        requires { All (λ o. (k : ℕ) × IsPlace self.now o.1 k) table.now.offers }
+        ensures { IfOk result (λ places. ArePlaces self.now table.now.offers places.items) }
+    {
+        let mut rest = table.walk();
+        let mut places = Vec::with_capacity(alloc, rest.most_left())?;
+        while let Some((offer, others)) = rest.split_first() {
+            places.push(self.find(offer.1))?;
+            rest = others;
+        }
+        Ok(places)
+    }
+}
+
+/// The slot of a number among so many.
+fn slot_of(number: u64, slots: usize) -> usize {
+    let mixed = u128::from(number.wrapping_mul(MIXER));
+    (mixed.wrapping_mul(slots as u128) / BASE) as usize
 }
 
 /// Where a set stands among sets in the order of their numbers. Each step halves the sets that are left.
 fn place_of(sets: &[RelaySet], relays: RelaySet) -> usize
-    requires ordered { IsStrictlySortedBy set_cmp sets.now }
+    requires ordered { AreInOrder sets.now }
     requires there { (k : ℕ) × IsPlace sets.now relays k }
     ensures { IsPlace sets.now relays result }
 {
@@ -33,28 +106,10 @@ fn place_of(sets: &[RelaySet], relays: RelaySet) -> usize
     let mut left = sets.len();
     while left > 1 {
         let half = left / 2;
-        place += step(half, number, sets[place + half].number());
+        if sets[place + half].number() <= number {
+            place += half;
+        }
         left -= half;
     }
     place
-}
-
-/// Where the relays of each offer stand among these sets. All are looked up before any is used, so that the processor
-/// needn't wait for what it reads for one id before it begins with the next.
-pub(crate) fn places_of(
-    alloc: Global,
-    sets: &[RelaySet],
-    table: &OfferTable,
-) -> Result<Vec<usize>, AllocError>
-    requires ordered { IsStrictlySortedBy set_cmp sets.now }
-    requires there { All (λ o. (k : ℕ) × IsPlace sets.now o.1 k) table.now.offers }
-    ensures { IfOk result (λ places. ArePlaces sets.now table.now.offers places.items) }
-{
-    let mut rest = table.walk();
-    let mut places = Vec::with_capacity(alloc, rest.most_left())?;
-    while let Some((offer, others)) = rest.split_first() {
-        places.push(place_of(sets, offer.1))?;
-        rest = others;
-    }
-    Ok(places)
 }

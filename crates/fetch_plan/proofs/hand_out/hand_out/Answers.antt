@@ -4,27 +4,19 @@ use Rattle.offer_table.specs.Groups.{groups_of, set_cmp}
 use Rattle.offer_table.proofs.Partition.{are_groups}
 use Rattle.fetch_plan.specs.Groups.{AreSets}
 use Rattle.fetch_plan.proofs.Decks.{handing_none, place_inside, place_left, handing_step, all_handed_out}
-use Rattle.fetch_plan.proofs.Hands.{sets_are, sets_there}
+use Rattle.fetch_plan.proofs.Hands.{groups_in_order, sets_there}
 use Rattle.fetch_plan.proofs.hand_out.hand_out.Goals as goal
 
-pub places_of-requires-clause-ordered : goal.places_of-requires-clause-ordered
-places_of-requires-clause-ordered c =
-    subst (IsStrictlySortedBy set_cmp) (sym (c.deref.ensures.value ∙ sets_are (groups_of c.args.table.now.offers) c.args.groups.now c.in_ok-sets_of.field-0.items c.requires.tabled c.in_ok-sets_of.ensures))
-    (are_groups c.args.table.now.offers c.requires.table.offers_ok).ordered
+pub of-requires : goal.of-requires
+of-requires c = groups_in_order c.args.table.now.offers c.args.groups.now c.requires.table.offers_ok c.requires.tabled
 
-pub places_of-requires-clause-there : goal.places_of-requires-clause-there
-places_of-requires-clause-there c =
-    sets_there c.args.table.now.offers c.args.groups.now c.deref.result.now c.requires.table.offers_ok c.requires.tabled (subst (AreSets c.args.groups.now) (sym c.deref.ensures.value) c.in_ok-sets_of.ensures)
+pub all-requires : goal.all-requires
+all-requires c = sets_there c.args.table.now.offers c.args.groups.now c.in_ok-of.field-0 c.requires.table.offers_ok c.requires.tabled c.in_ok-of.ensures
 
 pub loop-offer-init : goal.loop-offer-init
 loop-offer-init c =
-    handing_none _ _ _ _ _ _ (record {
-      offers_ok = c.requires.table.offers_ok;
-      tabled = c.requires.tabled;
-      sets = c.deref.result.now;
-      sets_ok = subst (AreSets c.args.groups.now) (sym c.deref.ensures.value) c.in_ok-sets_of.ensures;
-      places_ok = c.in_ok-places.ensures;
-    }) c.in_ok-gives.ensures.items c.walk-rest.ensures.value c.in_ok-deck.ensures
+    handing_none _ _ _ _ _ _ (record { offers_ok = c.requires.table.offers_ok; tabled = c.requires.tabled; sets = c.in_ok-of.field-0; sets_ok = c.in_ok-of.ensures; places_ok = c.in_ok-places.ensures })
+    c.in_ok-gives.ensures.items c.walk-rest.ensures.value c.in_ok-deck.ensures
 
 pub deal-relay-requires-clause-place : goal.deal-relay-requires-clause-place
 deal-relay-requires-clause-place c =
