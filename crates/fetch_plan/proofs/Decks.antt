@@ -20,9 +20,9 @@ use Rattle.sharing.specs.Offers.{IsOffers}
 use Rattle.offer_table.specs.Groups.{groups_of}
 use Rattle.fetch_plan.specs.Shares.{Share, gives_of, offers_of}
 use Rattle.fetch_plan.specs.Groups.{AreSets, AreTabled}
-use Rattle.fetch_plan.specs.Places.{ArePlaces}
+use Rattle.fetch_plan.specs.Places.{IsPlace}
 use Rattle.fetch_plan.specs.Handed.{AreHandedOut}
-use Rattle.fetch_plan.proofs.Hands.{Offers, one_taken, groups_in_order, Dealing, dealing_none, dealing_step, IsNextGroup, next_group, all_handed}
+use Rattle.fetch_plan.proofs.Hands.{Offers, one_taken, groups_in_order, Dealing, dealing_none, dealing_step, set_there, IsNextGroup, next_group, all_handed}
 
 -- how often a relay is in a list
 times_first : (x : ℕ) (xs : List ℕ) (r : ℕ) → times (x ∷ xs) r ≡ cond (x == r) 1 0 + times xs r
@@ -217,66 +217,64 @@ module _ (groups : List Group) (deck : List (List ℕ)) (h : AreLeft groups deck
 relay_left : (groups : List Group) (deck : List (List ℕ)) (place : ℕ) → AreLeft groups deck → place < length groups → 0 < total groups place → 0 < length (get_or deck place [])
 relay_left groups deck place h lt some = omega (arith, some, h.enough place lt)
 
--- the offers with their groups, and the places of these
-pub record ArePlaced (offers : Offers) (groups : List Group) (places : List ℕ) : Type 0 where
+-- the offers in front of the rest are handed out
+pub record Handing (offers : Offers) (groups : List Group) (gives : List (Id × ℕ)) (rest : Offers) (deck : List (List ℕ)) : Type 0 where
   pub offers_ok : IsOffers offers
   pub tabled : AreTabled (groups_of offers) groups
-  pub sets : List (List ℕ)
-  pub sets_ok : AreSets groups sets
-  pub places_ok : ArePlaces sets offers places
-
--- the offers in front of the rest are handed out
-pub record Handing (offers : Offers) (groups : List Group) (places : List ℕ) (gives : List (Id × ℕ)) (rest : Offers) (deck : List (List ℕ)) : Type 0 where
-  pub placed : ArePlaced offers groups places
   pub shares : List Share
   pub gives_ok : gives_of shares ≡ gives
   pub left : List Group
   pub dealing : Dealing offers groups left shares rest
   pub deck_ok : AreLeft left deck
 
-pub handing_none : (offers : Offers) (groups : List Group) (places : List ℕ) (gives : List (Id × ℕ)) (rest : Offers) (deck : List (List ℕ)) → ArePlaced offers groups places → gives ≡ [] → rest ≡ offers → AreLeft groups deck → Handing offers groups places gives rest deck
-handing_none offers groups places gives rest deck placed none all left = record {
-  placed = placed;
+pub handing_none : (offers : Offers) (groups : List Group) (gives : List (Id × ℕ)) (rest : Offers) (deck : List (List ℕ)) → IsOffers offers → AreTabled (groups_of offers) groups → gives ≡ [] → rest ≡ offers → AreLeft groups deck → Handing offers groups gives rest deck
+handing_none offers groups gives rest deck ok same none all left = record {
+  offers_ok = ok;
+  tabled = same;
   shares = [];
   gives_ok = sym none;
   left = groups;
-  dealing = subst (Dealing offers groups groups []) (sym all) (dealing_none offers groups placed.offers_ok placed.tabled);
+  dealing = subst (Dealing offers groups groups []) (sym all) (dealing_none offers groups ok same);
   deck_ok = left;
 }
 
-pub all_handed_out : (offers : Offers) (groups : List Group) (places : List ℕ) (gives : List (Id × ℕ)) (rest : Offers) (deck : List (List ℕ)) → Handing offers groups places gives rest deck → rest ≡ [] → AreHandedOut groups offers gives
-all_handed_out offers groups places gives rest deck h end = record {
+pub all_handed_out : (offers : Offers) (groups : List Group) (gives : List (Id × ℕ)) (rest : Offers) (deck : List (List ℕ)) → Handing offers groups gives rest deck → rest ≡ [] → AreHandedOut groups offers gives
+all_handed_out offers groups gives rest deck h end = record {
   shares = h.shares;
   offers_ok = sym (append-nil _) ∙ ap (λ os. offers_of h.shares ++ os) (sym end) ∙ h.dealing.whole;
   gives_ok = h.gives_ok;
   handed = all_handed offers groups h.left h.shares rest h.dealing end;
 }
 
--- the next offer, and its group's place
-module _ (offers : Offers) (groups : List Group) (places : List ℕ) (gives : List (Id × ℕ)) (rest : Offers) (deck : List (List ℕ)) (h : Handing offers groups places gives rest deck)
-    (o : Id × List ℕ) (others : Offers) (first : rest ≡ o ∷ others) (n place : ℕ) (long : n ≡ length gives) (read : place ≡ get_or places n place) where
+-- the next offer
+module _ (offers : Offers) (groups : List Group) (gives : List (Id × ℕ)) (rest : Offers) (deck : List (List ℕ)) (h : Handing offers groups gives rest deck)
+    (o : Id × List ℕ) (others : Offers) (first : rest ≡ o ∷ others) (sets : List (List ℕ)) (are : AreSets groups sets) where
   dealing : Dealing offers groups h.left h.shares (o ∷ others)
   dealing = subst (Dealing offers groups h.left h.shares) first h.dealing
 
-  next : IsNextGroup groups h.left o place
-  next =
-      let same : length gives ≡ length h.shares = ap {B = ℕ} length (sym h.gives_ok) ∙ length-map h.shares (λ (s : Share). (s.id, s.relay)) in
-      next_group offers groups h.left h.shares o others h.placed.sets places place h.placed.offers_ok h.placed.tabled h.placed.sets_ok h.placed.places_ok dealing (read ∙ ap (λ i. get_or places i place) (long ∙ same))
+  pub place_there : (k : ℕ) × IsPlace sets o.1 k
+  place_there = set_there offers groups h.left h.shares o others sets are dealing
 
-  pub place_inside : place < length deck
-  place_inside = omega (arith, next.inside, h.deck_ok.long)
+  -- and its group's place
+  module _ (place : ℕ) (at : IsPlace sets o.1 place) where
+    next : IsNextGroup groups h.left o place
+    next = next_group offers groups h.left h.shares o others sets place h.offers_ok h.tabled are dealing at
 
-  pub place_left : 0 < length (get_or deck place [])
-  place_left = relay_left h.left deck place h.deck_ok next.inside next.some
+    pub place_inside : place < length deck
+    place_inside = omega (arith, next.inside, h.deck_ok.long)
 
-  pub handing_step : (relay : ℕ) (after : List (List ℕ)) → get_or deck place [] ≡ relay ∷ get_or after place [] → ((k : ℕ) → k ≢ place → get_or after k [] ≡ get_or deck k []) → length after ≡ length deck → Handing offers groups places (gives ++ (o.0, relay) ∷ []) others after
-  handing_step relay after is same kept = record {
-    placed = h.placed;
-    shares = h.shares ++ record { id = o.0; relays = o.1; relay = relay } ∷ [];
-    gives_ok = map-append (λ (s : Share). (s.id, s.relay)) h.shares (record { id = o.0; relays = o.1; relay = relay } ∷ []) ∙ ap (λ gs. gs ++ (o.0, relay) ∷ []) h.gives_ok;
-    left = fewer h.left deck h.deck_ok place next.inside next.some relay after is same kept;
-    dealing = dealing_step offers groups h.left h.shares o others place (groups_in_order offers groups h.placed.offers_ok h.placed.tabled) dealing next.within next.found relay
-        (fewer h.left deck h.deck_ok place next.inside next.some relay after is same kept)
-        (dealt h.left deck h.deck_ok place next.inside next.some relay after is same kept);
-    deck_ok = still_left h.left deck h.deck_ok place next.inside next.some relay after is same kept;
-  }
+    pub place_left : 0 < length (get_or deck place [])
+    place_left = relay_left h.left deck place h.deck_ok next.inside next.some
+
+    pub handing_step : (relay : ℕ) (after : List (List ℕ)) → get_or deck place [] ≡ relay ∷ get_or after place [] → ((k : ℕ) → k ≢ place → get_or after k [] ≡ get_or deck k []) → length after ≡ length deck → Handing offers groups (gives ++ (o.0, relay) ∷ []) others after
+    handing_step relay after is same kept = record {
+      offers_ok = h.offers_ok;
+      tabled = h.tabled;
+      shares = h.shares ++ record { id = o.0; relays = o.1; relay = relay } ∷ [];
+      gives_ok = map-append (λ (s : Share). (s.id, s.relay)) h.shares (record { id = o.0; relays = o.1; relay = relay } ∷ []) ∙ ap (λ gs. gs ++ (o.0, relay) ∷ []) h.gives_ok;
+      left = fewer h.left deck h.deck_ok place next.inside next.some relay after is same kept;
+      dealing = dealing_step offers groups h.left h.shares o others place (groups_in_order offers groups h.offers_ok h.tabled) dealing next.within next.found relay
+          (fewer h.left deck h.deck_ok place next.inside next.some relay after is same kept)
+          (dealt h.left deck h.deck_ok place next.inside next.some relay after is same kept);
+      deck_ok = still_left h.left deck h.deck_ok place next.inside next.some relay after is same kept;
+    }

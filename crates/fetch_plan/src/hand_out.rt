@@ -24,12 +24,12 @@ pub(crate) fn hand_out(
     requires table { IsTable table.now }
     ensures { IfOk result (λ gives. AreHandedOut groups.now table.now.offers gives.items) }
 {
-    let places = Places::of(alloc, groups)?.all(alloc, table)?;
+    let places = Places::of(alloc, groups)?;
     let mut rest = table.walk();
     let mut deck = Deck::of(alloc, groups, rest.most_left())?;
     let mut gives = Vec::with_capacity(alloc, rest.most_left())?;
     while let Some((offer, others)) = rest.split_first() {
-        let relay = deck.deal(places[gives.len()]);
+        let relay = deck.deal(places.find(offer.1));
         gives.push((offer.0, relay))?;
         rest = others;
     }

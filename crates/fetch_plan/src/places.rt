@@ -1,13 +1,12 @@
 //! Where the relays of offers stand among the sets of groups.
 
 ghost use Rattle.std.specs.Prelude.{◌≡◌, ◌≤◌, ◌<◌, ℕ, IfOk};
-ghost use Rattle.std.specs.List.{All};
 ghost use Rattle.fetch_plan.specs.Groups.{AreSets, AreOrdered};
-ghost use Rattle.fetch_plan.specs.Places.{IsPlace, ArePlaces, AreInOrder};
+ghost use Rattle.fetch_plan.specs.Places.{IsPlace, AreInOrder};
 
 use crate::groups::Group;
 use crate::levels::sets_of;
-use offer_table::{OfferTable, RelaySet};
+use offer_table::RelaySet;
 use std::alloc::{AllocError, Global};
 use std::marker::Model;
 
@@ -59,7 +58,7 @@ impl Places {
     }
 
     /// Where a set stands.
-    fn find(&self, relays: RelaySet) -> usize
+    pub(crate) fn find(&self, relays: RelaySet) -> usize
         requires { (k : ℕ) × IsPlace self.now relays k }
         ensures { IsPlace self.now relays result }
     {
@@ -71,21 +70,6 @@ impl Places {
             }
         }
         place_of(&self.sets, relays)
-    }
-
-    /// Where the relays of each offer stand. All are looked up before any is used, so that the processor needn't wait
-    /// for what it reads for one id before it begins with the next.
-    pub(crate) fn all(&self, alloc: Global, table: &OfferTable) -> Result<Vec<usize>, AllocError>
-        requires { All (λ o. (k : ℕ) × IsPlace self.now o.1 k) table.now.offers }
-        ensures { IfOk result (λ places. ArePlaces self.now table.now.offers places.items) }
-    {
-        let mut rest = table.walk();
-        let mut places = Vec::with_capacity(alloc, rest.most_left())?;
-        while let Some((offer, others)) = rest.split_first() {
-            places.push(self.find(offer.1))?;
-            rest = others;
-        }
-        Ok(places)
     }
 }
 

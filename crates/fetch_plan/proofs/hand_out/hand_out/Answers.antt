@@ -1,35 +1,26 @@
-use Rattle.std.proofs.Common.{sym, ◌∙◌, subst, arith}
-use Rattle.std.specs.List.Sorted.{IsStrictlySortedBy}
-use Rattle.offer_table.specs.Groups.{groups_of, set_cmp}
-use Rattle.offer_table.proofs.Partition.{are_groups}
-use Rattle.fetch_plan.specs.Groups.{AreSets}
-use Rattle.fetch_plan.proofs.Decks.{handing_none, place_inside, place_left, handing_step, all_handed_out}
-use Rattle.fetch_plan.proofs.Hands.{groups_in_order, sets_there}
+use Rattle.fetch_plan.proofs.Decks.{handing_none, place_there, place_inside, place_left, handing_step, all_handed_out}
+use Rattle.fetch_plan.proofs.Hands.{groups_in_order}
 use Rattle.fetch_plan.proofs.hand_out.hand_out.Goals as goal
 
 pub of-requires : goal.of-requires
 of-requires c = groups_in_order c.args.table.now.offers c.args.groups.now c.requires.table.offers_ok c.requires.tabled
 
-pub all-requires : goal.all-requires
-all-requires c = sets_there c.args.table.now.offers c.args.groups.now c.in_ok-of.field-0 c.requires.table.offers_ok c.requires.tabled c.in_ok-of.ensures
-
 pub loop-offer-init : goal.loop-offer-init
-loop-offer-init c =
-    handing_none _ _ _ _ _ _ (record { offers_ok = c.requires.table.offers_ok; tabled = c.requires.tabled; sets = c.in_ok-of.field-0; sets_ok = c.in_ok-of.ensures; places_ok = c.in_ok-places.ensures })
-    c.in_ok-gives.ensures.items c.walk-rest.ensures.value c.in_ok-deck.ensures
+loop-offer-init c = handing_none _ _ _ _ _ c.requires.table.offers_ok c.requires.tabled c.in_ok-gives.ensures.items c.walk-rest.ensures.value c.in_ok-deck.ensures
+
+pub find-requires : goal.find-requires
+find-requires c = place_there _ _ _ _ _ c.loop-offer.invariant _ _ c.in-Some.ensures _ c.in_ok-places.ensures
 
 pub deal-relay-requires-clause-place : goal.deal-relay-requires-clause-place
-deal-relay-requires-clause-place c =
-    place_inside _ _ _ _ _ _ c.loop-offer.invariant _ _ c.in-Some.ensures c.len.result c.index.result.now (omega (arith, c.len.ensures)) c.index.ensures
+deal-relay-requires-clause-place c = place_inside _ _ _ _ _ c.loop-offer.invariant _ _ c.in-Some.ensures _ c.in_ok-places.ensures c.find.result c.find.ensures
 
 pub deal-relay-requires-clause-some : goal.deal-relay-requires-clause-some
-deal-relay-requires-clause-some c =
-    place_left _ _ _ _ _ _ c.loop-offer.invariant _ _ c.in-Some.ensures c.len.result c.index.result.now (omega (arith, c.len.ensures)) c.index.ensures
+deal-relay-requires-clause-some c = place_left _ _ _ _ _ c.loop-offer.invariant _ _ c.in-Some.ensures _ c.in_ok-places.ensures c.find.result c.find.ensures
 
 pub loop-offer-preserved : goal.loop-offer-preserved
 loop-offer-preserved c =
     rw c.in_ok-push.ensures.items
-    (handing_step _ _ _ _ _ _ c.loop-offer.invariant _ _ c.in-Some.ensures c.len.result c.index.result.now (omega (arith, c.len.ensures)) c.index.ensures c.deal-relay.result c.deal-relay.new.self c.deal-relay.ensures.next c.deal-relay.ensures.others c.deal-relay.ensures.long)
+    (handing_step _ _ _ _ _ c.loop-offer.invariant _ _ c.in-Some.ensures _ c.in_ok-places.ensures c.find.result c.find.ensures c.deal-relay.result c.deal-relay.new.self c.deal-relay.ensures.next c.deal-relay.ensures.others c.deal-relay.ensures.long)
 
 pub returns : goal.returns
-returns c = all_handed_out _ _ _ _ _ _ c.loop-offer.invariant c.in_default.ensures
+returns c = all_handed_out _ _ _ _ _ c.loop-offer.invariant c.in_default.ensures

@@ -3,7 +3,7 @@ use Rattle.fetch_plan.proofs.Decks.{Handing}
 use Rattle.fetch_plan.proofs.hand_out.hand_out.Given as goal
 
 abbrev pub invariant-loop-offer : goal.invariant-loop-offer
-invariant-loop-offer l = Handing l.table.offers l.groups l.places.items l.gives.items l.rest l.deck
+invariant-loop-offer l = Handing l.table.offers l.groups l.gives.items l.rest l.deck
 
 abbrev pub decreases-loop-offer : goal.decreases-loop-offer
 decreases-loop-offer l = length l.rest
