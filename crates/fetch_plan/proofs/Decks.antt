@@ -12,7 +12,8 @@ use Rattle.fetch_plan.specs.declared.groups.Group.{Group}
 use Rattle.fetch_plan.specs.Counts.{times, one_at, IsSpread}
 use Rattle.fetch_plan.specs.Groups.{amount, shared_by, total, no_group}
 use Rattle.fetch_plan.specs.Handed.{IsTaken}
-use Rattle.fetch_plan.specs.Deck.{deck_of, AreLeft}
+use Rattle.fetch_plan.specs.declared.places.Hand.{Hand}
+use Rattle.fetch_plan.specs.Deck.{deck_of, next_in, AreLeft}
 use Rattle.fetch_plan.proofs.Counted.{one_get, one_sum}
 use Rattle.fetch_plan.proofs.Gives.{each_more}
 use Rattle.neg_codec.specs.declared.Id.{Id}
@@ -104,6 +105,16 @@ laid_more groups g next relays after h s =
           k fits;
     }
 
+-- the relays of one group more
+pub sets_more : (groups : List Group) (g : Group) (sets : List (List ℕ)) → AreSets groups sets → AreSets (groups ++ g ∷ []) (sets ++ g.relays ∷ [])
+unfolding shared_by
+sets_more groups g sets h = record {
+  long = omega (arith, h.long, length_push sets g.relays, length_push groups g);
+  relays = each_more groups g (λ x k. get_or (sets ++ g.relays ∷ []) k [] ≡ x.relays)
+      (λ k lt. get_or-append sets (g.relays ∷ []) [] k (omega (arith, lt, h.long)) ∙ h.relays k lt)
+      (get_or_push sets g.relays [] (length groups) h.long);
+}
+
 -- the deck of such a list
 pub at_deck : (next relays : List ℕ) (k : ℕ) → k < length next → get_or (deck_of next relays) k [] ≡ drop (get_or next k 0) relays
 at_deck next relays k lt = get_or-map (λ at. drop at relays) next k 0 [] lt
@@ -116,6 +127,15 @@ all_laid groups next relays h =
       enough = λ k lt. omega (arith, h.within k lt, ap {B = ℕ} length (at k lt), length-drop (get_or next k 0) relays);
       counted = λ k r lt. ap (λ xs. times (take (total groups k) xs) r) (at k lt) ∙ h.counted k r lt;
     }
+
+-- the next relay of a hand is there
+pub next_inside : (hands : List Hand) (relays : List ℕ) (left : List (List ℕ)) (place : ℕ) (hand : Hand) → deck_of (next_in hands) relays ≡ left → place < length left → 0 < length (get_or left place []) → hand ≡ get_or hands place hand → hand.next < length relays
+next_inside hands relays left place hand view within some is =
+    let next : List ℕ = next_in hands in
+    let lt : place < length next = omega (arith, within, ap {B = ℕ} length view, length-map next (λ at. drop at relays)) in
+    let at : get_or next place 0 ≡ hand.next = get_or-map (λ (h : Hand). h.next) hands place hand 0 (omega (arith, lt, length-map hands (λ (h : Hand). h.next))) ∙ ap (λ (h : Hand). h.next) (sym is) in
+    let before : get_or left place [] ≡ drop hand.next relays = ap (λ d. get_or d place []) (sym view) ∙ at_deck next relays place lt ∙ ap (λ n. drop n relays) at in
+    omega (arith, some, ap {B = ℕ} length before, length-drop hand.next relays)
 
 -- the next relay of one group is dealt
 module _ (next relays : List ℕ) (place : ℕ) (lt : place < length next) where

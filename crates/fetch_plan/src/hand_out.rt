@@ -8,7 +8,6 @@ ghost use Rattle.fetch_plan.specs.Handed.{AreHandedOut};
 
 use crate::deck::Deck;
 use crate::groups::Group;
-use crate::places::Places;
 use neg_codec::Id;
 use offer_table::OfferTable;
 use std::alloc::{AllocError, Global};
@@ -24,12 +23,12 @@ pub(crate) fn hand_out(
     requires table { IsTable table.now }
     ensures { IfOk result (λ gives. AreHandedOut groups.now table.now.offers gives.items) }
 {
-    let places = Places::of(alloc, groups)?;
     let mut rest = table.walk();
     let mut deck = Deck::of(alloc, groups, rest.most_left())?;
     let mut gives = Vec::with_capacity(alloc, rest.most_left())?;
     while let Some((offer, others)) = rest.split_first() {
-        let relay = deck.deal(places.find(offer.1));
+        let place = deck.place(offer.1);
+        let relay = deck.deal(place);
         gives.push((offer.0, relay))?;
         rest = others;
     }

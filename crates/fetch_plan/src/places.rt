@@ -1,19 +1,16 @@
-//! Where the relays of offers stand among the sets of groups.
+//! Where the relays of offers stand among those of groups.
 
-ghost use Rattle.std.specs.Prelude.{◌≡◌, ◌≤◌, ◌<◌, ℕ, IfOk};
-ghost use Rattle.fetch_plan.specs.Groups.{AreSets, AreOrdered};
-ghost use Rattle.fetch_plan.specs.Places.{IsPlace, AreInOrder};
+ghost use Rattle.std.specs.Prelude.{◌≡◌, ◌≤◌, ◌<◌, ℕ};
+ghost use Rattle.fetch_plan.specs.Deck.{sets_in};
+ghost use Rattle.fetch_plan.specs.Places.{IsNumbered, IsPlace, AreInOrder};
 
-use crate::groups::Group;
-use crate::levels::sets_of;
 use offer_table::RelaySet;
 use std::alloc::{AllocError, Global};
-use std::marker::Model;
 
 /// One more than the greatest number of a set.
 const BASE: u128 = 1 << 64;
 
-/// How many slots there are for each set, and how many at least: so many that most sets have one of their own.
+/// How many slots there are for each hand, and how many at least: so many that most hands have one of their own.
 const ROOM: usize = 4;
 
 const LEAST: usize = 4_096;
@@ -21,56 +18,23 @@ const LEAST: usize = 4_096;
 /// 2^64 over the golden ratio, an odd number: its multiples spread over all numbers below 2^64.
 const MIXER: u64 = 0x9e37_79b9_7f4a_7c15;
 
-/// Sets in the order of their numbers, and where to look for them first.
-#[derive(Drop)]
-pub(crate) struct Places {
-    sets: Vec<RelaySet>,
-    /// For each slot the place of a set that has it. Another set may have it too.
-    guesses: Vec<u32>,
+/// The relays of a group, and where the next relay for its ids stands.
+#[derive(Clone, Copy)]
+pub(crate) struct Hand {
+    pub relays: RelaySet,
+    pub next: usize,
 }
 
-impl Model for Places {
-    ghost use Rattle.std.specs.Prelude.{List, ℕ};
-    ghost use Rattle.fetch_plan.specs.Places.{AreInOrder};
-
-    ghost Value = { List (List ℕ) };
-
-    ghost view = { λ p. p.sets.items };
-
-    ghost invariant = { λ p. AreInOrder p.sets.items };
-}
-
-impl Places {
-    /// The places of groups.
-    pub(crate) fn of(alloc: Global, groups: &[Group]) -> Result<Places, AllocError>
-        requires { AreOrdered groups.now }
-        ensures { IfOk result (AreSets groups.now) }
-    {
-        let sets = sets_of(alloc, groups)?;
-        let mut guesses = vec![in alloc; 0u32; sets.len().saturating_mul(ROOM).max(LEAST)]?;
-        for (place, set) in sets.iter().enumerate() {
-            let slot = slot_of(set.number(), guesses.len());
-            if let Some(guess) = guesses.get_mut(slot) {
-                *guess = u32::try_from(place).unwrap_or(0);
-            }
+/// For each slot the place of a hand that has it. Another hand may have it too.
+pub(crate) fn guesses_of(alloc: Global, hands: &[Hand]) -> Result<Vec<u32>, AllocError> {
+    let mut guesses = vec![in alloc; 0u32; hands.len().saturating_mul(ROOM).max(LEAST)]?;
+    for (place, hand) in hands.iter().enumerate() {
+        let slot = slot_of(hand.relays.number(), guesses.len());
+        if let Some(guess) = guesses.get_mut(slot) {
+            *guess = u32::try_from(place).unwrap_or(0);
         }
-        Ok(Places { sets, guesses })
     }
-
-    /// Where a set stands.
-    pub(crate) fn find(&self, relays: RelaySet) -> usize
-        requires { (k : ℕ) × IsPlace self.now relays k }
-        ensures { IsPlace self.now relays result }
-    {
-        let number = relays.number();
-        if let Some(guess) = self.guesses.get(slot_of(number, self.guesses.len())) {
-            let place = *guess as usize;
-            if place < self.sets.len() && self.sets[place].number() == number {
-                return place;
-            }
-        }
-        place_of(&self.sets, relays)
-    }
+    Ok(guesses)
 }
 
 /// The slot of a number among so many.
@@ -79,18 +43,33 @@ fn slot_of(number: u64, slots: usize) -> usize {
     (mixed.wrapping_mul(slots as u128) / BASE) as usize
 }
 
-/// Where a set stands among sets in the order of their numbers. Each step halves the sets that are left.
-fn place_of(sets: &[RelaySet], relays: RelaySet) -> usize
-    requires ordered { AreInOrder sets.now }
-    requires there { (k : ℕ) × IsPlace sets.now relays k }
-    ensures { IsPlace sets.now relays result }
+/// Where these relays stand: as guessed, or else they are searched for.
+pub(crate) fn place_of(hands: &[Hand], guesses: &[u32], relays: RelaySet) -> usize
+    requires ordered { AreInOrder (sets_in hands.now) }
+    requires there { (k : ℕ) × IsPlace (sets_in hands.now) relays k }
+    ensures { IsPlace (sets_in hands.now) relays result }
 {
     let number = relays.number();
+    if let Some(guess) = guesses.get(slot_of(number, guesses.len())) {
+        let place = *guess as usize;
+        if place < hands.len() && hands[place].relays.number() == number {
+            return place;
+        }
+    }
+    search(hands, number)
+}
+
+/// Where the relays with this number stand. Each step halves the hands that are left.
+fn search(hands: &[Hand], number: u64) -> usize
+    requires ordered { AreInOrder (sets_in hands.now) }
+    requires there { (k : ℕ) × IsNumbered (sets_in hands.now) number k }
+    ensures { IsNumbered (sets_in hands.now) number result }
+{
     let mut place = 0;
-    let mut left = sets.len();
+    let mut left = hands.len();
     while left > 1 {
         let half = left / 2;
-        if sets[place + half].number() <= number {
+        if hands[place + half].relays.number() <= number {
             place += half;
         }
         left -= half;
