@@ -114,6 +114,9 @@ impl Counts {
 fn push_times(relays: &mut Vec<u16>, relay: u16, times: u32) -> Result<(), AllocError>
     ensures { OnOk result (relays.new.items ≡ relays.old.items ++ replicate times relay) }
 {
+    if times == 0 {
+        return Ok(());
+    }
     relays.resize(relays.len().saturating_add(times as usize), relay)
 }
 
