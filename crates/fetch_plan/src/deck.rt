@@ -34,15 +34,16 @@ impl Model for Deck {
 }
 
 impl Deck {
-    /// The relays that the groups count, with room for about so many.
-    pub(crate) fn of(alloc: Global, groups: &[Group], room: usize) -> Result<Deck, AllocError>
-        requires { AreOrdered groups.now }
-        ensures sets { IfOk result (λ deck. AreSets groups.now deck.sets) }
-        ensures left { IfOk result (λ deck. AreLeft groups.now deck.left) }
+    /// The relays that the groups count, with room for about so many. The groups themselves are dropped, so that their
+    /// memory is used again.
+    pub(crate) fn of(alloc: Global, groups: Vec<Group>, room: usize) -> Result<Deck, AllocError>
+        requires { AreOrdered groups.items }
+        ensures sets { IfOk result (λ deck. AreSets groups.items deck.sets) }
+        ensures left { IfOk result (λ deck. AreLeft groups.items deck.left) }
     {
         let mut hands = Vec::with_capacity(alloc, groups.len())?;
         let mut relays = Vec::with_capacity(alloc, room)?;
-        for group in groups {
+        for group in &groups {
             hands.push(Hand {
                 relays: group.relays,
                 next: relays.len(),

@@ -17,11 +17,11 @@ use std::alloc::{AllocError, Global};
 pub(crate) fn hand_out(
     alloc: Global,
     table: &OfferTable,
-    groups: &[Group],
+    groups: Vec<Group>,
 ) -> Result<Vec<(Id, u16)>, AllocError>
-    requires tabled { AreTabled (groups_of table.now.offers) groups.now }
+    requires tabled { AreTabled (groups_of table.now.offers) groups.items }
     requires table { IsTable table.now }
-    ensures { IfOk result (λ gives. AreHandedOut groups.now table.now.offers gives.items) }
+    ensures { IfOk result (λ gives. AreHandedOut groups.items table.now.offers gives.items) }
 {
     let mut rest = table.walk();
     let mut deck = Deck::of(alloc, groups, rest.most_left())?;

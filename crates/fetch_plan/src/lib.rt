@@ -49,16 +49,16 @@ fn set_of(marked: &[bool; SLOTS]) -> RelaySet
 fn share_groups(
     alloc: Global,
     table: &OfferTable,
-    groups: &mut [Group],
+    mut groups: Vec<Group>,
     loads: &mut [u64; SLOTS],
 ) -> Result<(Vec<(Id, u16)>, [bool; SLOTS]), AllocError>
-    requires given { AreGiven groups.old }
-    requires tabled { AreTabled (groups_of table.now.offers) groups.old }
-    requires loads { AreLoadsOf groups.old loads.old }
+    requires given { AreGiven groups.items }
+    requires tabled { AreTabled (groups_of table.now.offers) groups.items }
+    requires loads { AreLoadsOf groups.items loads.old }
     requires table { IsTable table.now }
     ensures { IfOk result (λ out. AreSharedOut table.now.offers out.0.items loads.new out.1) }
 {
-    let marked = settle(alloc, groups, loads)?;
+    let marked = settle(alloc, &mut groups, loads)?;
     let gives = hand_out(alloc, table, groups)?;
     Ok((gives, marked))
 }
@@ -73,8 +73,8 @@ fn share_out(
     ensures shared { IfOk result (λ out. AreSharedOut table.now.offers out.0.items loads.new out.1) }
     ensures table { IsTable table.now }
 {
-    let mut groups = give_all(alloc, table, loads)?;
-    share_groups(alloc, table, &mut groups, loads)
+    let groups = give_all(alloc, table, loads)?;
+    share_groups(alloc, table, groups, loads)
 }
 
 /// Shares the ids out, so that the busiest relay has as few as possible, by chains of moves from a busiest

@@ -5,7 +5,7 @@ use Rattle.fetch_plan.proofs.Hands.{groups_in_order}
 use Rattle.fetch_plan.proofs.hand_out.hand_out.Goals as goal
 
 pub of-requires : goal.of-requires
-of-requires c = groups_in_order c.args.table.now.offers c.args.groups.now c.requires.table.offers_ok c.requires.tabled
+of-requires c = groups_in_order c.args.table.now.offers c.args.groups.items c.requires.table.offers_ok c.requires.tabled
 
 pub loop-offer-init : goal.loop-offer-init
 loop-offer-init c = record {
@@ -25,7 +25,7 @@ deal-relay-requires-clause-some c = place_left _ _ _ _ _ c.loop-offer.invariant.
 pub loop-offer-preserved : goal.loop-offer-preserved
 loop-offer-preserved c =
     rw c.in_ok-push.ensures.items (record {
-      sets = subst (AreSets c.args.groups.now) (sym c.deal-relay.ensures.sets) c.loop-offer.invariant.sets;
+      sets = subst (AreSets c.args.groups.items) (sym c.deal-relay.ensures.sets) c.loop-offer.invariant.sets;
       handing = handing_step _ _ _ _ _ c.loop-offer.invariant.handing _ _ c.in-Some.ensures _ c.loop-offer.invariant.sets c.place-place.result c.place-place.ensures c.deal-relay.result c.deal-relay.new.self.left c.deal-relay.ensures.next c.deal-relay.ensures.others c.deal-relay.ensures.long;
     })
 

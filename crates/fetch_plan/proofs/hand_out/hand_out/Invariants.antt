@@ -5,8 +5,8 @@ use Rattle.fetch_plan.proofs.hand_out.hand_out.Given as goal
 
 abbrev pub invariant-loop-offer : goal.invariant-loop-offer
 invariant-loop-offer l = record {
-  sets : AreSets l.groups l.deck.sets;
-  handing : Handing l.table.offers l.groups l.gives.items l.rest l.deck.left;
+  sets : AreSets l.fn.groups.items l.deck.sets;
+  handing : Handing l.table.offers l.fn.groups.items l.gives.items l.rest l.deck.left;
 }
 
 abbrev pub decreases-loop-offer : goal.decreases-loop-offer

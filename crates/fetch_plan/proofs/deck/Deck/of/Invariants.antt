@@ -6,6 +6,6 @@ use Rattle.fetch_plan.proofs.deck.Deck.of.Given as goal
 
 abbrev pub invariant-loop-group : goal.invariant-loop-group
 invariant-loop-group l = record {
-  laid : AreLaid (take l.group-index l.groups) (next_in l.hands.items) l.relays.items;
-  sets : AreSets (take l.group-index l.groups) (sets_in l.hands.items);
+  laid : AreLaid (take l.group-index l.fn.groups.items) (next_in l.hands.items) l.relays.items;
+  sets : AreSets (take l.group-index l.fn.groups.items) (sets_in l.hands.items);
 }
