@@ -1,6 +1,6 @@
 //! Single ids, handed out by the counts of their groups.
 
-ghost use Rattle.std.specs.Prelude.{◌≡◌, IfOk};
+ghost use Rattle.std.specs.Prelude.{IfOk};
 ghost use Rattle.offer_table.specs.Groups.{groups_of};
 ghost use Rattle.offer_table.specs.Table.{IsTable};
 ghost use Rattle.fetch_plan.specs.Groups.{AreTabled};

@@ -1,6 +1,6 @@
 //! Where the relays of offers stand among those of groups.
 
-ghost use Rattle.std.specs.Prelude.{◌≡◌, ◌≤◌, ◌<◌, ℕ};
+ghost use Rattle.std.specs.Prelude.{◌<◌, ℕ};
 ghost use Rattle.fetch_plan.specs.Deck.{sets_in};
 ghost use Rattle.fetch_plan.specs.Places.{IsNumbered, IsPlace, AreInOrder};
 

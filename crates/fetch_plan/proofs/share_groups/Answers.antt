@@ -1,8 +1,7 @@
-use Rattle.std.proofs.Common.{◌≡◌, ◌++◌, ℕ, List, length, take, drop, sym, ◌∙◌, subst, arith}
+use Rattle.std.proofs.Common.{◌≡◌, ◌++◌, ℕ, List, length, take, drop, ◌∙◌, subst, arith}
 use Rattle.std.proofs.lemmas.List.{take-append-le, take_all}
-use Rattle.offer_table.specs.Groups.{groups_of}
 use Rattle.fetch_plan.specs.declared.groups.Group.{Group}
-use Rattle.fetch_plan.specs.Groups.{AreTabled, AreSame}
+use Rattle.fetch_plan.specs.Groups.{AreSame}
 use Rattle.fetch_plan.specs.Handed.{AreHandedOut}
 use Rattle.fetch_plan.proofs.Shared.{shared_out}
 use Rattle.fetch_plan.proofs.share_groups.Goals as goal

@@ -1,8 +1,8 @@
-use Rattle.std.proofs.Common.{◌≡◌, ◌<◌, ◌+◌, ◌∷◌, ℕ, List, [], length, drop, get_or, set, sym, ap, ◌∙◌, subst, arith}
+use Rattle.std.proofs.Common.{◌≡◌, ◌<◌, ◌+◌, ◌∷◌, ℕ, List, [], length, drop, get_or, sym, ap, ◌∙◌, subst, arith}
 use Rattle.std.proofs.lemmas.List.{length-map, length-drop, get_or-map, map-set}
 use Rattle.std.proofs.Math.Seq.{map-set_same}
 use Rattle.fetch_plan.specs.declared.places.Hand.{Hand}
-use Rattle.fetch_plan.specs.Deck.{sets_in, next_in, deck_of}
+use Rattle.fetch_plan.specs.Deck.{next_in, deck_of}
 use Rattle.fetch_plan.proofs.Trails.{get_or_any}
 use Rattle.fetch_plan.specs.Places.{AreInOrder}
 use Rattle.fetch_plan.proofs.Decks.{next_inside, at_deck, deck_first, deck_others, deck_long}
