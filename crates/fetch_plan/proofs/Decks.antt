@@ -1,10 +1,10 @@
 -- Relays for the ids of groups, side by side, and one of them dealt.
-use Rattle.std.proofs.Common.{◌≡◌, ◌≢◌, ℕ, suc, ◌+◌, ◌-◌, ◌*◌, ◌<◌, ◌≤◌, ◌==◌, false, cond, List, [], ◌∷◌, ◌++◌, length, get_or, set, take, drop, replicate, refl, sym, ap, ◌∙◌, subst, arith, inl, inr}
+use Rattle.std.proofs.Common.{◌≡◌, ◌≢◌, ℕ, suc, ◌+◌, ◌-◌, ◌*◌, ◌<◌, ◌≤◌, ◌==◌, false, cond, List, [], ◌∷◌, ◌++◌, length, get_or, set, take, drop, replicate, append-nil, refl, sym, ap, ◌∙◌, subst, arith, inl, inr}
 use Rattle.std.specs.List.{sum}
 use Rattle.std.proofs.Math.Seq.{drop-cons, take-length, drop-append_seam}
 use Rattle.std.proofs.Math.ListN.{get_or-append}
 use Rattle.std.proofs.lemmas.Bool.{cases_eq, cases_lt, eq-eqb, ne_eqb}
-use Rattle.std.proofs.lemmas.List.{length-set, length-append, length_push, length-replicate, get_or_past, get_or-take, length-take-le, get_or-set_same, get_or-set_other, get_or_push, take-append-le, drop-append-le, length-drop, length-map, get_or-map, append_assoc}
+use Rattle.std.proofs.lemmas.List.{length-set, length-append, length_push, length-replicate, get_or_past, get_or-take, length-take-le, get_or-set_same, get_or-set_other, get_or_push, take-append-le, drop-append-le, length-drop, length-map, get_or-map, map-append, append_assoc}
 use Rattle.std.proofs.lemmas.List.Folds.{sum_by-replicate}
 use Rattle.std.proofs.lemmas.List.Sums.{sum_by-set, sum_by-cons, sum_by-append, sum_by_more}
 use Rattle.sharing.specs.declared.TheConstants.{RELAYS}
@@ -12,10 +12,18 @@ use Rattle.fetch_plan.specs.declared.groups.Group.{Group}
 use Rattle.fetch_plan.specs.Counts.{times, one_at, IsSpread}
 use Rattle.fetch_plan.specs.Groups.{amount, shared_by, total, no_group}
 use Rattle.fetch_plan.specs.Handed.{IsTaken}
-use Rattle.fetch_plan.specs.Deck.{deck_of, AreLeft}
+use Rattle.fetch_plan.specs.declared.places.Hand.{Hand}
+use Rattle.fetch_plan.specs.Deck.{deck_of, next_in, AreLeft}
 use Rattle.fetch_plan.proofs.Counted.{one_get, one_sum}
 use Rattle.fetch_plan.proofs.Gives.{each_more}
-use Rattle.fetch_plan.proofs.Hands.{one_taken}
+use Rattle.neg_codec.specs.declared.Id.{Id}
+use Rattle.sharing.specs.Offers.{IsOffers}
+use Rattle.offer_table.specs.Groups.{groups_of}
+use Rattle.fetch_plan.specs.Shares.{Share, gives_of, offers_of}
+use Rattle.fetch_plan.specs.Groups.{AreSets, AreTabled}
+use Rattle.fetch_plan.specs.Places.{IsPlace}
+use Rattle.fetch_plan.specs.Handed.{AreHandedOut}
+use Rattle.fetch_plan.proofs.Hands.{Offers, one_taken, groups_in_order, Dealing, dealing_none, dealing_step, set_there, IsNextGroup, next_group, all_handed}
 
 -- how often a relay is in a list
 times_first : (x : ℕ) (xs : List ℕ) (r : ℕ) → times (x ∷ xs) r ≡ cond (x == r) 1 0 + times xs r
@@ -97,6 +105,16 @@ laid_more groups g next relays after h s =
           k fits;
     }
 
+-- the relays of one group more
+pub sets_more : (groups : List Group) (g : Group) (sets : List (List ℕ)) → AreSets groups sets → AreSets (groups ++ g ∷ []) (sets ++ g.relays ∷ [])
+unfolding shared_by
+sets_more groups g sets h = record {
+  long = omega (arith, h.long, length_push sets g.relays, length_push groups g);
+  relays = each_more groups g (λ x k. get_or (sets ++ g.relays ∷ []) k [] ≡ x.relays)
+      (λ k lt. get_or-append sets (g.relays ∷ []) [] k (omega (arith, lt, h.long)) ∙ h.relays k lt)
+      (get_or_push sets g.relays [] (length groups) h.long);
+}
+
 -- the deck of such a list
 pub at_deck : (next relays : List ℕ) (k : ℕ) → k < length next → get_or (deck_of next relays) k [] ≡ drop (get_or next k 0) relays
 at_deck next relays k lt = get_or-map (λ at. drop at relays) next k 0 [] lt
@@ -109,6 +127,15 @@ all_laid groups next relays h =
       enough = λ k lt. omega (arith, h.within k lt, ap {B = ℕ} length (at k lt), length-drop (get_or next k 0) relays);
       counted = λ k r lt. ap (λ xs. times (take (total groups k) xs) r) (at k lt) ∙ h.counted k r lt;
     }
+
+-- the next relay of a hand is there
+pub next_inside : (hands : List Hand) (relays : List ℕ) (left : List (List ℕ)) (place : ℕ) (hand : Hand) → deck_of (next_in hands) relays ≡ left → place < length left → 0 < length (get_or left place []) → hand ≡ get_or hands place hand → hand.next < length relays
+next_inside hands relays left place hand view within some is =
+    let next : List ℕ = next_in hands in
+    let lt : place < length next = omega (arith, within, ap {B = ℕ} length view, length-map next (λ at. drop at relays)) in
+    let at : get_or next place 0 ≡ hand.next = get_or-map (λ (h : Hand). h.next) hands place hand 0 (omega (arith, lt, length-map hands (λ (h : Hand). h.next))) ∙ ap (λ (h : Hand). h.next) (sym is) in
+    let before : get_or left place [] ≡ drop hand.next relays = ap (λ d. get_or d place []) (sym view) ∙ at_deck next relays place lt ∙ ap (λ n. drop n relays) at in
+    omega (arith, some, ap {B = ℕ} length before, length-drop hand.next relays)
 
 -- the next relay of one group is dealt
 module _ (next relays : List ℕ) (place : ℕ) (lt : place < length next) where
@@ -178,14 +205,14 @@ module _ (groups : List Group) (deck : List (List ℕ)) (h : AreLeft groups deck
   abbrev group : Group
   group = record { relays = shared_by groups place; given = fewer_at counts relay }
 
-  abbrev pub fewer : List Group
+  abbrev fewer : List Group
   fewer = set groups place group
 
-  pub dealt : IsTaken groups place relay fewer
+  dealt : IsTaken groups place relay fewer
   unfolding amount total
   dealt = one_taken groups place group lt refl relay (one_fewer counts relay held_within held_some) (sum_fewer counts relay held_within held_some)
 
-  pub still_left : AreLeft fewer after
+  still_left : AreLeft fewer after
   still_left =
       let fewer_left : total fewer place ≡ left = omega (arith, dealt.totals place, ap {B = ℕ} (λ b. cond b 1 0) (eq-eqb place place refl)) in
       let other : (k : ℕ) → k ≢ place → (total fewer k ≡ total groups k) × ((r : ℕ) → amount fewer k r ≡ amount groups k r) =
@@ -207,5 +234,67 @@ module _ (groups : List Group) (deck : List (List ℕ)) (h : AreLeft groups deck
       }
 
 -- a group with an id left has a relay
-pub relay_left : (groups : List Group) (deck : List (List ℕ)) (place : ℕ) → AreLeft groups deck → place < length groups → 0 < total groups place → 0 < length (get_or deck place [])
+relay_left : (groups : List Group) (deck : List (List ℕ)) (place : ℕ) → AreLeft groups deck → place < length groups → 0 < total groups place → 0 < length (get_or deck place [])
 relay_left groups deck place h lt some = omega (arith, some, h.enough place lt)
+
+-- the offers in front of the rest are handed out
+pub record Handing (offers : Offers) (groups : List Group) (gives : List (Id × ℕ)) (rest : Offers) (deck : List (List ℕ)) : Type 0 where
+  pub offers_ok : IsOffers offers
+  pub tabled : AreTabled (groups_of offers) groups
+  pub shares : List Share
+  pub gives_ok : gives_of shares ≡ gives
+  pub left : List Group
+  pub dealing : Dealing offers groups left shares rest
+  pub deck_ok : AreLeft left deck
+
+pub handing_none : (offers : Offers) (groups : List Group) (gives : List (Id × ℕ)) (rest : Offers) (deck : List (List ℕ)) → IsOffers offers → AreTabled (groups_of offers) groups → gives ≡ [] → rest ≡ offers → AreLeft groups deck → Handing offers groups gives rest deck
+handing_none offers groups gives rest deck ok same none all left = record {
+  offers_ok = ok;
+  tabled = same;
+  shares = [];
+  gives_ok = sym none;
+  left = groups;
+  dealing = subst (Dealing offers groups groups []) (sym all) (dealing_none offers groups ok same);
+  deck_ok = left;
+}
+
+pub all_handed_out : (offers : Offers) (groups : List Group) (gives : List (Id × ℕ)) (rest : Offers) (deck : List (List ℕ)) → Handing offers groups gives rest deck → rest ≡ [] → AreHandedOut groups offers gives
+all_handed_out offers groups gives rest deck h end = record {
+  shares = h.shares;
+  offers_ok = sym (append-nil _) ∙ ap (λ os. offers_of h.shares ++ os) (sym end) ∙ h.dealing.whole;
+  gives_ok = h.gives_ok;
+  handed = all_handed offers groups h.left h.shares rest h.dealing end;
+}
+
+-- the next offer
+module _ (offers : Offers) (groups : List Group) (gives : List (Id × ℕ)) (rest : Offers) (deck : List (List ℕ)) (h : Handing offers groups gives rest deck)
+    (o : Id × List ℕ) (others : Offers) (first : rest ≡ o ∷ others) (sets : List (List ℕ)) (are : AreSets groups sets) where
+  dealing : Dealing offers groups h.left h.shares (o ∷ others)
+  dealing = subst (Dealing offers groups h.left h.shares) first h.dealing
+
+  pub place_there : (k : ℕ) × IsPlace sets o.1 k
+  place_there = set_there offers groups h.left h.shares o others sets are dealing
+
+  -- and its group's place
+  module _ (place : ℕ) (at : IsPlace sets o.1 place) where
+    next : IsNextGroup groups h.left o place
+    next = next_group offers groups h.left h.shares o others sets place h.offers_ok h.tabled are dealing at
+
+    pub place_inside : place < length deck
+    place_inside = omega (arith, next.inside, h.deck_ok.long)
+
+    pub place_left : 0 < length (get_or deck place [])
+    place_left = relay_left h.left deck place h.deck_ok next.inside next.some
+
+    pub handing_step : (relay : ℕ) (after : List (List ℕ)) → get_or deck place [] ≡ relay ∷ get_or after place [] → ((k : ℕ) → k ≢ place → get_or after k [] ≡ get_or deck k []) → length after ≡ length deck → Handing offers groups (gives ++ (o.0, relay) ∷ []) others after
+    handing_step relay after is same kept = record {
+      offers_ok = h.offers_ok;
+      tabled = h.tabled;
+      shares = h.shares ++ record { id = o.0; relays = o.1; relay = relay } ∷ [];
+      gives_ok = map-append (λ (s : Share). (s.id, s.relay)) h.shares (record { id = o.0; relays = o.1; relay = relay } ∷ []) ∙ ap (λ gs. gs ++ (o.0, relay) ∷ []) h.gives_ok;
+      left = fewer h.left deck h.deck_ok place next.inside next.some relay after is same kept;
+      dealing = dealing_step offers groups h.left h.shares o others place (groups_in_order offers groups h.offers_ok h.tabled) dealing next.within next.found relay
+          (fewer h.left deck h.deck_ok place next.inside next.some relay after is same kept)
+          (dealt h.left deck h.deck_ok place next.inside next.some relay after is same kept);
+      deck_ok = still_left h.left deck h.deck_ok place next.inside next.some relay after is same kept;
+    }

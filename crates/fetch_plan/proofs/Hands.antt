@@ -1,9 +1,9 @@
 -- Single ids, handed out by the counts of their groups.
-use Rattle.std.proofs.Common.{◌≡◌, ℕ, suc, ◌+◌, ◌<◌, ◌≤◌, ◌==◌, Bool, true, false, cond, List, [], ◌∷◌, ◌++◌, length, map, get_or, set, refl, sym, ap, ◌∙◌, subst, arith, inl, inr}
+use Rattle.std.proofs.Common.{◌≡◌, ℕ, suc, ◌+◌, ◌<◌, ◌≤◌, ◌==◌, Bool, true, false, cond, List, [], ◌∷◌, ◌++◌, length, map, get_or, set, refl, sym, ap, ◌∙◌, arith, inl, inr}
 use Rattle.std.specs.List.{sum, sum_by, filter, All}
 use Rattle.std.specs.List.Sorted.{IsStrictlySortedBy}
 use Rattle.std.proofs.lemmas.Bool.{cases_lt, cases_eq, cases_Bool, eq-eqb, ne_eqb, eqb-true}
-use Rattle.std.proofs.lemmas.List.{map-append, append_assoc, length-map, length-set, get_or-map, same_lists}
+use Rattle.std.proofs.lemmas.List.{map-append, append_assoc, length-map, length-set, get_or-map}
 use Rattle.std.proofs.lemmas.List.Elements.{All-nil, All-push, All-head, All-tail, Contains-append_left, Contains-push}
 use Rattle.std.proofs.lemmas.List.Sums.{sum_by-cons, sum_by_push, get_or-le-sum_by}
 use Rattle.std.proofs.lemmas.Map.Keys.{Less-from_sorted}
@@ -16,14 +16,11 @@ use Rattle.offer_table.specs.Groups as tabled
 use Rattle.offer_table.proofs.Numbers.{same_set}
 use Rattle.offer_table.proofs.Partition.{are_groups}
 use Rattle.fetch_plan.specs.declared.groups.Group.{Group}
-use Rattle.fetch_plan.specs.declared.hand_out.Share.{Share}
-use Rattle.fetch_plan.specs.Shares.{held, offers_of}
-use Rattle.fetch_plan.specs.Groups.{amount, shared_by, total, load_of, row_relays, row_ids, AreSets, AreTabled}
+use Rattle.fetch_plan.specs.Shares.{Share, held, offers_of}
+use Rattle.fetch_plan.specs.Groups.{amount, shared_by, total, load_of, row_relays, row_ids, AreSets, AreOrdered, AreTabled}
 use Rattle.fetch_plan.specs.Handed.{IsTaken, IsCounted, HasShare, AreHanded}
-use Rattle.fetch_plan.specs.Places.{IsPlace, ArePlaces}
+use Rattle.fetch_plan.specs.Places.{IsPlace}
 use Rattle.fetch_plan.proofs.Gives.{at-le-sum}
-use Rattle.fetch_plan.proofs.Trails.{get_or_any}
-use Rattle.fetch_plan.proofs.Placing.{place_within, place_next}
 use Rattle.fetch_plan.proofs.Walks.{amount_here, amount_there, shared_after, total_here, total_there, load_after}
 
 abbrev Rows : Type 0
@@ -100,10 +97,6 @@ first_row : (rows : Rows) (k : ℕ) → k < length rows → row_relays rows k �
 unfolding row_relays
 first_row rows k lt = sym (get_or-map (λ (g : List ℕ × List Id). g.0) rows k ([], []) [] lt)
 
--- the sets of groups are in order
-abbrev pub AreOrdered : List Group → Type 0
-AreOrdered groups = (j k : ℕ) → j < k → k < length groups → bits_of (shared_by groups j) < bits_of (shared_by groups k)
-
 module _ (rows : Rows) (groups : List Group) (same : AreTabled rows groups) (ordered : IsStrictlySortedBy set_cmp (map (λ g. g.0) rows)) where
   first_of : (k : ℕ) → k < length groups → get_or (map (λ (g : List ℕ × List Id). g.0) rows) k [] ≡ shared_by groups k
   first_of k lt = sym (same.relays k lt ∙ first_row rows k (omega (arith, same.long)))
@@ -125,14 +118,6 @@ same_place groups j k h below within e =
         | inr le ↦ omega arith
       ]
     ]
-
--- the sets of the groups are those of the rows
-pub sets_are : (rows : Rows) (groups : List Group) (sets : List (List ℕ)) → AreTabled rows groups → AreSets groups sets → sets ≡ map (λ g. g.0) rows
-sets_are rows groups sets same are =
-    let long : length (map (λ (g : List ℕ × List Id). g.0) rows) ≡ length rows = length-map rows (λ (g : List ℕ × List Id). g.0) in
-    same_lists sets (map (λ (g : List ℕ × List Id). g.0) rows) (omega (arith, are.long, same.long, long)) (λ k d lt.
-    (let fits : k < length groups = omega (arith, are.long) in
-    get_or_any sets k d [] lt ∙ are.relays k fits ∙ same.relays k fits ∙ first_row rows k (omega (arith, same.long)) ∙ get_or_any (map (λ (g : List ℕ × List Id). g.0) rows) k [] d (omega (arith, same.long, long))))
 
 -- just these relays offer the ids of some group
 abbrev pub HasGroup : List Group → Id × List ℕ → Type 0
@@ -163,22 +148,11 @@ dealing_none offers groups ok same = record {
   there = λ j d lt. (let w = row_there offers (groups_of offers) (are_groups offers ok) ok.relays j d lt in let fits : w.0 < length groups = omega (arith, w.1, same.long) in (w.0, fits, same.relays w.0 fits ∙ w.2));
 }
 
--- the relays of the offers are among the sets of the groups
-pub sets_there : (offers : Offers) (groups : List Group) (sets : List (List ℕ)) → IsOffers offers → AreTabled (groups_of offers) groups → AreSets groups sets → All (λ o. (k : ℕ) × IsPlace sets o.1 k) offers
-sets_there offers groups sets ok same are i d lt =
-    let w : HasGroup groups (get_or offers i d) = (dealing_none offers groups ok same).there i d lt in
+-- the next offer's relays are among the sets of the groups
+pub set_there : (offers : Offers) (old now : List Group) (shares : List Share) (o : Id × List ℕ) (others : Offers) (sets : List (List ℕ)) → AreSets old sets → Dealing offers old now shares (o ∷ others) → (k : ℕ) × IsPlace sets o.1 k
+set_there offers old now shares o others sets are h =
+    let w : HasGroup old o = All-head (HasGroup old) o others h.there in
     (w.0, (omega (arith, are.long, w.1), ap bits_of (are.relays w.0 w.1 ∙ w.2)))
-
--- the next offer's group is at the place behind those of the shares
-pub place_here : (offers : Offers) (old now : List Group) (shares : List Share) (o : Id × List ℕ) (others : Offers) (sets : List (List ℕ)) (places : List ℕ) (place : ℕ) → AreSets old sets → ArePlaces sets offers places → Dealing offers old now shares (o ∷ others) →
-    place ≡ get_or places (length shares) place → (place < length old) × (bits_of (shared_by old place) ≡ bits_of o.1)
-place_here offers old now shares o others sets places place are all h is =
-    let long : length (offers_of shares) ≡ length shares = length-map shares (λ (s : Share). (s.id, s.relays)) in
-    let within : length shares < length places = subst (λ n. n < length places) long (place_within sets offers places all (offers_of shares) o others h.whole) in
-    let at : IsPlace sets o.1 (get_or places (length shares) 0) = subst (λ n. IsPlace sets o.1 (get_or places n 0)) long (place_next sets offers places all (offers_of shares) o others h.whole) in
-    let here : IsPlace sets o.1 place = subst (IsPlace sets o.1) (get_or_any places (length shares) 0 place within ∙ sym is) at in
-    let lt : place < length old = omega (arith, here.0, are.long) in
-    (lt, ap bits_of (sym (are.relays place lt)) ∙ here.1)
 
 -- the group at this place is that of the next offer
 module _ (offers : Offers) (old now : List Group) (shares : List Share) (o : Id × List ℕ) (others : Offers) (place : ℕ) (ordered : AreOrdered old) (h : Dealing offers old now shares (o ∷ others)) (lt : place < length old) (found : bits_of (shared_by old place) ≡ bits_of o.1) where
@@ -240,15 +214,16 @@ pub record IsNextGroup (old now : List Group) (o : Id × List ℕ) (place : ℕ)
   pub inside : place < length now
   pub some : 0 < total now place
 
-pub next_group : (offers : Offers) (old now : List Group) (shares : List Share) (o : Id × List ℕ) (others : Offers) (sets : List (List ℕ)) (places : List ℕ) (place : ℕ) → IsOffers offers → AreTabled (groups_of offers) old → AreSets old sets → ArePlaces sets offers places →
-    Dealing offers old now shares (o ∷ others) → place ≡ get_or places (length shares) place → IsNextGroup old now o place
-next_group offers old now shares o others sets places place ok same are all h is =
-    let here = place_here offers old now shares o others sets places place are all h is in
+pub next_group : (offers : Offers) (old now : List Group) (shares : List Share) (o : Id × List ℕ) (others : Offers) (sets : List (List ℕ)) (place : ℕ) → IsOffers offers → AreTabled (groups_of offers) old → AreSets old sets →
+    Dealing offers old now shares (o ∷ others) → IsPlace sets o.1 place → IsNextGroup old now o place
+next_group offers old now shares o others sets place ok same are h at =
+    let lt : place < length old = omega (arith, at.0, are.long) in
+    let found : bits_of (shared_by old place) ≡ bits_of o.1 = ap bits_of (sym (are.relays place lt)) ∙ at.1 in
     record {
-      within = here.0;
-      found = here.1;
-      inside = omega (arith, here.0, h.long);
-      some = one_left offers old now shares o others place (groups_in_order offers old ok same) h here.0 here.1;
+      within = lt;
+      found = found;
+      inside = omega (arith, lt, h.long);
+      some = one_left offers old now shares o others place (groups_in_order offers old ok same) h lt found;
     }
 
 none_loaded : (groups : List Group) (r : ℕ) → ((k : ℕ) → k < length groups → total groups k ≡ 0) → load_of groups r ≡ 0

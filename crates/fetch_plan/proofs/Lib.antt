@@ -11,4 +11,3 @@ pub mod Searched
 pub mod Counted
 pub mod Hands
 pub mod Decks
-pub mod Placing

@@ -15,8 +15,7 @@ use Rattle.std.proofs.lemmas.List.Sums.{sum_by-cons}
 use Rattle.sharing.specs.Sharing.{is_among, load, IsSharing, IsGreatest, Shows, alone, Distinct}
 use Rattle.neg_codec.specs.declared.Id.{Id}
 use Rattle.sharing.proofs.Counting.{shows_from_closed}
-use Rattle.fetch_plan.specs.declared.hand_out.Share.{Share}
-use Rattle.fetch_plan.specs.Shares.{given, held, no_share, is_marked, AreOffered, offers_of, IsClosedTest, IsSettled, gives_of}
+use Rattle.fetch_plan.specs.Shares.{Share, given, held, no_share, is_marked, AreOffered, offers_of, IsClosedTest, IsSettled, gives_of}
 use Rattle.sharing.specs.Reached.{KeepsTo, IsLeast}
 use Rattle.fetch_plan.proofs.Shared.{offered_is, given_is, none_held}
 

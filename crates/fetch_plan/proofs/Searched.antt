@@ -9,8 +9,7 @@ use Rattle.neg_codec.specs.declared.Id.{Id}
 use Rattle.sharing.specs.Offers.{id_cmp, is_id, Ascend, beside}
 use Rattle.sharing.proofs.Orders.{id_total, same_id}
 use Rattle.sharing.proofs.Looks.{found_itself}
-use Rattle.fetch_plan.specs.declared.hand_out.Share.{Share}
-use Rattle.fetch_plan.specs.Shares.{gives_of}
+use Rattle.fetch_plan.proofs.Trails.{get_or_any}
 
 abbrev pub no_give : Id × ℕ
 no_give = (record { 0 = [] }, 0)
@@ -82,15 +81,12 @@ not_found gives id low high h met =
       | inr above ↦ ap is_eq (h.above k (omega arith) lt)
     ]))
 
--- the gives of shares, read at a place
-pub share_at : (shares : List Share) (k : ℕ) (s d : Share) → k < length shares → s ≡ get_or shares k d → get_or (gives_of shares) k no_give ≡ (s.id, s.relay)
-share_at shares k s d lt e = get_or-map (λ (x : Share). (x.id, x.relay)) shares k d no_give lt ∙ ap (λ (x : Share). (x.id, x.relay)) (sym e)
-
-pub id_at_share : (shares : List Share) (k : ℕ) (s d : Share) → k < length shares → s ≡ get_or shares k d → id_at (gives_of shares) k ≡ s.id
+-- a give that was read at a place
+pub id_here : (gives : List (Id × ℕ)) (k : ℕ) (g d : Id × ℕ) → k < length gives → g ≡ get_or gives k d → id_at gives k ≡ g.0
 unfolding id_at
-id_at_share shares k s d lt e = ap (λ (g : Id × ℕ). g.0) (share_at shares k s d lt e)
+id_here gives k g d lt e = ap (λ (x : Id × ℕ). x.0) (get_or_any gives k no_give d lt ∙ sym e)
 
-pub found_share : (shares : List Share) (id : Id) (k : ℕ) (s d : Share) → Ascend (map (λ g. g.0) (gives_of shares)) → k < length shares → s ≡ get_or shares k d → id_cmp id s.id ≡ Equal → Some s.relay ≡ beside (gives_of shares) id
-found_share shares id k s d ordered lt e same =
-    ap (λ (g : Id × ℕ). Some g.1) (sym (share_at shares k s d lt e))
-    ∙ found_at (gives_of shares) id k ordered (omega (arith, length-map {A = Share} {B = Id × ℕ})) (ap (id_cmp id) (id_at_share shares k s d lt e) ∙ same)
+pub found_here : (gives : List (Id × ℕ)) (id : Id) (k : ℕ) (g d : Id × ℕ) → Ascend (map (λ g. g.0) gives) → k < length gives → g ≡ get_or gives k d → id_cmp id g.0 ≡ Equal → Some g.1 ≡ beside gives id
+found_here gives id k g d ordered lt e same =
+    ap (λ (x : Id × ℕ). Some x.1) (e ∙ get_or_any gives k d no_give lt)
+    ∙ found_at gives id k ordered lt (ap (id_cmp id) (id_here gives k g d lt e) ∙ same)

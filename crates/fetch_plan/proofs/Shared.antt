@@ -6,10 +6,11 @@ use Rattle.std.proofs.lemmas.List.Sums.{sum_by-cons}
 use Rattle.sharing.specs.Sharing.{is_among}
 use Rattle.sharing.proofs.Looks.{among_each}
 use Rattle.fetch_plan.specs.declared.groups.Group.{Group}
-use Rattle.fetch_plan.specs.declared.hand_out.Share.{Share}
-use Rattle.fetch_plan.specs.Shares.{given, offered, held, no_share, AreOffered, AreLoads, IsSettled}
+use Rattle.neg_codec.specs.declared.Id.{Id}
+use Rattle.fetch_plan.specs.Plan.{AreLoads, given_load}
+use Rattle.fetch_plan.specs.Shares.{Share, given, offered, held, no_share, gives_of, AreOffered, IsSettled, AreSharedOut}
 use Rattle.fetch_plan.specs.Groups.{amount, shared_by, AreGiven, AreLoadsOf}
-use Rattle.fetch_plan.specs.Handed.{AreHanded}
+use Rattle.fetch_plan.specs.Handed.{AreHanded, AreHandedOut}
 use Rattle.fetch_plan.specs.Trail.{AreSettled}
 use Rattle.fetch_plan.proofs.Trails.{get_or_any}
 
@@ -39,6 +40,11 @@ held_first (s ∷ ss) lt = omega (arith, sum_by-cons (λ (x : Share). cond (x.re
 pub some_held : (shares : List Share) (most : ℕ) (marked : List Bool) → IsSettled shares most marked → 0 < length shares → 0 < most
 some_held shares most marked h some = omega (arith, held_first shares some, h.greatest.0 (given shares 0))
 
+-- a relay is given as many gives as shares
+held_given : (shares : List Share) (r : ℕ) → given_load (gives_of shares) r ≡ held shares r
+held_given [] r = refl
+held_given (s ∷ ss) r = omega (arith, held_given ss r, sum_by-cons (λ (g : Id × ℕ). cond (g.1 == r) 1 0) (s.id, s.relay) (gives_of ss), sum_by-cons (λ (x : Share). cond (x.relay == r) 1 0) s ss)
+
 module _ (groups : List Group) (shares : List Share) (h : AreHanded groups shares) where
   -- the group of a share
   group_of : (j : ℕ) → j < length shares → (k : ℕ) × (k < length groups) × (1 ≤ amount groups k (given shares j)) × (offered shares j ≡ shared_by groups k)
@@ -53,7 +59,7 @@ module _ (groups : List Group) (shares : List Share) (h : AreHanded groups share
       let e : get_or shares w.1.0 no_share ≡ w.0 = get_or_any shares w.1.0 no_share w.0 w.1.1 ∙ w.1.2 in
       (w.1.0, w.1.1, ap (λ (s : Share). s.relay) e ∙ w.2, ap (λ (s : Share). s.relays) e ∙ w.3)
 
-  pub shares_offered : AreGiven groups → AreOffered shares
+  shares_offered : AreGiven groups → AreOffered shares
   shares_offered ok = record {
     offer = λ j lt. (let w = group_of j lt in ap (λ rs. is_among rs (given shares j)) w.3 ∙ ok.offer w.0 (given shares j) w.1 w.2);
     small = λ j lt.
@@ -61,10 +67,10 @@ module _ (groups : List Group) (shares : List Share) (h : AreHanded groups share
         among_each (λ r. r < RELAYS) (shared_by groups w.0) (given shares j) (ok.groups_ok.relays w.0 w.1).small (ok.offer w.0 (given shares j) w.1 w.2));
   }
 
-  pub shares_loads : (loads : List ℕ) → AreLoadsOf groups loads → AreLoads shares loads
-  shares_loads loads are r lt = are r lt ∙ sym (h.loads r)
+  shares_loads : (loads : List ℕ) → AreLoadsOf groups loads → AreLoads (gives_of shares) loads
+  shares_loads loads are r lt = are r lt ∙ sym (h.loads r) ∙ sym (held_given shares r)
 
-  pub shares_settled : (most : ℕ) (marked : List Bool) → AreSettled 1 groups most marked → IsSettled shares most marked
+  shares_settled : (most : ℕ) (marked : List Bool) → AreSettled 1 groups most marked → IsSettled shares most marked
   shares_settled most marked s = record {
     greatest = (λ r. omega (arith, s.greatest.0 r, h.loads r), (s.greatest.1.0, h.loads s.greatest.1.0 ∙ s.greatest.1.1));
     busiest = λ r lt e. s.busiest r lt (sym (h.loads r) ∙ e);
@@ -76,14 +82,25 @@ module _ (groups : List Group) (shares : List Share) (h : AreHanded groups share
         r m;
   }
 
+pub shared_out : (groups : List Group) (offers : List (Id × List ℕ)) (gives : List (Id × ℕ)) (loads : List ℕ) (marked : List Bool) → AreHandedOut groups offers gives → AreGiven groups → AreLoadsOf groups loads → (most : ℕ) × AreSettled 1 groups most marked →
+    AreSharedOut offers gives loads marked
+shared_out groups offers gives loads marked h given are settled = record {
+  shares = h.shares;
+  offers_ok = h.offers_ok;
+  gives_ok = h.gives_ok;
+  offered_ok = shares_offered groups h.shares h.handed given;
+  loads_ok = subst (λ gs. AreLoads gs loads) h.gives_ok (shares_loads groups h.shares h.handed loads are);
+  settled = (settled.0, shares_settled groups h.shares h.handed settled.0 marked settled.1);
+}
+
 -- the settled greatest load is the one that the table of loads has
-pub settled_at : (shares : List Share) (loads : List ℕ) (least_max : ℕ) (marked : List Bool) → AreLoads shares loads → AreOffered shares → ((r : ℕ) → r < RELAYS → get_or loads r 0 ≤ least_max) → (r : ℕ) × (r < RELAYS) × (get_or loads r 0 ≡ least_max) →
+pub settled_at : (shares : List Share) (loads : List ℕ) (least_max : ℕ) (marked : List Bool) → AreLoads (gives_of shares) loads → AreOffered shares → ((r : ℕ) → r < RELAYS → get_or loads r 0 ≤ least_max) → (r : ℕ) × (r < RELAYS) × (get_or loads r 0 ≡ least_max) →
     (most : ℕ) × IsSettled shares most marked → IsSettled shares least_max marked
 settled_at shares loads least_max marked are offers bound one h =
     let w : (r : ℕ) × (held shares r ≡ h.0) = h.1.greatest.1 in
     let up : h.0 ≤ least_max = elim (cases_lt w.0 RELAYS) [
-      | inl lt ↦ omega (arith, w.1, are w.0 lt, bound w.0 lt)
+      | inl lt ↦ omega (arith, w.1, are w.0 lt, held_given shares w.0, bound w.0 lt)
       | inr ge ↦ omega (arith, w.1, none_held shares w.0 offers.small ge)
     ] in
-    let e : h.0 ≡ least_max = omega (arith, up, are one.0 one.1, one.2, h.1.greatest.0 one.0) in
+    let e : h.0 ≡ least_max = omega (arith, up, are one.0 one.1, held_given shares one.0, one.2, h.1.greatest.0 one.0) in
     subst (λ m. IsSettled shares m marked) e h.1

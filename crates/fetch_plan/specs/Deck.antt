@@ -1,8 +1,21 @@
 -- Relays that are left to be dealt to the ids of groups.
 use Rattle.std.specs.Prelude.{◌≡◌, ℕ, ◌<◌, ◌≤◌, List, [], length, map, take, drop, slice_index_or}
 use Rattle.fetch_plan.specs.declared.groups.Group.{Group}
+use Rattle.fetch_plan.specs.declared.places.Hand.{Hand}
 use Rattle.fetch_plan.specs.Counts.{times}
 use Rattle.fetch_plan.specs.Groups.{amount, total}
+
+-- for each group its relays, and those that are left to be dealt to its ids
+pub record Dealt : Type 0 where
+  pub sets : List (List ℕ)
+  pub left : List (List ℕ)
+
+-- the relays of the hands, and where their next ones stand
+abbrev pub sets_in : List Hand → List (List ℕ)
+sets_in hands = map (λ h. h.relays) hands
+
+abbrev pub next_in : List Hand → List ℕ
+next_in hands = map (λ h. h.next) hands
 
 -- the relays of one list, from each of these places on
 abbrev pub deck_of : List ℕ → List ℕ → List (List ℕ)

@@ -5,6 +5,7 @@ use Rattle.sharing.specs.declared.TheConstants.{RELAYS, MOST_IDS}
 use Rattle.sharing.specs.Sharing.{is_among}
 use Rattle.sharing.specs.Offers.{AreRelays}
 use Rattle.neg_codec.specs.declared.Id.{Id}
+use Rattle.offer_table.specs.Relays.{bits_of}
 use Rattle.fetch_plan.specs.declared.groups.Group.{Group}
 
 abbrev pub no_group : Group
@@ -51,6 +52,10 @@ pub record AreCounts (groups : List Group) (counts : List ℕ) : Type 0 where
 pub record AreSets (groups : List Group) (sets : List (List ℕ)) : Type 0 where
   pub long : length sets ≡ length groups
   pub relays : (k : ℕ) → k < length groups → slice_index_or sets k [] ≡ shared_by groups k
+
+-- the numbers of the groups' sets ascend
+abbrev pub AreOrdered : List Group → Type 0
+AreOrdered groups = (j k : ℕ) → j < k → k < length groups → bits_of (shared_by groups j) < bits_of (shared_by groups k)
 
 -- these places are those of all groups that have enough ids
 pub record AreLarge (enough : ℕ) (groups : List Group) (places : List ℕ) : Type 0 where

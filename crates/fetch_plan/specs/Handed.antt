@@ -2,9 +2,9 @@
 use Rattle.std.specs.Prelude.{◌≡◌, ℕ, ◌+◌, ◌<◌, ◌≤◌, ◌==◌, List, length, cond}
 use Rattle.std.specs.List.{All, Contains}
 use Rattle.fetch_plan.specs.declared.groups.Group.{Group}
-use Rattle.fetch_plan.specs.declared.hand_out.Share.{Share}
 use Rattle.fetch_plan.specs.Groups.{amount, shared_by, total, load_of}
-use Rattle.fetch_plan.specs.Shares.{held}
+use Rattle.neg_codec.specs.declared.Id.{Id}
+use Rattle.fetch_plan.specs.Shares.{Share, held, offers_of, gives_of}
 
 -- one id of the group at this place is taken from this relay
 pub record IsTaken (old : List Group) (place relay : ℕ) (new : List Group) : Type 0 where
@@ -27,3 +27,10 @@ pub record AreHanded (groups : List Group) (shares : List Share) : Type 0 where
   pub loads : (r : ℕ) → held shares r ≡ load_of groups r
   pub counted : All (IsCounted groups) shares
   pub shared : (k r : ℕ) → k < length groups → 1 ≤ amount groups k r → HasShare groups shares k r
+
+-- the gives of offers that are handed out by the counts
+pub record AreHandedOut (groups : List Group) (offers : List (Id × List ℕ)) (gives : List (Id × ℕ)) : Type 0 where
+  pub shares : List Share
+  pub offers_ok : offers_of shares ≡ offers
+  pub gives_ok : gives_of shares ≡ gives
+  pub handed : AreHanded groups shares

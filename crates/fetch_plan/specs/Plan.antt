@@ -1,5 +1,5 @@
 -- What a plan says, and what it promises for the offers that it is made of.
-use Rattle.std.specs.Prelude.{◌≡◌, ℕ, ◌≤◌, ◌<◌, ◌==◌, List, length, map, count_by}
+use Rattle.std.specs.Prelude.{◌≡◌, ℕ, ◌≤◌, ◌<◌, ◌==◌, List, length, map, count_by, slice_index_or}
 use Rattle.std.specs.List.{All}
 use Rattle.neg_codec.specs.declared.Id.{Id}
 use Rattle.sharing.specs.declared.TheConstants.{RELAYS, MOST_IDS}
@@ -23,6 +23,10 @@ pub record IsPlan (plan : Planned) : Type 0 where
 -- the number of ids that are given to relay r
 abbrev pub given_load : List (Id × ℕ) → ℕ → ℕ
 given_load gives r = count_by (λ g. g.1 == r) gives
+
+-- the table of loads
+abbrev pub AreLoads : List (Id × ℕ) → List ℕ → Type 0
+AreLoads gives loads = (r : ℕ) → r < RELAYS → slice_index_or loads r 0 ≡ given_load gives r
 
 -- The gives are of the offered ids, and they are a least sharing of them, which the group shows.
 pub record IsPlanOf (offers : List (Id × List ℕ)) (plan : Planned) : Type 0 where

@@ -3,7 +3,13 @@ use Rattle.std.specs.Prelude.{◌≡◌, ℕ, ◌+◌, ◌<◌, ◌≤◌, ◌==
 use Rattle.sharing.specs.declared.TheConstants.{RELAYS}
 use Rattle.sharing.specs.Sharing.{is_among, IsGreatest}
 use Rattle.neg_codec.specs.declared.Id.{Id}
-use Rattle.fetch_plan.specs.declared.hand_out.Share.{Share}
+use Rattle.fetch_plan.specs.Plan.{AreLoads}
+
+-- an id, the relays that offer it, and the one of them that it is given to
+pub record Share : Type 0 where
+  pub id : Id
+  pub relays : List ℕ
+  pub relay : ℕ
 
 -- the relay that the share at this place is given to, and those that offer it
 abbrev pub no_share : Share
@@ -44,10 +50,6 @@ offers_of shares = map (λ s. (s.id, s.relays)) shares
 abbrev pub gives_of : List Share → List (Id × ℕ)
 gives_of shares = map (λ s. (s.id, s.relay)) shares
 
--- the table of loads
-abbrev pub AreLoads : List Share → List ℕ → Type 0
-AreLoads shares loads = (r : ℕ) → r < RELAYS → slice_index_or loads r 0 ≡ held shares r
-
 -- no relay is outside that is reached by moves from the busiest ones, and all that are inside are reached and have almost as many
 pub record IsSettled (shares : List Share) (most : ℕ) (marked : List Bool) : Type 0 where
   pub greatest : IsGreatest (held shares) most
@@ -55,3 +57,12 @@ pub record IsSettled (shares : List Share) (most : ℕ) (marked : List Bool) : T
   pub closed : IsClosed shares marked
   pub high : (r : ℕ) → is_marked marked r ≡ true → most ≤ held shares r + 1
   pub least : (test : ℕ → Bool) → ((r : ℕ) → held shares r ≡ most → test r ≡ true) → IsClosedTest shares test → (r : ℕ) → is_marked marked r ≡ true → test r ≡ true
+
+-- the gives of offers that are shared out, with the loads of relays and the relays that chains of moves reach
+pub record AreSharedOut (offers : List (Id × List ℕ)) (gives : List (Id × ℕ)) (loads : List ℕ) (marked : List Bool) : Type 0 where
+  pub shares : List Share
+  pub offers_ok : offers_of shares ≡ offers
+  pub gives_ok : gives_of shares ≡ gives
+  pub offered_ok : AreOffered shares
+  pub loads_ok : AreLoads gives loads
+  pub settled : (most : ℕ) × IsSettled shares most marked

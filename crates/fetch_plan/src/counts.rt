@@ -114,10 +114,10 @@ impl Counts {
 fn push_times(relays: &mut Vec<u16>, relay: u16, times: u32) -> Result<(), AllocError>
     ensures { OnOk result (relays.new.items ≡ relays.old.items ++ replicate times relay) }
 {
-    for _ in 0..times {
-        relays.push(relay)?;
+    if times == 0 {
+        return Ok(());
     }
-    Ok(())
+    relays.resize(relays.len().saturating_add(times as usize), relay)
 }
 
 /// The sum of these numbers.

@@ -7,7 +7,7 @@ ghost use Rattle.sharing.specs.Offers.{AreRelays};
 ghost use Rattle.offer_table.specs.Table.{IsTable};
 ghost use Rattle.offer_table.specs.Groups.{groups_of};
 ghost use Rattle.fetch_plan.specs.Groups.{AreGiven, AreTabled, AreLoadsOf};
-ghost use Rattle.fetch_plan.specs.Shares.{is_marked, offers_of, AreOffered, AreLoads, IsSettled};
+ghost use Rattle.fetch_plan.specs.Shares.{is_marked, AreSharedOut};
 ghost use Rattle.fetch_plan.specs.Plan.{IsPlanOf};
 
 mod cell;
@@ -23,7 +23,8 @@ mod places;
 pub use cell::Cell;
 use chains::{greatest, settle};
 use groups::{Group, give_all};
-use hand_out::{Share, hand_out};
+use hand_out::hand_out;
+use neg_codec::Id;
 use offer_table::{OfferTable, RelaySet};
 pub use outcome::Plan;
 use sharing::{RELAYS, SLOTS};
@@ -48,21 +49,18 @@ fn set_of(marked: &[bool; SLOTS]) -> RelaySet
 fn share_groups(
     alloc: Global,
     table: &OfferTable,
-    groups: &mut [Group],
+    mut groups: Vec<Group>,
     loads: &mut [u64; SLOTS],
-) -> Result<(Vec<Share>, [bool; SLOTS]), AllocError>
-    requires given { AreGiven groups.old }
-    requires tabled { AreTabled (groups_of table.now.offers) groups.old }
-    requires loads { AreLoadsOf groups.old loads.old }
+) -> Result<(Vec<(Id, u16)>, [bool; SLOTS]), AllocError>
+    requires given { AreGiven groups.items }
+    requires tabled { AreTabled (groups_of table.now.offers) groups.items }
+    requires loads { AreLoadsOf groups.items loads.old }
     requires table { IsTable table.now }
-    ensures offers { IfOk result (λ out. offers_of out.0.items ≡ table.now.offers) }
-    ensures offered { IfOk result (λ out. AreOffered out.0.items) }
-    ensures loads { IfOk result (λ out. AreLoads out.0.items loads.new) }
-    ensures settled { IfOk result (λ out. (most : ℕ) × IsSettled out.0.items most out.1) }
+    ensures { IfOk result (λ out. AreSharedOut table.now.offers out.0.items loads.new out.1) }
 {
-    let marked = settle(alloc, groups, loads)?;
-    let shares = hand_out(alloc, table, groups)?;
-    Ok((shares, marked))
+    let marked = settle(alloc, &mut groups, loads)?;
+    let gives = hand_out(alloc, table, groups)?;
+    Ok((gives, marked))
 }
 
 /// Shares the ids out. It answers to which relays, and which ones chains of moves reach.
@@ -70,16 +68,13 @@ fn share_out(
     alloc: Global,
     table: &OfferTable,
     loads: &mut [u64; SLOTS],
-) -> Result<(Vec<Share>, [bool; SLOTS]), AllocError>
+) -> Result<(Vec<(Id, u16)>, [bool; SLOTS]), AllocError>
     requires { (r : ℕ) → slice_index loads.old r ≡ 0 }
-    ensures offers { IfOk result (λ out. offers_of out.0.items ≡ table.now.offers) }
-    ensures offered { IfOk result (λ out. AreOffered out.0.items) }
-    ensures loads { IfOk result (λ out. AreLoads out.0.items loads.new) }
-    ensures settled { IfOk result (λ out. (most : ℕ) × IsSettled out.0.items most out.1) }
+    ensures shared { IfOk result (λ out. AreSharedOut table.now.offers out.0.items loads.new out.1) }
     ensures table { IsTable table.now }
 {
-    let mut groups = give_all(alloc, table, loads)?;
-    share_groups(alloc, table, &mut groups, loads)
+    let groups = give_all(alloc, table, loads)?;
+    share_groups(alloc, table, groups, loads)
 }
 
 /// Shares the ids out, so that the busiest relay has as few as possible, by chains of moves from a busiest
@@ -90,10 +85,10 @@ pub fn plan(alloc: Global, table: &OfferTable) -> Result<Plan, AllocError>
     ensures least { IfOk result (λ plan. NoneSmaller table.now.offers plan.least_max) }
 {
     let mut loads = [0; SLOTS];
-    let (shares, marked) = share_out(alloc, table, &mut loads)?;
-    if shares.is_empty() {
+    let (gives, marked) = share_out(alloc, table, &mut loads)?;
+    if gives.is_empty() {
         return Ok(Plan {
-            shares,
+            gives,
             loads,
             least_max: 0,
             group: RelaySet::empty(),
@@ -102,7 +97,7 @@ pub fn plan(alloc: Global, table: &OfferTable) -> Result<Plan, AllocError>
     let least_max = greatest(&loads);
     let group = set_of(&marked);
     Ok(Plan {
-        shares,
+        gives,
         loads,
         least_max,
         group,

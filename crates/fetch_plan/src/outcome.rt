@@ -5,7 +5,6 @@ ghost use Rattle.std.specs.List.{slice_get};
 ghost use Rattle.sharing.specs.Offers.{beside};
 ghost use Rattle.fetch_plan.specs.Plan.{IsPlan, given_load};
 
-use crate::hand_out::Share;
 use neg_codec::Id;
 use offer_table::RelaySet;
 use sharing::{RELAYS, SLOTS};
@@ -16,22 +15,20 @@ use std::marker::Model;
 /// relays which shows that no sharing has less.
 #[derive(Drop)]
 pub struct Plan {
-    pub(crate) shares: Vec<Share>,
+    pub(crate) gives: Vec<(Id, u16)>,
     pub(crate) loads: [u64; SLOTS],
     pub(crate) least_max: u64,
     pub(crate) group: RelaySet,
 }
 
 impl Model for Plan {
-    ghost use Rattle.std.specs.Prelude.{map};
-    ghost use Rattle.fetch_plan.specs.Plan.{Planned, IsPlan};
-    ghost use Rattle.fetch_plan.specs.Shares.{gives_of, AreLoads};
+    ghost use Rattle.fetch_plan.specs.Plan.{Planned, IsPlan, AreLoads};
 
     ghost Value = { Planned };
 
-    ghost view = { λ p. record { gives = gives_of p.shares.items; least_max = p.least_max; group = p.group } };
+    ghost view = { λ p. record { gives = p.gives.items; least_max = p.least_max; group = p.group } };
 
-    ghost invariant = { λ p. IsPlan (record { gives = gives_of p.shares.items; least_max = p.least_max; group = p.group }) × AreLoads p.shares.items p.loads };
+    ghost invariant = { λ p. IsPlan (record { gives = p.gives.items; least_max = p.least_max; group = p.group }) × AreLoads p.gives.items p.loads };
 }
 
 impl Plan {
@@ -40,7 +37,7 @@ impl Plan {
         ensures value { result ≡ length self.now.gives }
         ensures plan { IsPlan self.now }
     {
-        self.shares.len()
+        self.gives.len()
     }
 
     /// The id at a place, in ascending order, and the relay that it is given to.
@@ -48,8 +45,7 @@ impl Plan {
         requires { i < length self.now.gives }
         ensures { slice_get self.now.gives i ≡ Some result }
     {
-        let share = &self.shares[i];
-        (share.id, share.relay)
+        self.gives[i]
     }
 
     /// The relay that an id is given to, if it is in the plan.
@@ -57,12 +53,13 @@ impl Plan {
         ensures { result ≡ beside self.now.gives id.now }
     {
         let mut low = 0;
-        let mut high = self.shares.len();
+        let mut high = self.gives.len();
         while low < high {
             let middle = low + (high - low) / 2;
-            match id.cmp(&self.shares[middle].id) {
+            let give = &self.gives[middle];
+            match id.cmp(&give.0) {
                 Ordering::Less => high = middle,
-                Ordering::Equal => return Some(self.shares[middle].relay),
+                Ordering::Equal => return Some(give.1),
                 Ordering::Greater => low = middle + 1,
             }
         }

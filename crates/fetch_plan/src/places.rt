@@ -1,60 +1,78 @@
-//! Where the relays of offers stand among the sets of groups.
+//! Where the relays of offers stand among those of groups.
 
-ghost use Rattle.std.specs.Prelude.{◌≡◌, ◌≤◌, ◌<◌, ℕ, IfOk};
-ghost use Rattle.std.specs.List.{All};
-ghost use Rattle.std.specs.List.Sorted.{IsStrictlySortedBy};
-ghost use Rattle.offer_table.specs.Groups.{set_cmp};
-ghost use Rattle.fetch_plan.specs.Places.{IsPlace, ArePlaces};
+ghost use Rattle.std.specs.Prelude.{◌<◌, ℕ};
+ghost use Rattle.fetch_plan.specs.Deck.{sets_in};
+ghost use Rattle.fetch_plan.specs.Places.{IsNumbered, IsPlace, AreInOrder};
 
-use offer_table::{OfferTable, RelaySet};
+use offer_table::RelaySet;
 use std::alloc::{AllocError, Global};
 
 /// One more than the greatest number of a set.
 const BASE: u128 = 1 << 64;
 
-/// Half, where this number is not below the middle one, otherwise nothing. It is reckoned, since a choice between the
-/// two was compiled to a branch, and which way a search goes can't be foreseen.
-fn step(half: usize, number: u64, middle: u64) -> usize
-    ensures up { middle ≤ number → result ≡ half }
-    ensures stay { number < middle → result ≡ 0 }
-{
-    let past = (BASE + u128::from(number) - u128::from(middle)) / BASE;
-    half * past as usize
+/// How many slots there are for each hand, and how many at least: so many that most hands have one of their own.
+const ROOM: usize = 4;
+
+const LEAST: usize = 4_096;
+
+/// 2^64 over the golden ratio, an odd number: its multiples spread over all numbers below 2^64.
+const MIXER: u64 = 0x9e37_79b9_7f4a_7c15;
+
+/// The relays of a group, and where the next relay for its ids stands.
+#[derive(Clone, Copy)]
+pub(crate) struct Hand {
+    pub relays: RelaySet,
+    pub next: usize,
 }
 
-/// Where a set stands among sets in the order of their numbers. Each step halves the sets that are left.
-fn place_of(sets: &[RelaySet], relays: RelaySet) -> usize
-    requires ordered { IsStrictlySortedBy set_cmp sets.now }
-    requires there { (k : ℕ) × IsPlace sets.now relays k }
-    ensures { IsPlace sets.now relays result }
+/// For each slot the place of a hand that has it. Another hand may have it too.
+pub(crate) fn guesses_of(alloc: Global, hands: &[Hand]) -> Result<Vec<u32>, AllocError> {
+    let mut guesses = vec![in alloc; 0u32; hands.len().saturating_mul(ROOM).max(LEAST)]?;
+    for (place, hand) in hands.iter().enumerate() {
+        let slot = slot_of(hand.relays.number(), guesses.len());
+        if let Some(guess) = guesses.get_mut(slot) {
+            *guess = u32::try_from(place).unwrap_or(0);
+        }
+    }
+    Ok(guesses)
+}
+
+/// The slot of a number among so many.
+fn slot_of(number: u64, slots: usize) -> usize {
+    let mixed = u128::from(number.wrapping_mul(MIXER));
+    (mixed.wrapping_mul(slots as u128) / BASE) as usize
+}
+
+/// Where these relays stand: as guessed, or else they are searched for.
+pub(crate) fn place_of(hands: &[Hand], guesses: &[u32], relays: RelaySet) -> usize
+    requires ordered { AreInOrder (sets_in hands.now) }
+    requires there { (k : ℕ) × IsPlace (sets_in hands.now) relays k }
+    ensures { IsPlace (sets_in hands.now) relays result }
 {
     let number = relays.number();
+    if let Some(guess) = guesses.get(slot_of(number, guesses.len())) {
+        let place = *guess as usize;
+        if place < hands.len() && hands[place].relays.number() == number {
+            return place;
+        }
+    }
+    search(hands, number)
+}
+
+/// Where the relays with this number stand. Each step halves the hands that are left.
+fn search(hands: &[Hand], number: u64) -> usize
+    requires ordered { AreInOrder (sets_in hands.now) }
+    requires there { (k : ℕ) × IsNumbered (sets_in hands.now) number k }
+    ensures { IsNumbered (sets_in hands.now) number result }
+{
     let mut place = 0;
-    let mut left = sets.len();
+    let mut left = hands.len();
     while left > 1 {
         let half = left / 2;
-        place += step(half, number, sets[place + half].number());
+        if hands[place + half].relays.number() <= number {
+            place += half;
+        }
         left -= half;
     }
     place
-}
-
-/// Where the relays of each offer stand among these sets. All are looked up before any is used, so that the processor
-/// needn't wait for what it reads for one id before it begins with the next.
-pub(crate) fn places_of(
-    alloc: Global,
-    sets: &[RelaySet],
-    table: &OfferTable,
-) -> Result<Vec<usize>, AllocError>
-    requires ordered { IsStrictlySortedBy set_cmp sets.now }
-    requires there { All (λ o. (k : ℕ) × IsPlace sets.now o.1 k) table.now.offers }
-    ensures { IfOk result (λ places. ArePlaces sets.now table.now.offers places.items) }
-{
-    let mut rest = table.walk();
-    let mut places = Vec::with_capacity(alloc, rest.most_left())?;
-    while let Some((offer, others)) = rest.split_first() {
-        places.push(place_of(sets, offer.1))?;
-        rest = others;
-    }
-    Ok(places)
 }

@@ -1,13 +1,18 @@
-use Rattle.fetch_plan.proofs.Shared.{shares_offered, shares_loads, shares_settled}
+use Rattle.std.proofs.Common.{◌≡◌, ◌++◌, ℕ, List, length, take, drop, ◌∙◌, subst, arith}
+use Rattle.std.proofs.lemmas.List.{take-append-le, take_all}
+use Rattle.fetch_plan.specs.declared.groups.Group.{Group}
+use Rattle.fetch_plan.specs.Groups.{AreSame}
+use Rattle.fetch_plan.specs.Handed.{AreHandedOut}
+use Rattle.fetch_plan.proofs.Shared.{shared_out}
 use Rattle.fetch_plan.proofs.share_groups.Goals as goal
 
-pub returns-clause-offered : goal.returns-clause-offered
-returns-clause-offered c = shares_offered _ _ c.in_ok-shares.ensures.handed c.in_ok-marked.ensures.given
+-- a list of which all is written anew
+anew : (old new : List Group) (n : ℕ) → length new ≡ length old → n ≡ length old → take n (new ++ drop (length new) old) ≡ new
+anew old new n same all = take-append-le n new (drop (length new) old) (omega arith) ∙ take_all n new (omega arith)
 
-pub returns-clause-loads : goal.returns-clause-loads
-returns-clause-loads c = shares_loads _ _ c.in_ok-shares.ensures.handed _ c.in_ok-marked.ensures.loads
-
-pub returns-clause-settled : goal.returns-clause-settled
-returns-clause-settled c =
-    let w = c.in_ok-marked.ensures.settled in
-    (w.0, shares_settled _ _ c.in_ok-shares.ensures.handed w.0 _ w.1)
+pub returns : goal.returns
+returns c =
+    let same : AreSame c.args.groups.items c.settle.new.groups = subst (λ gs. AreSame gs c.settle.new.groups) c.deref_mut.ensures.value c.in_ok-marked.ensures.same in
+    shared_out _ _ _ _ _
+    (subst (λ gs. AreHandedOut gs c.args.table.now.offers c.in_ok-gives.gives.items) (anew c.args.groups.items c.settle.new.groups c.args.groups.len same.long (omega arith)) c.in_ok-gives.ensures)
+    c.in_ok-marked.ensures.given c.in_ok-marked.ensures.loads c.in_ok-marked.ensures.settled
