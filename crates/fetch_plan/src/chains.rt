@@ -7,7 +7,7 @@ ghost use Rattle.std.specs.List.{sum, All};
 ghost use Rattle.sharing.specs.Sharing.{is_among};
 ghost use Rattle.fetch_plan.specs.declared.groups.Group.{Group};
 ghost use Rattle.fetch_plan.specs.Shares.{is_marked};
-ghost use Rattle.fetch_plan.specs.Groups.{amount, shared_by, AreGroups, AreSets, AreLarge, AreGiven, AreSame, AreLoadsOf, IsMoved};
+ghost use Rattle.fetch_plan.specs.Groups.{amount, shared_by, AreSets, AreLarge, AreGiven, AreSame, AreLoadsOf, IsMoved};
 ghost use Rattle.fetch_plan.specs.Trail.{relay_at, IsTrail, AreMarked, Extends, StayMarked, IsClosedAt, PassesOn, AreStarts, from_at, squares, AreSettled};
 
 use crate::groups::Group;

@@ -1,6 +1,6 @@
 //! Plans.
 
-ghost use Rattle.std.specs.Prelude.{◌≡◌, ◌<◌, Some, length, option_map};
+ghost use Rattle.std.specs.Prelude.{◌≡◌, ◌<◌, Some, length};
 ghost use Rattle.std.specs.List.{slice_get};
 ghost use Rattle.sharing.specs.Offers.{beside};
 ghost use Rattle.fetch_plan.specs.Plan.{IsPlan, given_load};
