@@ -249,7 +249,8 @@ fn is_chunk_at(chunk: &Chunk, items: &[Item], from: usize) -> bool {
     if own.is_empty() || own.len() > 512 || from > items.len() || own.len() > items.len() - from {
         return false;
     }
-    *own == items[from..from + own.len()] && chunk.sum() == sum_of(own)
+    let there = &items[from..from + own.len()];
+    own == there && chunk.sum() == sum_of(own)
 }
 
 /// Whether a roll has these items, one by one and in its chunks.
@@ -262,7 +263,7 @@ fn has_items(roll: &Roll, items: &[Item]) -> bool {
         if !is_chunk_at(entry.chunk(), items, from) {
             return false;
         }
-        from += entry.chunk().items().len();
+        from = from.saturating_add(entry.chunk().items().len());
     }
     for at in 0..items.len() {
         if at >= roll.len() || roll.get(at) != items[at] {
@@ -299,8 +300,9 @@ fn chunks_of_1025_items(rt: HostRuntime) -> Result<(), Fail> {
     assert!(rt; has_items(&roll, &items));
     let places = [0, 1, 3, 255, 257, 500, 511, 512, 513, 540, 900, 1024, 1025];
     assert!(rt; has_all_prints(&roll, &items, &places));
-    let all = roll.ids(rt.alloc(), 500, 600)?;
-    assert!(rt; all.len() == 100 && all[0] == items[500].id && all[99] == items[599].id);
+    assert!(rt; roll.len() == 1025 && items.len() == 1025);
+    let ids = roll.ids(rt.alloc(), 500, 600)?;
+    assert!(rt; ids.len() == 100 && ids[0] == items[500].id && ids[99] == items[599].id);
     Ok(())
 }
 
