@@ -38,16 +38,16 @@ fn words_that_name_a_job(rt: HostRuntime) -> Result<(), Fail> {
 fn is_told(alloc: Global, line: &str, front: &str, back: &str) -> Result<bool, Fail> {
     let words = named(alloc, line)?;
     match read_words(alloc, words.as_slice()) {
-        Err(WordsFault::Usage(text)) => Ok(text.as_str().starts_with(front)
-            && text.as_str().ends_with(back)),
+        Err(WordsFault::Usage(text)) => Ok(
+            text.as_str().starts_with(front) && text.as_str().ends_with(back),
+        ),
         _ => Ok(false),
     }
 }
 
 const ABOUT: &str = "A proved mirror relay for Nostr\n\nUsage: nostr-mirror <COMMAND>\n";
 
-const USAGE: &str =
-    "\n\nUsage: nostr-mirror <COMMAND>\n\nFor more information, try '--help'.\n";
+const USAGE: &str = "\n\nUsage: nostr-mirror <COMMAND>\n\nFor more information, try '--help'.\n";
 
 const RECON_USAGE: &str =
     "\n\nFor more information, try '--help'.\n\nUsage: nostr-mirror recon [OPTIONS]\n";
@@ -61,24 +61,76 @@ static REFUSED: [(&str, &str, &str); 24] = [
     ("help", ABOUT, ""),
     ("recon --help", "Compares two lists", ""),
     ("recon more", "error: unexpected argument 'more' found", ""),
-    ("--limit 5000 recon", "error: unexpected argument '--limit' found", USAGE),
-    ("--limit 5", "error: unexpected argument '--limit' found", USAGE),
-    ("recon --limit", "error: a value is required for '--limit <N>' but none was supplied", RECON_USAGE),
-    ("recon --limit 5", "error: invalid value '5' for '--limit <N>': 5 is not in 4096..=1048576", RECON_USAGE),
-    ("recon --limit 4095", "error: invalid value '4095'", RECON_USAGE),
-    ("recon --limit 1048577", "error: invalid value '1048577'", RECON_USAGE),
-    ("recon --limit -5000", "error: unexpected argument '-5' found", ""),
-    ("recon --limit 5000x", "error: invalid value '5000x'", RECON_USAGE),
-    ("recon --limit 5000 --limit 5000", "error: the argument '--limit <N>' cannot be used multiple times", ""),
-    ("plan --limit 5000", "error: unexpected argument '--limit' found", ""),
+    (
+        "--limit 5000 recon",
+        "error: unexpected argument '--limit' found",
+        USAGE,
+    ),
+    (
+        "--limit 5",
+        "error: unexpected argument '--limit' found",
+        USAGE,
+    ),
+    (
+        "recon --limit",
+        "error: a value is required for '--limit <N>' but none was supplied",
+        RECON_USAGE,
+    ),
+    (
+        "recon --limit 5",
+        "error: invalid value '5' for '--limit <N>': 5 is not in 4096..=1048576",
+        RECON_USAGE,
+    ),
+    (
+        "recon --limit 4095",
+        "error: invalid value '4095'",
+        RECON_USAGE,
+    ),
+    (
+        "recon --limit 1048577",
+        "error: invalid value '1048577'",
+        RECON_USAGE,
+    ),
+    (
+        "recon --limit -5000",
+        "error: unexpected argument '-5' found",
+        "",
+    ),
+    (
+        "recon --limit 5000x",
+        "error: invalid value '5000x'",
+        RECON_USAGE,
+    ),
+    (
+        "recon --limit 5000 --limit 5000",
+        "error: the argument '--limit <N>' cannot be used multiple times",
+        "",
+    ),
+    (
+        "plan --limit 5000",
+        "error: unexpected argument '--limit' found",
+        "",
+    ),
     ("plan --help", "Shares out the offers", ""),
     ("plan check", "error: unexpected argument 'check' found", ""),
-    ("check --least", "error: unexpected argument '--least' found", ""),
+    (
+        "check --least",
+        "error: unexpected argument '--least' found",
+        "",
+    ),
     ("help plan", "Shares out the offers", ""),
-    ("help nothing", "error: unrecognized subcommand 'nothing'", ""),
+    (
+        "help nothing",
+        "error: unrecognized subcommand 'nothing'",
+        "",
+    ),
     ("Recon", "error: unrecognized subcommand 'Recon'", ""),
     ("--version", "nostr-mirror 0.1.0\n", "nostr-mirror 0.1.0\n"),
-    ("recon --version", "error: unexpected argument '--version' found", ""),
+    (
+        "recon --version",
+        "error: unexpected argument '--version' found",
+        "",
+    ),
 ];
 
 #[test]
