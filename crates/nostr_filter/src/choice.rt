@@ -72,7 +72,8 @@ fn pick(alloc: Global, filter: &Filter, events: &[Arc<Event>]) -> Result<Vec<Ran
 }
 
 /// The places of the events that the filters choose, in the order in which they are sent: each filter chooses the newest that it
-/// matches, as many as the lesser of its limit and 5,000, and each event comes once.
+/// matches, as many as the lesser of its limit and 5,000, and each place comes once. The events' ids are to be distinct; then each
+/// event comes once.
 pub fn choose(
     alloc: Global,
     filters: &[Filter],
