@@ -1,7 +1,6 @@
 //! Tests of the order, beside the choice that reads every event.
 use crate::{Newest, choose};
-use neg_codec::Id;
-use nostr_event::{Draft, Event, Spelling, Tags, Text, id_of};
+use nostr_event::Event;
 use nostr_filter::Filter;
 use serde_json::Value;
 use std::alloc::Global;
@@ -26,16 +25,16 @@ static CHOICES: [(&str, &[usize]); 6] = [
     (r##"[{},{"limit":1}]"##, &[1, 2, 0]),
 ];
 
-// Lists of filters over events of the times from 1000 to 1022.
+// Lists of filters over these three events, each many times.
 static FILTERS: [&str; 8] = [
     r##"[{}]"##,
-    r##"[{"limit":40}]"##,
-    r##"[{"until":1010,"limit":7}]"##,
-    r##"[{"since":1015}]"##,
-    r##"[{"since":1003,"until":1008}]"##,
-    r##"[{"until":999},{"since":1023},{"since":9,"until":3}]"##,
-    r##"[{"kinds":[2],"limit":20},{"kinds":[1,2],"since":1020}]"##,
-    r##"[{"kinds":[3]},{"until":1000,"limit":2},{"limit":3}]"##,
+    r##"[{"limit":900}]"##,
+    r##"[{"until":9,"limit":70}]"##,
+    r##"[{"since":10}]"##,
+    r##"[{"since":9,"until":9}]"##,
+    r##"[{"until":8},{"since":11},{"since":10,"until":9}]"##,
+    r##"[{"kinds":[7],"limit":20},{"kinds":[1,30023],"since":10}]"##,
+    r##"[{"kinds":[2]},{"until":9,"limit":2},{"limit":450}]"##,
 ];
 
 fn parsed(alloc: Global, text: &str) -> Result<Value, Fail> {
@@ -57,24 +56,6 @@ fn event(alloc: Global, text: &str) -> Result<Arc<Event>, Fail> {
     Ok(Arc::new(alloc, event)?)
 }
 
-// The text of an event at one of 23 times.
-fn numbered(alloc: Global, number: u8) -> Result<Arc<Event>, Fail> {
-    let time = 1000 + u64::from(number) * 37 % 23;
-    let kind = number % 3 + 1;
-    let draft = Draft {
-        pubkey: [7; 32],
-        created_at: time,
-        kind: u16::from(kind),
-        tags: Tags::new(Vec::new(alloc)),
-        content: Text::new(format!(in alloc; "{number}")?),
-    };
-    let Id(bytes) = id_of(alloc, &draft, Spelling::Plain)?;
-    let id = hex::encode(alloc, bytes.as_slice())?;
-    let author = hex::encode(alloc, draft.pubkey.as_slice())?;
-    let text = format!(in alloc; "{{\"id\":\"{id}\",\"pubkey\":\"{author}\",\"created_at\":{time},\"kind\":{kind},\"tags\":[],\"content\":\"{number}\",\"sig\":\"{id}{id}\"}}")?;
-    event(alloc, &text)
-}
-
 // The events, newest first.
 fn arranged(alloc: Global, events: &[Arc<Event>]) -> Result<Newest, Fail> {
     let mut newest = Newest::new(alloc)?;
@@ -84,14 +65,18 @@ fn arranged(alloc: Global, events: &[Arc<Event>]) -> Result<Newest, Fail> {
     Ok(newest)
 }
 
+fn three(alloc: Global) -> Result<Vec<Arc<Event>>, Fail> {
+    let mut list = Vec::new(alloc);
+    for text in &EVENTS {
+        list.push(event(alloc, *text)?)?;
+    }
+    Ok(list)
+}
+
 #[test]
 fn what_is_chosen(rt: HostRuntime) -> Result<(), Fail> {
     let alloc = rt.alloc();
-    let mut events = Vec::new(alloc);
-    for text in &EVENTS {
-        events.push(event(alloc, *text)?)?;
-    }
-    let newest = arranged(alloc, &events)?;
+    let newest = arranged(alloc, &three(alloc)?)?;
     for (text, want) in &CHOICES {
         let places = choose(alloc, &filters(alloc, *text)?, &newest)?;
         assert!(rt; places.as_slice() == *want, "{text}");
@@ -110,18 +95,23 @@ fn chooses_as_all(alloc: Global, newest: &Newest, events: &[Arc<Event>]) -> Resu
     Ok(true)
 }
 
+// 1,200 events lie under two layers of nodes. The three come again and again, and what ties goes by its place.
 #[test]
 fn many_events_and_an_older_order(rt: HostRuntime) -> Result<(), Fail> {
     let alloc = rt.alloc();
+    let three = three(alloc)?;
     let mut events = Vec::new(alloc);
-    for number in 0..120 {
-        events.push(numbered(alloc, number)?)?;
+    for _round in 0..400 {
+        for event in &three {
+            events.push(Arc::try_clone(event)?)?;
+        }
     }
-    let old = arranged(alloc, &events[..50])?;
+    let half = events.len() / 2;
+    let old = arranged(alloc, &events[..half])?;
     let shared = old.share()?;
     drop(old);
     let newest = arranged(alloc, &events)?;
     assert!(rt; chooses_as_all(alloc, &newest, &events)?);
-    assert!(rt; chooses_as_all(alloc, &shared, &events[..50])?);
+    assert!(rt; chooses_as_all(alloc, &shared, &events[..half])?);
     Ok(())
 }
