@@ -15,6 +15,7 @@ use nostr_filter::Filter;
 use serde_json::Value;
 use std::alloc::{AllocError, Global};
 use std::io;
+use std::rt::Clock;
 use std::sync::Arc;
 use std::time::Instant;
 

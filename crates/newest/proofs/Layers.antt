@@ -1,5 +1,5 @@
 -- Entries beneath nodes.
-use Rattle.std.proofs.Common.{◌≡◌, Bool, ℕ, zero, suc, ◌+◌, ◌-◌, ◌<◌, ◌≤◌, true, false, List, [], ◌∷◌, ◌++◌, length, get_or, map, flat_map, take, drop, Option, None, Some, refl, sym, ap, ap₂, ◌∙◌, subst, arith, append_assoc, append-nil}
+use Rattle.std.proofs.Common.{◌≡◌, Bool, ℕ, zero, suc, ◌+◌, ◌-◌, ◌<◌, true, false, List, [], ◌∷◌, ◌++◌, length, get_or, map, take, drop, Option, None, Some, refl, sym, ap, ap₂, ◌∙◌, subst, arith, append_assoc, append-nil}
 use Rattle.std.specs.List.{list_any}
 use Rattle.std.specs.Arc.{arc_value}
 use Rattle.std.specs.declared.alloc.Global.{Global}
@@ -10,7 +10,7 @@ use Rattle.std.specs.Option.{option_or, is_some}
 use Rattle.std.specs.Ordering.{is_lt}
 use Rattle.nostr_filter.specs.declared.choice.Rank.{Rank}
 use Rattle.nostr_filter.specs.Choice.{newest_first}
-use Rattle.std.proofs.lemmas.List.{take-append-drop, map-append, take-map, drop-map, length-map, get_or-map, drop_more, take_all, length-drop}
+use Rattle.std.proofs.lemmas.List.{take-append-drop, map-append, take-map, length-map, get_or-map, drop_more, take_all, length-drop}
 use Rattle.nostr_event.specs.EventView.{EventView}
 use Rattle.newest.specs.declared.node.Entry.{Entry}
 use Rattle.newest.specs.declared.node.Node.{Node, out-Node}

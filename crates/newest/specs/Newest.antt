@@ -1,5 +1,5 @@
 -- Events with their places, the newest first.
-use Rattle.std.specs.Prelude.{ℕ, ◌<◌, List, [], ◌∷◌, Bool, length, map, take, if◌then◌else◌}
+use Rattle.std.specs.Prelude.{ℕ, ◌<◌, List, [], ◌∷◌, Bool, map, if◌then◌else◌}
 use Rattle.std.specs.List.{enumerate_from, filter, AllByRecursion}
 use Rattle.std.specs.List.Sorted.{IsStrictlySortedBy, IsPermutation}
 use Rattle.std.specs.Ordering.{is_lt}
@@ -7,7 +7,7 @@ use Rattle.nostr_event.specs.EventView.{EventView}
 use Rattle.nostr_filter.specs.declared.filter.Filter.{Filter}
 use Rattle.nostr_filter.specs.declared.choice.Rank.{Rank}
 use Rattle.nostr_filter.specs.Matching.{matches_of}
-use Rattle.nostr_filter.specs.Choice.{newest_first, rank_of, cut_of}
+use Rattle.nostr_filter.specs.Choice.{newest_first, rank_of}
 
 -- what orders an event with its place
 abbrev pub rank : ℕ × EventView → Rank

@@ -99,12 +99,7 @@ fn with_parts(
 }
 
 /// The node with one more entry in its place.
-pub fn grown(
-    alloc: Global,
-    node: &Node,
-    entry: Entry,
-    layers: usize,
-) -> Result<Node, AllocError>
+pub fn grown(alloc: Global, node: &Node, entry: Entry, layers: usize) -> Result<Node, AllocError>
     requires { IsNewestFirst (entries_of layers node.now) }
     ensures { IfOk result (λ n. entries_of layers n ≡ inserted (seen entry) (entries_of layers node.now)) }
 {

@@ -55,7 +55,12 @@ impl Newest {
 
     /// The order with the event that is published next. It copies the nodes on the way to the event, of at most 33 entries or
     /// children each.
-    pub fn insert(&self, alloc: Global, place: usize, event: Arc<Event>) -> Result<Newest, AllocError>
+    pub fn insert(
+        &self,
+        alloc: Global,
+        place: usize,
+        event: Arc<Event>,
+    ) -> Result<Newest, AllocError>
         requires { place ≡ length self.now }
         ensures inserted { IfOk result (λ n. n ≡ inserted (place, event.value) self.now) }
         ensures len { IfOk result (λ n. length n ≡ length self.now + 1) }
@@ -65,10 +70,16 @@ impl Newest {
         let node = grown(alloc, &self.root, Entry { place, event }, self.layers)?;
         if self.layers < MOST_LAYERS && is_long(&node) {
             let root = Arc::new(alloc, Node::Fork(parts(alloc, node)?))?;
-            return Ok(Newest { root, layers: self.layers + 1 });
+            return Ok(Newest {
+                root,
+                layers: self.layers + 1,
+            });
         }
         let root = Arc::new(alloc, node)?;
-        Ok(Newest { root, layers: self.layers })
+        Ok(Newest {
+            root,
+            layers: self.layers,
+        })
     }
 
     /// The same order, shared. It copies nothing.
@@ -76,7 +87,10 @@ impl Newest {
         ensures { IfOk result (λ n. n ≡ self.now) }
     {
         let root = Arc::try_clone(&self.root)?;
-        Ok(Newest { root, layers: self.layers })
+        Ok(Newest {
+            root,
+            layers: self.layers,
+        })
     }
 
     /// What orders the events that the filter chooses: the newest that it matches, as many as the lesser of its limit and

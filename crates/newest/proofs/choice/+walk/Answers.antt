@@ -21,9 +21,14 @@ is_too_early-requires t c =
 
 pub walk-requires : goal.walk-requires
 walk-requires t c =
-    let at : c.args.layers ≡ suc (c.args.layers - 1) = search rules in
-    (search rules, (child_newest c.args.layers (c.args.layers - 1) c.args.node.now c.deref-in-loop-at-3.result.now c.in-Fork.children c.loop-at.at c.index-child.result.now at
-    (ap out-Node c.in-Fork.is ∙ outs-Fork c.in-Fork.children) (search rules) c.index-child.ensures c.deref-in-loop-at-3.ensures c.requires.newest, c.loop-at.invariant.few))
+    let at : c.args.layers ≡ suc (c.args.layers - 1) = search rules in (
+      search rules,
+      (
+        child_newest c.args.layers (c.args.layers - 1) c.args.node.now c.deref-in-loop-at-3.result.now c.in-Fork.children c.loop-at.at c.index-child.result.now at
+            (ap out-Node c.in-Fork.is ∙ outs-Fork c.in-Fork.children) (search rules) c.index-child.ensures c.deref-in-loop-at-3.ensures c.requires.newest,
+        c.loop-at.invariant.few,
+      ),
+    )
 
 pub loop-at-preserved-then-is_too_late : goal.loop-at-preserved-then-is_too_late
 loop-at-preserved-then-is_too_late t c = record {

@@ -32,9 +32,11 @@ returns-then-as_slice-eq0 t c =
 pub grown-requires : goal.grown-requires
 grown-requires t c =
     let at : c.args.layers ≡ suc (c.args.layers - 1) = search rules in
-    let lt : c.node_for-at.result < length c.in-Fork.children.items = search rules in
-    (search rules, child_newest c.args.layers (c.args.layers - 1) c.args.node.now c.deref-in-Fork-2.result.now c.in-Fork.children c.node_for-at.result c.index.result.now at
-    (ap out-Node c.in-Fork.is ∙ outs-Fork c.in-Fork.children) lt c.index.ensures c.deref-in-Fork-2.ensures c.requires)
+    let lt : c.node_for-at.result < length c.in-Fork.children.items = search rules in (
+      search rules,
+      child_newest c.args.layers (c.args.layers - 1) c.args.node.now c.deref-in-Fork-2.result.now c.in-Fork.children c.node_for-at.result c.index.result.now at
+          (ap out-Node c.in-Fork.is ∙ outs-Fork c.in-Fork.children) lt c.index.ensures c.deref-in-Fork-2.ensures c.requires,
+    )
 
 pub returns-in_ok-with_parts-in-Fork : goal.returns-in_ok-with_parts-in-Fork
 returns-in_ok-with_parts-in-Fork t c =

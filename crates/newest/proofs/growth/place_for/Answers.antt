@@ -10,27 +10,27 @@ pub loop-low-preserved-then-is_lt : goal.loop-low-preserved-then-is_lt
 loop-low-preserved-then-is_lt c =
     let few : (c.loop-low.low + (c.loop-low.high - c.loop-low.low) / 2) < length c.args.entries.now = search rules in
     record {
-  low = search rules;
-  high = search rules;
-  passed = c.loop-low.invariant.passed;
-  within =
-      stops_before (seen c.args.entry.now) (map seen c.args.entries.now) _ (seen c.index-entries-middle.result) (omega (arith, few, length-map c.args.entries.now seen))
-      (comes_at (seen c.args.entry.now) c.args.entries.now _ c.index-entries-middle.result c.rank-rank.result c.rank.result _ few c.index-entries-middle.is c.rank-rank.ensures c.rank.ensures
-      (sym (c.is_lt.ensures ∙ ap is_lt c.cmp.ensures) ∙ c.if-is_lt.true));
-}
+      low = search rules;
+      high = search rules;
+      passed = c.loop-low.invariant.passed;
+      within =
+          stops_before (seen c.args.entry.now) (map seen c.args.entries.now) _ (seen c.index-entries-middle.result) (omega (arith, few, length-map c.args.entries.now seen))
+          (comes_at (seen c.args.entry.now) c.args.entries.now _ c.index-entries-middle.result c.rank-rank.result c.rank.result _ few c.index-entries-middle.is c.rank-rank.ensures c.rank.ensures
+          (sym (c.is_lt.ensures ∙ ap is_lt c.cmp.ensures) ∙ c.if-is_lt.true));
+    }
 
 pub loop-low-preserved : goal.loop-low-preserved
 loop-low-preserved c =
     let few : (c.loop-low.low + (c.loop-low.high - c.loop-low.low) / 2) < length c.args.entries.now = search rules in
     record {
-  low = search rules;
-  high = c.loop-low.invariant.high;
-  passed =
-      none_before (seen c.args.entry.now) (map seen c.args.entries.now) _ (seen c.index-entries-middle.result) c.requires (omega (arith, few, length-map c.args.entries.now seen))
-      (comes_at (seen c.args.entry.now) c.args.entries.now _ c.index-entries-middle.result c.rank-rank.result c.rank.result _ few c.index-entries-middle.is c.rank-rank.ensures c.rank.ensures
-      (sym (c.is_lt.ensures ∙ ap is_lt c.cmp.ensures) ∙ c.if-is_lt.false));
-  within = c.loop-low.invariant.within;
-}
+      low = search rules;
+      high = c.loop-low.invariant.high;
+      passed =
+          none_before (seen c.args.entry.now) (map seen c.args.entries.now) _ (seen c.index-entries-middle.result) c.requires (omega (arith, few, length-map c.args.entries.now seen))
+          (comes_at (seen c.args.entry.now) c.args.entries.now _ c.index-entries-middle.result c.rank-rank.result c.rank.result _ few c.index-entries-middle.is c.rank-rank.ensures c.rank.ensures
+          (sym (c.is_lt.ensures ∙ ap is_lt c.cmp.ensures) ∙ c.if-is_lt.false));
+      within = c.loop-low.invariant.within;
+    }
 
 pub returns-clause-place : goal.returns-clause-place
 returns-clause-place c =

@@ -1,4 +1,4 @@
-use Rattle.std.proofs.Common.{◌≡◌, ◌∙◌, sym, ap}
+use Rattle.std.proofs.Common.{◌∙◌, sym, ap}
 use Rattle.std.proofs.lemmas.Result.{IfOk-weaker}
 use Rattle.newest.specs.declared.node.Node.{out-Node}
 use Rattle.newest.specs.declared.node.Node.TheViews.{outs-Leaf, outs-Fork}
