@@ -6,3 +6,4 @@ pub mod Ids
 pub mod Picked
 pub mod Asked
 pub mod Stands
+pub mod Ranked

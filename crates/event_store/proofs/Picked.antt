@@ -28,11 +28,11 @@ use Rattle.event_store.proofs.Ids.{one_id, place_at, place_within}
 
 -- ---- a filter over some of the events, among them all that match
 
-rise_more : (low less high : ℕ) (places : List ℕ) → less ≤ low → Rise low high places → Rise less high places
+pub rise_more : (low less high : ℕ) (places : List ℕ) → less ≤ low → Rise low high places → Rise less high places
 rise_more low less high [] le h = tt
 rise_more low less high (p ∷ places) le h = (omega (arith, h.0), h.1, h.2)
 
-none_at : (low high i : ℕ) (places : List ℕ) → Rise low high places → i < low → list_any (λ p. p == i) places ≡ false
+pub none_at : (low high i : ℕ) (places : List ℕ) → Rise low high places → i < low → list_any (λ p. p == i) places ≡ false
 none_at low high i [] h lt = refl
 none_at low high i (p ∷ places) h lt =
     let le : low ≤ p = h.0 in
@@ -43,7 +43,7 @@ not_true : (b : Bool) → (b ≡ true → true ≡ false) → b ≡ false
 not_true true h = absurd (true≢false (h refl))
 not_true false h = refl
 
-tail_at : (p i : ℕ) (places : List ℕ) → p < i → list_any (λ q. q == i) (p ∷ places) ≡ true → list_any (λ q. q == i) places ≡ true
+pub tail_at : (p i : ℕ) (places : List ℕ) → p < i → list_any (λ q. q == i) (p ∷ places) ≡ true → list_any (λ q. q == i) places ≡ true
 tail_at p i places lt h =
     let other : (p == i) ≡ false = grind (arith, nat_tests) in
     rw other at h
@@ -54,10 +54,10 @@ module _ (m : EventView → Bool) (h : ℕ → Option EventView) where
   Stand n events = (i k : ℕ) (d : EventView) → k ≡ n + i → i < length events → h k ≡ Some (get_or events i d)
 
   -- those that match stand at the places
-  abbrev Whole : ℕ → List EventView → List ℕ → Type 0
+  abbrev pub Whole : ℕ → List EventView → List ℕ → Type 0
   Whole n events places = (i k : ℕ) (d : EventView) → k ≡ n + i → i < length events → m (get_or events i d) ≡ true → list_any (λ p. p == k) places ≡ true
 
-  missed : (n : ℕ) (e : EventView) (events : List EventView) (places : List ℕ) → Whole n (e ∷ events) places → list_any (λ p. p == n) places ≡ false → m e ≡ false
+  pub missed : (n : ℕ) (e : EventView) (events : List EventView) (places : List ℕ) → Whole n (e ∷ events) places → list_any (λ p. p == n) places ≡ false → m e ≡ false
   missed n e events places whole none = not_true (m e) (λ yes. sym (whole 0 n e (omega arith) (omega arith) yes) ∙ none)
 
   cut_down : (n high : ℕ) (events : List EventView) (places : List ℕ) → Rise n high places → high ≡ n + length events → Stand n events → Whole n events places
@@ -160,7 +160,7 @@ have_at f state events ids asked found places same apart named all is at =
 
 -- ---- one turn of a loop
 
-took_more : {X : Type 0} (xs : List X) (i : ℕ) (x : X) → slice_get xs i ≡ Some x → take (i + 1) xs ≡ take i xs ++ x ∷ []
+pub took_more : {X : Type 0} (xs : List X) (i : ℕ) (x : X) → slice_get xs i ≡ Some x → take (i + 1) xs ≡ take i xs ++ x ∷ []
 took_more xs i x at =
     let next : i + 1 ≡ suc i = omega arith in
     ap (λ n. take n xs) next ∙ take-suc xs i x (slice_get_within xs i x at) ∙ ap (λ y. take i xs ++ y ∷ []) (get_or_from_slice_get xs i x x at)

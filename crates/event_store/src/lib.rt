@@ -2,6 +2,7 @@
 #![tactic(auto)]
 
 mod blank;
+mod choosing;
 mod desk;
 mod list;
 mod mark;

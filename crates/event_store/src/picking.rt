@@ -96,14 +96,14 @@ fn last_bound(filter: &Filter) -> Bound
     }
 }
 
-fn listed(alloc: Global, ids: &Bytes32List) -> Result<Vec<Id>, AllocError>
+pub fn listed(alloc: Global, ids: &Bytes32List) -> Result<Vec<Id>, AllocError>
     ensures { IfOk result (λ v. v.items ≡ map id_of_bytes ids.now) }
 {
     ids.as_slice().iter().map(|bytes| Id(*bytes)).collect(alloc)
 }
 
-// The places of the events with these ids, in order.
-fn places_of(alloc: Global, state: &State, ids: &[Id]) -> Result<Vec<usize>, AllocError>
+/// The places of the events with these ids, in order.
+pub fn places_of(alloc: Global, state: &State, ids: &[Id]) -> Result<Vec<usize>, AllocError>
     ensures { IfOk result (λ v. v.items ≡ in_order nat_cmp (places_in state.now ids.now)) }
 {
     let mut places = found(alloc, state, ids)?;

@@ -3,12 +3,14 @@ ghost use Rattle.std.specs.Prelude.{◌≡◌, ◌<◌, ◌≤◌, false, [], �
 ghost use Rattle.nostr_event.specs.EventView.{item_of};
 ghost use Rattle.std.specs.Arc.{arc_value};
 ghost use Rattle.event_store.specs.Events.{has_id, place_in, Distinct};
+ghost use Rattle.newest.specs.Newest.{AreOf};
 ghost use Rattle.event_store.specs.States.{IsState};
 
 use crate::list::EventList;
 use id_map::IdMap;
 use item_roll::Roll;
 use neg_codec::Id;
+use newest::Newest;
 use nostr_event::Event;
 use std::alloc::{AllocError, Global};
 use std::marker::Model;
@@ -20,6 +22,7 @@ pub struct State {
     events: EventList,
     ids: IdMap,
     roll: Arc<Roll>,
+    newest: Newest,
 }
 
 impl Model for State {
@@ -32,7 +35,7 @@ impl Model for State {
 
     ghost view = { λ s. s.events };
 
-    ghost invariant = { λ s. IsState s.events s.ids (arc_value s.roll) };
+    ghost invariant = { λ s. IsState s.events s.ids (arc_value s.roll) s.newest };
 }
 
 impl State {
@@ -46,6 +49,7 @@ impl State {
             events: EventList::new(alloc)?,
             ids: IdMap::new(alloc)?,
             roll: Arc::new(alloc, roll)?,
+            newest: Newest::new(alloc)?,
         })
     }
 
@@ -61,6 +65,13 @@ impl State {
         ensures { IsPermutation (map item_of self.now) (arc_value result.now) }
     {
         &self.roll
+    }
+
+    /// The events in the order in which they are sent.
+    pub fn newest(&self) -> &Newest
+        ensures { AreOf self.now result.now }
+    {
+        &self.newest
     }
 
     /// The place of the event with this id.
@@ -85,7 +96,11 @@ impl State {
     {
         let mut events = self.events.share()?;
         events.push(alloc, event)?;
-        let ids = self.ids.insert(alloc, event.id(), self.events.len())?;
+        let place = self.events.len();
+        let ids = self.ids.insert(alloc, event.id(), place)?;
+        let newest = self
+            .newest
+            .insert(alloc, place, Arc::try_clone(event)?)?;
         self.roll.len();
         let mut roll = self.roll.share(alloc)?;
         let Ok(()) = roll.insert(event.item()) else {
@@ -95,6 +110,7 @@ impl State {
             events,
             ids,
             roll: Arc::new(alloc, roll)?,
+            newest,
         })
     }
 }
