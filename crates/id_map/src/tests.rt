@@ -7,8 +7,7 @@ use std::test::Fail;
 const IDS: u16 = 600;
 
 // An id with the number in two of its bytes, from the place `at` on, at most 30. The others are all the same.
-fn id_of(number: u16, at: usize) -> Id
-{
+fn id_of(number: u16, at: usize) -> Id {
     let [high, low] = number.to_be_bytes();
     let mut bytes = [0x5a; 32];
     bytes[at % 31] = high;
@@ -17,8 +16,7 @@ fn id_of(number: u16, at: usize) -> Id
 }
 
 // A map in which each id has its number for its place.
-fn filled(rt: &impl AllocGlobal, at: usize) -> Result<IdMap, Fail>
-{
+fn filled(rt: &impl AllocGlobal, at: usize) -> Result<IdMap, Fail> {
     let mut map = IdMap::new(rt.alloc())?;
     for number in 0..IDS {
         map = map.insert(rt.alloc(), id_of(number, at), usize::from(number))?;
@@ -27,8 +25,7 @@ fn filled(rt: &impl AllocGlobal, at: usize) -> Result<IdMap, Fail>
 }
 
 // Whether each id but one has its number for its place, and that one this place.
-fn has_all(map: &IdMap, at: usize, but: u16, place: Option<usize>) -> bool
-{
+fn has_all(map: &IdMap, at: usize, but: u16, place: Option<usize>) -> bool {
     for number in 0..IDS {
         let wanted = if number == but {
             place
