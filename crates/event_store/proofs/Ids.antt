@@ -1,6 +1,7 @@
 -- Ids in lists of events, and the places where they stand.
 use Rattle.std.proofs.Common.{◌≡◌, ◌≢◌, ℕ, zero, suc, ◌+◌, ◌<◌, ◌==◌, Bool, true, false, true≢false, cond, ◌||◌, List, [], ◌∷◌, ◌++◌, length, get_or, map, refl, ap, sym, subst, arith, ◌∙◌, Option, None, Some}
-use Rattle.std.specs.Prelude.{is_some, filter_map, bytes_eq, if◌then◌else◌}
+use Rattle.std.specs.Result.{result_ok}
+use Rattle.std.specs.Prelude.{IfSome, IfOk, Result, Ok, Err, is_some, filter_map, bytes_eq, if◌then◌else◌}
 use Rattle.std.specs.List.{list_any, AllByRecursion}
 use Rattle.std.proofs.lemmas.Bool.Decides.{nat_tests}
 use Rattle.std.proofs.lemmas.List.Folds.{list_any_at, list_any-append}
@@ -9,7 +10,7 @@ use Rattle.std.proofs.lemmas.Slice.Eq.{bytes_eq-Decides}
 use mathlib.Core.List.{IsPrefix}
 use Rattle.neg_codec.specs.declared.Id.{Id}
 use Rattle.nostr_event.specs.EventView.{EventView}
-use Rattle.event_store.specs.Events.{has_id, place_from, place_in, places_in, Distinct}
+use Rattle.event_store.specs.Events.{has_id, place_from, place_in, places_in, Distinct, Pinned}
 use Rattle.event_store.proofs.Prefixes.{prefix_trans}
 
 same_bytes : (xs : List ℕ) → bytes_eq xs xs ≡ true
@@ -105,3 +106,16 @@ pub place_within : (n m p : ℕ) (id : Id) (events : List EventView) → place_f
 place_within n m p id [] is len = absurd (cc is)
 place_within n m p id (e ∷ events) is len =
     within_at (bytes_eq e.id.0 id.0) n m p (place_from (n + 1) id events) is (omega (arith, len)) (λ later. place_within (n + 1) m p id events later (omega (arith, len)))
+
+-- a longer list has each id
+pub has_longer : (id : Id) (xs ys : List EventView) → IsPrefix xs ys → has_id id xs ≡ true → has_id id ys ≡ true
+has_longer id xs ys p h = ap (has_id id) (sym p.1) ∙ (list_any-append (λ (y : EventView). bytes_eq y.id.0 id.0) xs p.0 ∙ ap (λ (b : Bool). b || has_id id p.0) h)
+
+-- what was placed and learnt is in what is pinned afterwards
+pub pinned_has : {E : Type 0} (r : Result Pinned E) (o : Option Pinned) (id own : Id) (placed learnt pins : List EventView) → o ≡ result_ok r → own ≡ id → has_id own placed ≡ true → IsPrefix placed learnt → IsPrefix learnt pins
+    → IfOk r (λ s. s.all ≡ pins) → IfSome o (λ s. has_id id s.all ≡ true)
+pinned_has (Ok s) o id own placed learnt pins is named there told kept all =
+    let long : has_id own pins ≡ true = has_longer own placed pins (prefix_trans placed learnt pins told kept) there in
+    let here : has_id id s.all ≡ true = (λ i. has_id (sym named i) (all i)) ∙ long in
+    subst (λ (x : Option Pinned). IfSome x (λ s. has_id id s.all ≡ true)) (sym is) here
+pinned_has (Err e) o id own placed learnt pins is named there told kept all = subst (λ (x : Option Pinned). IfSome x (λ s. has_id id s.all ≡ true)) (sym is) tt
