@@ -13,12 +13,9 @@ ghost use Rattle.item_roll.specs.Closed.{closed_from};
 ghost use Rattle.neg_draft.specs.Coverage.{told_more, before_payload, all_left, Tells, IsPrint, Cut, Told};
 
 use crate::Draft;
-use item_roll::{Roll, minimal_bound};
+use item_roll::{LISTED_BELOW, Roll, minimal_bound};
 use neg_codec::{Bound, Payload, Range};
 use std::alloc::{AllocError, Global};
-
-/// A piece of fewer items is listed.
-const LISTED_BELOW: usize = 32;
 
 /// How many bytes an id has.
 const ID_BYTES: usize = 32;
@@ -27,7 +24,7 @@ const ID_BYTES: usize = 32;
 const PRINT_BYTES: usize = 16;
 
 /// Whether a fingerprint is the roll's own between two bounds, the lower inclusive (Negentropy protocol
-/// V1, "Fingerprint"). It adds up the ids of the items there.
+/// V1, "Fingerprint").
 pub fn is_own_print(roll: &Roll, lower: &Bound, upper: &Bound, print: &[u8; 16]) -> bool
     requires { place (edge_of lower.now) ≤ place (edge_of upper.now) }
     ensures { IsTrue result ↔ (print.now ≡ print_of (ids_of (part roll.now (edge_of lower.now) (edge_of upper.now)))) }
@@ -157,8 +154,8 @@ impl Draft {
     }
 
     /// Tells what the roll has from where the draft has come to up to a bound: the ids where it has fewer
-    /// than 32 items there, else 16 fingerprints. It costs a pass over those items. What doesn't fit is
-    /// told by one fingerprint of all that is left, which ends the message.
+    /// than 32 items there, else 16 fingerprints. What doesn't fit is told by one fingerprint of all that is
+    /// left, which ends the message.
     pub fn tell_split(self, alloc: Global, roll: &Roll, upper: Bound) -> Result<Draft, AllocError>
         requires { place self.end < place (edge_of upper) }
         ensures told { IfOk result (Told roll.now self (edge_of upper)) }
