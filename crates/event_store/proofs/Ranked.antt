@@ -3,10 +3,9 @@ use Rattle.std.proofs.Common.{◌≡◌, ℕ, zero, suc, inl, inr, ◌+◌, ◌<
 use Rattle.std.specs.Prelude.{option_to_list, Result, Ok, Err, IfOk, Vec}
 use Rattle.std.specs.List.{list_any, filter, enumerate_from}
 use Rattle.std.proofs.lemmas.Bool.{cases_lt}
-use Rattle.std.proofs.lemmas.List.{append-nil, take_all}
+use Rattle.std.proofs.lemmas.List.{append-nil, map-append}
 use Rattle.std.proofs.lemmas.Grind.{flat_map-append}
-use Rattle.std.proofs.lemmas.Option.{slice_get-get_or, slice_get_within, get_or_from_slice_get}
-use Rattle.std.proofs.Math.Seq.{take-suc}
+use Rattle.std.proofs.lemmas.Option.{slice_get-get_or}
 use Rattle.std.specs.Arc.{arc_value}
 use Rattle.std.specs.declared.alloc.Global.{Global}
 use Rattle.std.specs.declared.sync.Arc.{Arc}
@@ -92,3 +91,9 @@ ranks_more f events all more places i e lt at is put =
     let last : ranks_from p f (e ∷ []) ≡ flat_map (rank_at f events) (p ∷ []) = sym (append-nil (rank_at f events p) ∙ ap (λ o. ranks_from p f (option_to_list o)) at) in
     put ∙ ap (λ rs. rs ++ ranks_from p f (e ∷ [])) is ∙ ap (λ rs. flat_map (rank_at f events) (take i places) ++ rs) last
     ∙ sym (flat_map-append (rank_at f events) (take i places) (p ∷ [])) ∙ ap (flat_map (rank_at f events)) (sym (took_more places i p (slice_get-get_or places i 0 lt)))
+
+-- one turn of a loop that shares references
+pub arcs_more : (list : List EventView) (all more : List (Arc EventView Global)) (a : Arc EventView Global) (i : ℕ) (e : EventView) → slice_get list i ≡ Some e → map arc_value all ≡ take i list → more ≡ all ++ a ∷ []
+    → arc_value a ≡ e → map arc_value more ≡ take (i + 1) list
+arcs_more list all more a i e at is put same =
+    ap (map arc_value) put ∙ map-append arc_value all (a ∷ []) ∙ (λ j. is j ++ same j ∷ []) ∙ sym (took_more list i e at)

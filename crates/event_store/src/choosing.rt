@@ -1,10 +1,10 @@
 //! The events of a store that filters choose (NIP-01).
-ghost use Rattle.std.specs.Prelude.{◌≡◌, ◌++◌, ◌∷◌, [], List, Some, IfOk, OnOk, map};
+ghost use Rattle.std.specs.Prelude.{◌≡◌, ◌++◌, ◌∷◌, [], List, Some, IfOk, OnOk, map, take};
 ghost use Rattle.std.specs.Arc.{arc_value};
 ghost use Rattle.std.specs.declared.alloc.Global.{Global as AGlobal};
 ghost use Rattle.std.specs.declared.sync.Arc.{Arc as AnArc};
 ghost use Rattle.nostr_event.specs.EventView.{EventView};
-ghost use Rattle.nostr_filter.specs.Choice.{picked, chosen};
+ghost use Rattle.nostr_filter.specs.Choice.{newest_first, in_order, cut_of, picked, chosen};
 ghost use Rattle.event_store.specs.Picking.{HaveMatching, ranks_from};
 
 use crate::list::EventList;
@@ -50,9 +50,16 @@ fn pick_by_ids(
     let ids = listed(alloc, ids)?;
     let places = places_of(alloc, state, ids.as_slice())?;
     let mut ranks = ranks_at(alloc, state.events(), filter, places.as_slice())?;
-    put_in_order(&mut ranks);
-    ranks.truncate(cut(filter));
+    keep_first(&mut ranks, filter);
     Ok(ranks)
+}
+
+// Puts the ranks in order, and keeps as many as the filter chooses at most.
+fn keep_first(ranks: &mut Vec<Rank>, filter: &Filter)
+    ensures { ranks.new.items ≡ take (cut_of filter.now) (in_order newest_first ranks.old.items) }
+{
+    put_in_order(ranks);
+    ranks.truncate(cut(filter));
 }
 
 // What orders the events that the filter matches, of those at the places.
