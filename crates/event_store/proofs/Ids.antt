@@ -79,8 +79,8 @@ place_push n m id e [] is none =
 place_push n m id e (x ∷ events) is none =
     let parts = or_false (bytes_eq x.id.0 e.id.0) (has_id e.id events) none in
     push_at (bytes_eq x.id.0 id.0) (bytes_eq e.id.0 id.0) n m (place_from (n + 1) id events) (place_from (n + 1) id (events ++ e ∷ []))
-        (apart_at x.id.0 e.id.0 id.0 parts.0 (bytes_eq e.id.0 id.0) refl)
-        (place_push (n + 1) m id e events (omega (arith, is)) parts.1)
+    (apart_at x.id.0 e.id.0 id.0 parts.0 (bytes_eq e.id.0 id.0) refl)
+    (place_push (n + 1) m id e events (omega (arith, is)) parts.1)
 
 -- ---- the places of events
 

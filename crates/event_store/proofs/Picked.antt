@@ -67,17 +67,17 @@ module _ (m : EventView → Bool) (h : ℕ → Option EventView) where
   cut_down n high (e ∷ events) [] rise end at whole =
       let skip : m e ≡ false = missed n e events [] whole refl in
       rw skip (cut_down (n + 1) high events [] tt (omega (arith, end)) (λ i k d is lt. at (suc i) k d (omega (arith, is)) (omega (arith, lt)))
-          (λ i k d is lt yes. whole (suc i) k d (omega (arith, is)) (omega (arith, lt)) yes))
+      (λ i k d is lt yes. whole (suc i) k d (omega (arith, is)) (omega (arith, lt)) yes))
   cut_down n high (e ∷ events) (p ∷ places) rise end at whole = elim (cases_lt n p) [
     | inl later ↦
         let skip : m e ≡ false = missed n e events (p ∷ places) whole (none_at p high n (p ∷ places) (omega arith, rise.1, rise.2) later) in
         rw skip (cut_down (n + 1) high events (p ∷ places) (omega (arith, later), rise.1, rise.2) (omega (arith, end)) (λ i k d is lt. at (suc i) k d (omega (arith, is)) (omega (arith, lt)))
-            (λ i k d is lt yes. whole (suc i) k d (omega (arith, is)) (omega (arith, lt)) yes))
+        (λ i k d is lt yes. whole (suc i) k d (omega (arith, is)) (omega (arith, lt)) yes))
     | inr early ↦
         let here : h p ≡ Some e = at 0 p e (omega (arith, rise.0, early)) (omega arith) in
         rw here (ap (λ xs. cond (m e) (e ∷ xs) xs)
-            (cut_down (n + 1) high events places (rise_more (p + 1) (n + 1) high places (omega (arith, rise.0)) rise.2) (omega (arith, end)) (λ i k d is lt. at (suc i) k d (omega (arith, is)) (omega (arith, lt)))
-            (λ i k d is lt yes. tail_at p k places (omega (arith, is, early)) (whole (suc i) k d (omega (arith, is)) (omega (arith, lt)) yes))))
+        (cut_down (n + 1) high events places (rise_more (p + 1) (n + 1) high places (omega (arith, rise.0)) rise.2) (omega (arith, end)) (λ i k d is lt. at (suc i) k d (omega (arith, is)) (omega (arith, lt)))
+        (λ i k d is lt yes. tail_at p k places (omega (arith, is, early)) (whole (suc i) k d (omega (arith, is)) (omega (arith, lt)) yes))))
   ]
 
 pub picked_is : (f : Filter) (events : List EventView) (places : List ℕ) → HaveMatching f events places → matching f (filter_map (slice_get events) places) ≡ matching f events

@@ -62,18 +62,18 @@ module _ (f : Filter) (g : ℕ → List Rank) where
   rank_down n high (e ∷ events) [] rise end at whole =
       let skip : matches_of f e ≡ false = missed (matches_of f) (λ _. None) n e events [] whole refl in
       rw skip (rank_down (n + 1) high events [] tt (omega (arith, end)) (λ i k d is lt. at (suc i) k d (omega (arith, is)) (omega (arith, lt)))
-          (λ i k d is lt hit. whole (suc i) k d (omega (arith, is)) (omega (arith, lt)) hit))
+      (λ i k d is lt hit. whole (suc i) k d (omega (arith, is)) (omega (arith, lt)) hit))
   rank_down n high (e ∷ events) (p ∷ places) rise end at whole = elim (cases_lt n p) [
     | inl later ↦
         let skip : matches_of f e ≡ false = missed (matches_of f) (λ _. None) n e events (p ∷ places) whole (none_at p high n (p ∷ places) (omega arith, rise.1, rise.2) later) in
         rw skip (rank_down (n + 1) high events (p ∷ places) (omega (arith, later), rise.1, rise.2) (omega (arith, end)) (λ i k d is lt. at (suc i) k d (omega (arith, is)) (omega (arith, lt)))
-            (λ i k d is lt hit. whole (suc i) k d (omega (arith, is)) (omega (arith, lt)) hit))
+        (λ i k d is lt hit. whole (suc i) k d (omega (arith, is)) (omega (arith, lt)) hit))
     | inr early ↦
         let same : p ≡ n = omega (arith, rise.0, early) in
         let here : g p ≡ cond (matches_of f e) (rank_of n e ∷ []) [] = at 0 p e (omega (arith, same)) (omega arith) ∙ ap (λ (k : ℕ). cond (matches_of f e) (rank_of k e ∷ []) []) same in
         let rest : flat_map g places ≡ ranks_from (n + 1) f events =
-            rank_down (n + 1) high events places (rise_more (p + 1) (n + 1) high places (omega (arith, rise.0)) rise.2) (omega (arith, end)) (λ i k d is lt. at (suc i) k d (omega (arith, is)) (omega (arith, lt)))
-            (λ i k d is lt hit. tail_at p k places (omega (arith, is, early)) (whole (suc i) k d (omega (arith, is)) (omega (arith, lt)) hit)) in
+        rank_down (n + 1) high events places (rise_more (p + 1) (n + 1) high places (omega (arith, rise.0)) rise.2) (omega (arith, end)) (λ i k d is lt. at (suc i) k d (omega (arith, is)) (omega (arith, lt)))
+        (λ i k d is lt hit. tail_at p k places (omega (arith, is, early)) (whole (suc i) k d (omega (arith, is)) (omega (arith, lt)) hit)) in
         (λ i. here i ++ rest i) ∙ cond_front (matches_of f e) (rank_of n e) (ranks_from (n + 1) f events)
   ]
 
@@ -81,7 +81,7 @@ pub ranked_is : (f : Filter) (events : List EventView) (places : List ℕ) → H
 ranked_is f events places h =
     rank_down f (rank_at f events) 0 (length events) events places h.rise (omega arith)
     (λ i k d is lt. let same : k ≡ i = omega (arith, is) in
-        ap (λ o. ranks_from k f (option_to_list o)) (ap (slice_get events) same ∙ slice_get-get_or events i d lt))
+    ap (λ o. ranks_from k f (option_to_list o)) (ap (slice_get events) same ∙ slice_get-get_or events i d lt))
     (λ i k d is lt hit. let same : i ≡ k = omega (arith, is) in subst (λ n. list_any (λ p. p == n) places ≡ true) same (h.whole i d lt hit))
 
 pub ranks_more : (f : Filter) (events : List EventView) (all more : List Rank) (places : List ℕ) (i : ℕ) (e : EventView) → i < length places → slice_get events (get_or places i 0) ≡ Some e

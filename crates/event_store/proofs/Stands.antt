@@ -58,7 +58,7 @@ items_push events e roll k is keys moved =
     let first : IsPermutation (k ∷ all) (k ∷ (front ++ back)) = IsPermutation-cons k all (front ++ back) (IsPermutation-trans all roll (front ++ back) moved (cut_in_two k roll keys)) in
     subst (λ (xs : List Item). IsPermutation xs (front ++ k ∷ back)) (sym last)
     (IsPermutation-trans (all ++ k ∷ []) (k ∷ all) (front ++ k ∷ back) (IsPermutation-to_front all k)
-        (IsPermutation-trans (k ∷ all) (k ∷ (front ++ back)) (front ++ k ∷ back) first (moved_past front back k)))
+    (IsPermutation-trans (k ∷ all) (k ∷ (front ++ back)) (front ++ k ∷ back) first (moved_past front back k)))
 
 pub nothing_stands : (events : List EventView) (ids : IdMap) (roll : List Item) (newest : List (ℕ × EventView)) → events ≡ [] → ((id : Id) → place_of ids id ≡ None) → IsPermutation [] roll → newest ≡ []
     → IsState events ids roll newest

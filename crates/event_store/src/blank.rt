@@ -3,10 +3,10 @@ ghost use Rattle.std.specs.Prelude.{◌≡◌, ◌<◌, ◌≤◌, ◌^◌, [], 
 ghost use mathlib.Core.List.{IsPrefix};
 ghost use Rattle.event_store.specs.History.{head_of};
 
-use nostr_event::Event;
 use crate::mark::Mark;
 use crate::name::{Law, Naming};
 use logbook::{Seen, Start, Word};
+use nostr_event::Event;
 use std::marker::{Model, PhantomData};
 
 /// A history with no events, which has no name yet. Contracts see it as its book.

@@ -3,9 +3,9 @@ ghost use Rattle.std.specs.Prelude.{◌≡◌, ◌<◌, ◌≤◌, ◌^◌, ◌�
 ghost use mathlib.Core.List.{IsPrefix};
 ghost use Rattle.event_store.specs.History.{head_of};
 
-use nostr_event::Event;
 use crate::name::{Adds, Law, Nothing};
 use logbook::{Offer, Seen, Word};
+use nostr_event::Event;
 use std::marker::Model;
 
 /// Contracts see it as the history's book, and the events.

@@ -1,8 +1,8 @@
 //! The name of a store, and the history that has the events of all time.
 ghost use Rattle.std.specs.Prelude.{◌≡◌};
 
-use nostr_event::Event;
 use logbook::{Gain, Plain, Play, Rule};
+use nostr_event::Event;
 use std::marker::Brand;
 
 /// The rule of the history.

@@ -1,10 +1,10 @@
 //! The rule of the store: what each reader has seen is a beginning of what is published.
-use nostr_event::Event;
 use crate::name::Naming;
 use crate::shown::Shown;
 use crossbeam_utils::rule::{Outcome, Protocol};
 use left_right::reader::Reader;
 use left_right::writer::Writer;
+use nostr_event::Event;
 use std::collections::LinkedList;
 use std::marker::PhantomData;
 

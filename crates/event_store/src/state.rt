@@ -98,9 +98,7 @@ impl State {
         events.push(alloc, event)?;
         let place = self.events.len();
         let ids = self.ids.insert(alloc, event.id(), place)?;
-        let newest = self
-            .newest
-            .insert(alloc, place, Arc::try_clone(event)?)?;
+        let newest = self.newest.insert(alloc, place, Arc::try_clone(event)?)?;
         self.roll.len();
         let mut roll = self.roll.share(alloc)?;
         let Ok(()) = roll.insert(event.item()) else {

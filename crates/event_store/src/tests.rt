@@ -36,7 +36,9 @@ fn event(alloc: Global, number: u64, time: u64) -> Option<Arc<Event>> {
 
 fn read(alloc: Global, id: &Id, number: u64, time: u64) -> Option<Arc<Event>> {
     let id = hex::encode(alloc, id.0.as_slice()).ok()?;
-    let text = format!(in alloc; "{{\"id\":\"{id}\",\"pubkey\":\"{KEY}\",\"created_at\":{time},\"kind\":1,\"tags\":[],\"content\":\"{number}\",\"sig\":\"{SIG}\"}}").ok()?;
+    let text = format!(in alloc;
+        "{{\"id\":\"{id}\",\"pubkey\":\"{KEY}\",\"created_at\":{time},\"kind\":1,\"tags\":[],\"content\":\"{number}\",\"sig\":\"{SIG}\"}}"
+    ).ok()?;
     let value = Value::from_str(alloc, text.as_str()).ok()?;
     Arc::new(alloc, Event::from_json(alloc, &value).ok()?).ok()
 }
@@ -127,7 +129,12 @@ fn pins_beside<J: Naming, D: Wait + Drop, R: Wait>(
     reader.learn(&placed);
     let after = reader.pin(alloc, &Filter::all()).ok()?;
     let same = begins(before.events(), after.events());
-    Some((before.front(), before.roll().len(), after.events().len(), same))
+    Some((
+        before.front(),
+        before.roll().len(),
+        after.events().len(),
+        same,
+    ))
 }
 
 // Filters, and the times of the events that they match, in the order of publishing.
@@ -151,7 +158,10 @@ static CHOICES: [(&str, &[usize]); 4] = [
 
 #[test]
 fn filters_pick_and_choose(rt: HostRuntime) -> Result<(), Fail> {
-    assert_eq!(rt; picks::<Brand, _, _>(&rt, &rt, rt.alloc(), Blank::new()), Some((true, true, true)));
+    assert_eq!(rt;
+        picks::<Brand, _, _>(&rt, &rt, rt.alloc(), Blank::new()),
+        Some((true, true, true))
+    );
     Ok(())
 }
 
@@ -170,7 +180,11 @@ fn picks<J: Naming, D: Wait + Drop, R: Wait>(
     insert_all(rt, alloc, &mut desk, 0, 100)?;
     let picked = all_picked(alloc, &mut reader)?;
     let all = reader.pin(alloc, &Filter::all()).ok()?;
-    Some((picked, all_chosen(alloc, &all)?, by_ids(alloc, &mut reader, &all)?))
+    Some((
+        picked,
+        all_chosen(alloc, &all)?,
+        by_ids(alloc, &mut reader, &all)?,
+    ))
 }
 
 fn all_picked<J: Naming>(alloc: Global, reader: &mut Reader<J>) -> Option<bool> {
@@ -202,7 +216,12 @@ fn by_ids<J: Naming>(alloc: Global, reader: &mut Reader<J>, all: &Snapshot) -> O
         return None;
     }
     let mut ids = Vec::new(alloc);
-    for id in [events.get(70).id(), events.get(3).id(), events.get(70).id(), Id([9; 32])] {
+    for id in [
+        events.get(70).id(),
+        events.get(3).id(),
+        events.get(70).id(),
+        Id([9; 32]),
+    ] {
         ids.push(id.0).ok()?;
     }
     let mut named = Filter::all();
@@ -211,12 +230,19 @@ fn by_ids<J: Naming>(alloc: Global, reader: &mut Reader<J>, all: &Snapshot) -> O
     let times = times_of(alloc, pinned.events())?;
     let whole = all.choose(alloc, &[named]).ok()?;
     let part = pinned.choose(alloc, &[Filter::all()]).ok()?;
-    Some(times.as_slice() == [11, 90].as_slice() && whole.as_slice() == [70, 3].as_slice() && part.as_slice() == [1, 0].as_slice())
+    Some(
+        times.as_slice() == [11, 90].as_slice()
+            && whole.as_slice() == [70, 3].as_slice()
+            && part.as_slice() == [1, 0].as_slice(),
+    )
 }
 
 #[test]
 fn a_full_store(rt: HostRuntime) -> Result<(), Fail> {
-    assert_eq!(rt; fills_up::<Brand, _, _>(&rt, &rt, rt.alloc(), Blank::new()), Some((2, false, 2)));
+    assert_eq!(rt;
+        fills_up::<Brand, _, _>(&rt, &rt, rt.alloc(), Blank::new()),
+        Some((2, false, 2))
+    );
     Ok(())
 }
 
@@ -232,7 +258,10 @@ fn fills_up<J: Naming, D: Wait + Drop, R: Wait>(
 {
     let (mut desk, _readers) = open_small::<J, D>(keep, alloc, blank, 1, 2).ok()?;
     insert_all(rt, alloc, &mut desk, 0, 2)?;
-    let Err((InsertFault::Full(filled), _)) = desk.insert(rt, event(alloc, 2, 2)?) else {
+    let Err((fault, _event)) = desk.insert(rt, event(alloc, 2, 2)?) else {
+        return None;
+    };
+    let InsertFault::Full(filled) = fault else {
         return None;
     };
     let repeat = desk.insert(rt, event(alloc, 1, time_of(1))?).ok()?;
@@ -290,7 +319,10 @@ fn insert_again<J: Naming, D: Wait + Drop, R: Wait>(
 
 #[test]
 fn a_desk_behind_a_lock(rt: HostRuntime) -> Result<(), Fail> {
-    assert_eq!(rt; locks::<Brand, _, _>(&rt, &rt, rt.alloc(), Blank::new()), Some(1));
+    assert_eq!(rt;
+        locks::<Brand, _, _>(&rt, &rt, rt.alloc(), Blank::new()),
+        Some(1)
+    );
     Ok(())
 }
 

@@ -2,11 +2,11 @@
 
 use crate::waiting::{put, send};
 use crate::{
-    LineFault, Lists, Refusal, place_items, read_input, read_lists, read_rolls, reconcile, run_recon,
-    write_recon,
+    LineFault, Lists, Refusal, place_items, read_input, read_lists, read_rolls, reconcile,
+    run_recon, write_recon,
 };
-use neg_codec::{Id, Item};
 use item_roll::Roll;
+use neg_codec::{Id, Item};
 use neg_session::{Pair, Peer};
 use std::alloc::Global;
 use std::collections::BTreeSet;
@@ -224,7 +224,9 @@ fn a_session_of_a_text(rt: HostRuntime) -> Result<(), Fail> {
     let text = read_input(alloc, &mut text.as_str().as_bytes())
         .ok()
         .ok_or("refused")?;
-    let (peer, found) = reconcile(alloc, text.as_str(), 4_096).ok().ok_or("refused")?;
+    let (peer, found) = reconcile(alloc, text.as_str(), 4_096)
+        .ok()
+        .ok_or("refused")?;
     assert!(rt; peer.pairs().len() == 1 && peer.failures() == 0);
     assert!(rt; found.need.len() == 1 && found.need.contains(&Id([0xcc; 32])));
     assert!(rt; found.have.len() == 1 && found.have.contains(&Id([0xbb; 32])));

@@ -110,7 +110,7 @@ passes_left a front r back f d new le (inl h) p = inl (
   ap (λ (w : Written). w.spans) p.now ∙ h.0,
   ap (λ (w : Written). place w.end) p.now ∙ passed_place d r.upper le ∙ ap place (sym (end-append least front (r ∷ []))),
   subst (λ (ss : List Stretch). All (IsOver a) ss) (sym (closed-append least front (r ∷ [])))
-  (All-push (IsOver a) (closed_from least front) (begun_at (end_of least front) r) h.2 (λ keys. answered_of a f (end_of least front) r.upper r.claim (p.accounts (end_of least front) (omega arith, keys)))),
+      (All-push (IsOver a) (closed_from least front) (begun_at (end_of least front) r) h.2 (λ keys. answered_of a f (end_of least front) r.upper r.claim (p.accounts (end_of least front) (omega arith, keys)))),
 )
 passes_left a front r back f d new le (inr h) p = inr ((λ e. h.0 (sym (ap (λ (w : Written). w.spans) p.now) ∙ e)), h.1)
 
@@ -195,10 +195,13 @@ read_until limit a front back until old f d up fits s over = record {
   found = s.found;
   covers = subst (λ (w : Written). Covers (IsTrueOf a) (MayDrop a (front ++ back) until f) (MustDrop a (front ++ back)) w) (stays d over) s.covers;
   leaves = elim s.left [
-    | inl h ↦ inl (h.0, λ o. elim (Contains-append_cases (closed_from least front) (closed_from (end_of least front) back) o.0 (subst (λ (ss : List Stretch). Contains ss o.0) (closed-append least front back) o.1)) [
-      | inl was ↦ o.3 (All-contains (IsOver a) (closed_from least front) o.0 h.2 was o.2)
-      | inr behind ↦ none_beyond (end_of least front) back (ascends_back least front back up) (all_back IsSpan front back fits) (omega (arith, over, h.1)) o.0 behind o.2
-    ])
+    | inl h ↦ inl (
+      h.0,
+      λ o. elim (Contains-append_cases (closed_from least front) (closed_from (end_of least front) back) o.0 (subst (λ (ss : List Stretch). Contains ss o.0) (closed-append least front back) o.1)) [
+        | inl was ↦ o.3 (All-contains (IsOver a) (closed_from least front) o.0 h.2 was o.2)
+        | inr behind ↦ none_beyond (end_of least front) back (ascends_back least front back up) (all_back IsSpan front back fits) (omega (arith, over, h.1)) o.0 behind o.2
+      ],
+    )
     | inr h ↦ inr h
   ];
 }

@@ -107,7 +107,7 @@ stepped_at limit a ranges i r old f g d new lt is up draft was finds settles =
 pub progress_at : (limit : ℕ) (a : List Item) (ranges : List Range) (i : ℕ) (r : Range) (old f : Findings) (d : Written) → i < length ranges → r ≡ get_or ranges i r
     → Stepped limit a (map span_of ranges) (map span_of (take (i + 1) ranges)) (edge_of r.upper) old f d → (place infinity ≤ place d.end → ⊥) → Progress limit a (map span_of ranges) (map span_of (take (i + 1) ranges)) old f d
 progress_at limit a ranges i r old f d lt is s fin =
-    subst (λ (x : List Span). Progress limit a (map span_of ranges) x old f d) (sym (ranges_upto ranges i r lt is)) 
+    subst (λ (x : List Span). Progress limit a (map span_of ranges) x old f d) (sym (ranges_upto ranges i r lt is))
     (step_on limit a (map span_of ranges) (map span_of (take i ranges)) (span_of r) old f d (subst (λ (x : List Span). Stepped limit a (map span_of ranges) x (edge_of r.upper) old f d) (ranges_upto ranges i r lt is) s) fin)
 
 -- the reply was read up to a range with which the next ask came to its end

@@ -79,11 +79,7 @@ fn note_new(into: &mut BTreeSet<Id>, id: &Id, others: &BTreeSet<Id>) -> Result<(
 }
 
 /// Puts the ids of a list in that the others lack, however many there are.
-fn note_own(
-    into: &mut BTreeSet<Id>,
-    own: &[Id],
-    others: &BTreeSet<Id>,
-) -> Result<(), AllocError>
+fn note_own(into: &mut BTreeSet<Id>, own: &[Id], others: &BTreeSet<Id>) -> Result<(), AllocError>
     ensures { OnOk result (Notes others.now.keys own.now into.old.keys into.new.keys) }
 {
     for id in own {

@@ -10,7 +10,7 @@ pub ranks_at-requires : goal.ranks_at-requires
 ranks_at-requires c =
     let asked = listed_asked c.args.filter.now c.args.ids.now c.in_ok-ids.ids.items c.args.state.now c.requires c.in_ok-ids.ensures in
     have_at c.args.filter.now c.args.state.now c.events.result.now c.in_ok-ids.ids.items c.as_slice.result.now c.in_ok-places.places.items c.as_slice-2.result.now
-        c.events.ensures.list c.events.ensures.distinct c.as_slice.ensures.value asked c.in_ok-places.ensures c.as_slice-2.ensures.value
+    c.events.ensures.list c.events.ensures.distinct c.as_slice.ensures.value asked c.in_ok-places.ensures c.as_slice-2.ensures.value
 
 pub returns : goal.returns
 returns c events same =

@@ -11,7 +11,7 @@ get-requires c = place_in_range 0 (length c.args.events.now) c.args.places.now c
 pub loop-place-preserved : goal.loop-place-preserved
 loop-place-preserved c =
     ranks_more c.args.filter.now c.args.events.now c.loop-place.ranks.items c.put_rank.new.ranks.items c.args.places.now c.loop-place.place-index (arc_value c.get.result.now) c.loop-place-test.true c.get.ensures c.loop-place.invariant
-        c.in_ok-put_rank.ensures
+    c.in_ok-put_rank.ensures
 
 pub returns : goal.returns
 returns c =

@@ -13,4 +13,4 @@ returns-in_ok-ids c =
     let le : place l ≤ place u = not_below c.is_below.ensures c.if-is_below.false in
     let part_is = ap (λ n. slice_range c.args.roll.now n c.find-hi.result) c.find-lo.ensures.value ∙ sym (c.find-hi.ensures.part l le) in
     part_within c.args.filter.now c.args.roll.now l u c.in_ok-ids.field-0.items (c.in_ok-ids.ensures ∙ ap ids_of part_is)
-        (λ k there. subst IsKey there.2 (c.find-hi.ensures.roll.keys there.0 k there.1)) c.first_bound-lower.ensures c.last_bound-upper.ensures
+    (λ k there. subst IsKey there.2 (c.find-hi.ensures.roll.keys there.0 k there.1)) c.first_bound-lower.ensures c.last_bound-upper.ensures

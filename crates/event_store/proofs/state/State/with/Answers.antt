@@ -24,6 +24,6 @@ invariant_of-result-2 c =
     let ordered = subst (λ (xs : List Item). IsRoll xs) c.deref-2.ensures c.len.ensures.roll in
     let put = c.in_ok-new.ensures.ok ∙ c.in-Ok.ensures.ok ∙ ap (λ xs. part xs least k ++ k ∷ part xs k infinity) (c.in_ok-roll.ensures ∙ c.deref-3.ensures) in
     let among = subst (λ (v : EventView). AreOf (old.events ++ v ∷ []) c.in_ok-newest.newest) c.in_ok-try_clone.ensures
-        (subst (λ r. IfOk r (λ n. AreOf (old.events ++ arc_value c.in_ok-try_clone.field-0 ∷ []) n)) c.in_ok-newest.was (c.insert-2.ensures.events old.events c.self.invariant.ordered)) in
+    (subst (λ r. IfOk r (λ n. AreOf (old.events ++ arc_value c.in_ok-try_clone.field-0 ∷ []) n)) c.in_ok-newest.was (c.insert-2.ensures.events old.events c.self.invariant.ordered)) in
     let counted = subst (λ r. IfOk r (λ n. length n ≡ length old.newest + 1)) c.in_ok-newest.was c.insert-2.ensures.len in
     more_stands old.events _ old.ids c.in_ok-ids.ids (arc_value old.roll) _ old.newest c.in_ok-newest.newest e k c.self.invariant none is sets ordered (c.item.ensures.value ∙ ap item_of c.deref-4.ensures) put among counted
