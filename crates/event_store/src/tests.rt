@@ -62,7 +62,7 @@ fn insert_all<J: Naming, D: Wait + Drop, R: Wait>(
 
 // The numbers from 0 to 99 have the times from 0 to 99.
 fn time_of(number: u64) -> u64 {
-    number.wrapping_mul(37) % 100 + number / 100 * 100
+    (number.wrapping_mul(37) % 100).wrapping_add(number / 100 * 100)
 }
 
 fn times_of(alloc: Global, events: &EventList) -> Option<Vec<u64>> {
