@@ -11,10 +11,8 @@ use nostr_filter::{Bytes32List, Filter};
 use serde_json::Value;
 use std::alloc::{AllocError, Global};
 use std::marker::Brand;
-use std::sync::atomic::{AtomicU64, Ordering};
 use std::sync::{Arc, Mutex, Wait};
 use std::test::*;
-use std::thread::{Threads, join};
 
 const KEY: &str = "0101010101010101010101010101010101010101010101010101010101010101";
 
@@ -367,8 +365,8 @@ fn told_reader(rt: HostRuntime) -> Result<(), Fail> {
     Ok(())
 }
 
-// How many pins went back while events were inserted, and how many events a reader has that learnt the last.
-fn tells<J: Naming + Send + Sync, D: Wait + Drop + Send, R: Threads + Wait + Sync>(
+// How many pins went back while events were inserted, and how many events another reader has that learnt the last.
+fn tells<J: Naming, D: Wait + Drop, R: Wait>(
     rt: &R,
     keep: D,
     alloc: Global,
@@ -377,56 +375,33 @@ fn tells<J: Naming + Send + Sync, D: Wait + Drop + Send, R: Threads + Wait + Syn
     requires book { blank ≡ J.book }
     requires most { J.most ≡ 1000000 }
 {
-    let (desk, mut readers) = open_store::<J, D>(keep, alloc, blank, 2).ok()?;
-    let watcher = readers.pop()?;
+    let (mut desk, mut readers) = open_store::<J, D>(keep, alloc, blank, 2).ok()?;
     let mut told = readers.pop()?;
-    let stop = AtomicU64::new(0);
-    let stopping = &stop;
-    let ((_desk, last), back) = join(
-        rt,
-        move || fill(rt, alloc, desk, stopping),
-        move || watch(alloc, watcher, stopping),
-    );
-    told.learn(&last?);
+    let (last, back) = watched(rt, alloc, &mut desk, &mut readers.pop()?)?;
+    told.learn(&last);
     let all = told.pin(alloc, &Filter::all()).ok()?;
-    Some((back?, all.events().len()))
+    Some((back, all.events().len()))
 }
 
-// Inserts a hundred events, and answers the last.
-fn fill<J: Naming, D: Wait + Drop, R: Wait>(
+// Inserts a hundred events, and pins after each: the last one, and how many pins aren't a beginning of the next.
+fn watched<J: Naming, D: Wait + Drop, R: Wait>(
     rt: &R,
     alloc: Global,
-    desk: Desk<J, D>,
-    stop: &AtomicU64,
-) -> (Desk<J, D>, Option<Placed<J>>) {
-    let mut desk = desk;
-    let mut last = None;
-    for number in 0..100 {
-        if let Some(event) = event(alloc, number, number) {
-            last = desk.insert(rt, event).ok();
-        }
-    }
-    stop.store(1, Ordering::SeqCst);
-    (desk, last)
-}
-
-// Pins until it is told to stop, and counts the pins that aren't a beginning of the next, or none where one failed.
-fn watch<J: Naming>(alloc: Global, reader: Reader<J>, stop: &AtomicU64) -> Option<u64> {
-    let mut reader = reader;
+    desk: &mut Desk<J, D>,
+    reader: &mut Reader<J>,
+) -> Option<(Placed<J>, u64)> {
     let mut back = 0u64;
+    let mut placed = insert_all(rt, alloc, desk, 0, 1)?;
     let mut last = reader.pin(alloc, &Filter::all()).ok()?;
-    for _ in 0..u64::MAX {
-        let done = stop.load(Ordering::SeqCst) == 1;
+    for number in 1..100 {
+        placed = insert_all(rt, alloc, desk, number, 1)?;
         let next = reader.pin(alloc, &Filter::all()).ok()?;
         if !begins(last.events(), next.events()) {
             back = back.wrapping_add(1);
         }
         last = next;
-        if done {
-            break;
-        }
     }
-    Some(back)
+    Some((placed, back))
 }
 
 fn begins(first: &EventList, next: &EventList) -> bool {
