@@ -128,12 +128,13 @@ fn a_file_lends_its_lists_and_is_written(rt: HostRuntime) -> Result<(), Fail> {
         group: &[1, 255],
     };
     let file = file_of(rt.alloc(), lists)?.ok().ok_or("no file")?;
+    let first = file.offers().first().ok_or("no offer")?;
     let lent = file.bases() == lists.bases
         && file.gives() == [(Id([171; 32]), 100u16)].as_slice()
         && file.group() == lists.group
         && file.offers().len() == 1
-        && file.offers()[0].0 == Id([171; 32])
-        && file.offers()[0].1.as_slice() == lists.offers[0].1;
+        && first.0 == Id([171; 32])
+        && first.1.as_slice() == [3u16, 100].as_slice();
     assert!(rt; lent);
     assert!(rt;
         write_plan(rt.alloc(), &file)?.as_str()

@@ -51,15 +51,19 @@ fn first_other<'a>(
     Ok(None)
 }
 
-/// The first of these patterns that isn't refused by this line.
+/// The first of these patterns that isn't refused by this line, for its form or its order.
 fn first_taken<'a>(
     alloc: Global,
     rows: &[(&'a str, usize)],
-    fault: fn(usize) -> PlanFault,
+    form: bool,
 ) -> Result<Option<&'a str>, AllocError> {
     for (pattern, line) in rows {
         let text = text_of(alloc, pattern)?;
-        let refused = Some(fault(*line));
+        let refused = Some(if form {
+            PlanFault::Line(*line)
+        } else {
+            PlanFault::Order(*line)
+        });
         if read_plan(alloc, text.as_str()).err() != refused || scan_plan(text.as_str()).err() != refused {
             return Ok(Some(*pattern));
         }
@@ -180,7 +184,7 @@ fn texts_are_refused_by_line(rt: HostRuntime) -> Result<(), Fail> {
         ("nostr-plan 1\noffer A 0\ngive A 0\n", 4),
         ("nostr-plan 1\noffer B 0\noffer A 0\ngroup 256\n", 4),
     ];
-    assert_eq!(rt; first_taken(rt.alloc(), &rows, PlanFault::Line)?, None);
+    assert_eq!(rt; first_taken(rt.alloc(), &rows, true)?, None);
     Ok(())
 }
 
@@ -203,7 +207,7 @@ fn texts_out_of_order_are_refused(rt: HostRuntime) -> Result<(), Fail> {
             4,
         ),
     ];
-    assert_eq!(rt; first_taken(rt.alloc(), &rows, PlanFault::Order)?, None);
+    assert_eq!(rt; first_taken(rt.alloc(), &rows, false)?, None);
     Ok(())
 }
 

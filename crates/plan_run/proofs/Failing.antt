@@ -26,10 +26,10 @@ module _ (one_fault : OneFault) (text : List ℕ) where
 
   -- one line is at fault
   same_line : (n m : ℕ) (f g : LineFault) → IsLineRefusal text n f → IsLineRefusal text m g → AtLine m g ≡ AtLine n f
-  same_line n m Form Form h k = let e : Err {T = File} (Line m) ≡ Err (Line n) = one_fault text (Line n) (Err (Line m)) h k in let s : m ≡ n = cc in ap (λ k. AtLine k Form) s
-  same_line n m Disorder Disorder h k = let e : Err {T = File} (Order m) ≡ Err (Order n) = one_fault text (Order n) (Err (Order m)) h k in let s : m ≡ n = cc in ap (λ k. AtLine k Disorder) s
-  same_line n m Form Disorder h k = absurd (let e : Err {T = File} (Order m) ≡ Err (Line n) = one_fault text (Line n) (Err (Order m)) h k in cc)
-  same_line n m Disorder Form h k = absurd (let e : Err {T = File} (Line m) ≡ Err (Order n) = one_fault text (Order n) (Err (Line m)) h k in cc)
+  same_line n m Form Form h k = let e = one_fault text (Line n) (Err (Line m)) h k in let s : m ≡ n = cc in ap (λ k. AtLine k Form) s
+  same_line n m Disorder Disorder h k = let e = one_fault text (Order n) (Err (Order m)) h k in let s : m ≡ n = cc in ap (λ k. AtLine k Disorder) s
+  same_line n m Form Disorder h k = absurd (let e = one_fault text (Line n) (Err (Order m)) h k in cc)
+  same_line n m Disorder Form h k = absurd (let e = one_fault text (Order n) (Err (Line m)) h k in cc)
   same_line n m Form Infinity h k = absurd k
   same_line n m Form Present h k = absurd k
   same_line n m Form Full h k = absurd k
