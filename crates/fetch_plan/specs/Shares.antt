@@ -1,20 +1,14 @@
 -- Offered ids, each given to one of the relays that offer it.
-use Rattle.std.specs.Prelude.{◌≡◌, ℕ, ◌+◌, ◌<◌, ◌≤◌, ◌==◌, Bool, true, false, List, [], length, slice_index_or, count_by, map}
+use Rattle.std.specs.Prelude.{◌≡◌, ℕ, ◌+◌, ◌<◌, ◌==◌, true, List, length, slice_index_or, count_by, map, [], cond}
 use Rattle.sharing.specs.declared.TheConstants.{RELAYS}
-use Rattle.sharing.specs.Sharing.{is_among, IsGreatest}
+use Rattle.sharing.specs.Sharing.{is_among}
 use Rattle.neg_codec.specs.declared.Id.{Id}
-use Rattle.fetch_plan.specs.Plan.{AreLoads}
+use Rattle.fetch_plan.specs.declared.shares.Share.{Share}
 
--- an id, the relays that offer it, and the one of them that it is given to
-pub record Share : Type 0 where
-  pub id : Id
-  pub relays : List ℕ
-  pub relay : ℕ
-
--- the relay that the share at this place is given to, and those that offer it
 abbrev pub no_share : Share
 no_share = record { id = record { 0 = [] }; relays = []; relay = 0 }
 
+-- the relay that the share at this place is given to, and those that offer it
 unfoldable pub given : List Share → ℕ → ℕ
 given shares k = (slice_index_or shares k no_share).relay
 
@@ -24,18 +18,6 @@ offered shares k = (slice_index_or shares k no_share).relays
 -- the number of shares that are given to relay r
 abbrev pub held : List Share → ℕ → ℕ
 held shares r = count_by (λ s. s.relay == r) shares
-
-unfoldable pub is_marked : List Bool → ℕ → Bool
-is_marked marked r = slice_index_or marked r false
-
--- with a relay, each relay that offers what is given to it is marked
-abbrev pub IsClosed : List Share → List Bool → Type 0
-IsClosed shares marked =
-    (k r : ℕ) → k < length shares → is_marked marked (given shares k) ≡ true → is_among (offered shares k) r ≡ true → is_marked marked r ≡ true
-
-abbrev pub IsClosedTest : List Share → (ℕ → Bool) → Type 0
-IsClosedTest shares test =
-    (k r : ℕ) → k < length shares → test (given shares k) ≡ true → is_among (offered shares k) r ≡ true → test r ≡ true
 
 -- each share is given to a relay that offers it
 pub record AreOffered (shares : List Share) : Type 0 where
@@ -50,19 +32,14 @@ offers_of shares = map (λ s. (s.id, s.relays)) shares
 abbrev pub gives_of : List Share → List (Id × ℕ)
 gives_of shares = map (λ s. (s.id, s.relay)) shares
 
--- no relay is outside that is reached by moves from the busiest ones, and all that are inside are reached and have almost as many
-pub record IsSettled (shares : List Share) (most : ℕ) (marked : List Bool) : Type 0 where
-  pub greatest : IsGreatest (held shares) most
-  pub busiest : (r : ℕ) → r < RELAYS → held shares r ≡ most → is_marked marked r ≡ true
-  pub closed : IsClosed shares marked
-  pub high : (r : ℕ) → is_marked marked r ≡ true → most ≤ held shares r + 1
-  pub least : (test : ℕ → Bool) → ((r : ℕ) → held shares r ≡ most → test r ≡ true) → IsClosedTest shares test → (r : ℕ) → is_marked marked r ≡ true → test r ≡ true
+-- each relay's load begins at its base, and has one more for each share
+abbrev pub AreLoads : (ℕ → ℕ) → List Share → List ℕ → Type 0
+AreLoads base shares loads = (r : ℕ) → r < RELAYS → slice_index_or loads r 0 ≡ base r + held shares r
 
--- the gives of offers that are shared out, with the loads of relays and the relays that chains of moves reach
-pub record AreSharedOut (offers : List (Id × List ℕ)) (gives : List (Id × ℕ)) (loads : List ℕ) (marked : List Bool) : Type 0 where
-  pub shares : List Share
-  pub offers_ok : offers_of shares ≡ offers
-  pub gives_ok : gives_of shares ≡ gives
-  pub offered_ok : AreOffered shares
-  pub loads_ok : AreLoads gives loads
-  pub settled : (most : ℕ) × IsSettled shares most marked
+-- one share fewer for the relay from, and one more for the relay to
+abbrev pub IsMoved : List Share → List Share → ℕ → ℕ → Type 0
+IsMoved old new from to = (r : ℕ) → held new r + cond (from == r) 1 0 ≡ held old r + cond (to == r) 1 0
+
+-- loads change as the numbers of shares do
+abbrev pub KeepPace : List Share → List ℕ → List Share → List ℕ → Type 0
+KeepPace shares loads shares_new loads_new = (r : ℕ) → r < RELAYS → slice_index_or loads_new r 0 + held shares r ≡ slice_index_or loads r 0 + held shares_new r
