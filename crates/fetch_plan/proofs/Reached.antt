@@ -6,37 +6,37 @@ use Rattle.std.proofs.lemmas.Bool.{false≢true, cases_eq, cases_lt, or_left, or
 use Rattle.std.proofs.lemmas.List.{get_or-set_same, get_or-set_other, length-set, get_or-replicate, get_or_past, length-replicate}
 use Rattle.std.proofs.lemmas.List.Sums.{sum_by-cons}
 use Rattle.sharing.specs.Sharing.{is_among}
-use Rattle.fetch_plan.specs.declared.shares.Share.{Share}
-use Rattle.fetch_plan.specs.Shares.{given, offered}
-use Rattle.fetch_plan.specs.Chains.{set_at, at, LeadsBelow, IsBeyond, PassesOn, Begins, IsWay, AreReached, IsClosed, IsSettled}
+use Rattle.neg_codec.specs.declared.Id.{Id}
+use Rattle.fetch_plan.specs.Takers.{at, offered}
+use Rattle.fetch_plan.specs.Chains.{set_at, LeadsBelow, IsBeyond, PassesOn, Begins, IsWay, AreReached, IsClosed, IsSettled}
 use Rattle.fetch_plan.proofs.Readers.{set_here, set_there, one_more}
 
--- of no shares
-pub beyond_none : (shares : List Share) (beyond : List (List ℕ)) → ((r s : ℕ) → is_among (set_at beyond r) s ≡ false) → IsBeyond shares 0 beyond
-beyond_none shares beyond none = record { sound = λ r s m. absurd (false≢true (sym (none r s) ∙ m)); whole = λ k s lt. absurd (omega arith) }
+-- of no ids
+pub beyond_none : (offers : List (Id × List ℕ)) (takers : List ℕ) (beyond : List (List ℕ)) → ((r s : ℕ) → is_among (set_at beyond r) s ≡ false) → IsBeyond offers takers 0 beyond
+beyond_none offers takers beyond none = record { sound = λ r s m. absurd (false≢true (sym (none r s) ∙ m)); whole = λ k s lt. absurd (omega arith) }
 
--- one share more
-pub beyond_more : (shares : List Share) (n : ℕ) (beyond : List (List ℕ)) (now : List ℕ) → IsBeyond shares n beyond → given shares n < length beyond →
-    ((r : ℕ) → is_among now r ≡ (is_among (set_at beyond (given shares n)) r || is_among (offered shares n) r)) → IsBeyond shares (n + 1) (set beyond (given shares n) now)
-beyond_more shares n beyond now h lt member =
-    let slot : ℕ = given shares n in
+-- one id more
+pub beyond_more : (offers : List (Id × List ℕ)) (takers : List ℕ) (n : ℕ) (beyond : List (List ℕ)) (now : List ℕ) → IsBeyond offers takers n beyond → at takers n < length beyond →
+    ((r : ℕ) → is_among now r ≡ (is_among (set_at beyond (at takers n)) r || is_among (offered offers n) r)) → IsBeyond offers takers (n + 1) (set beyond (at takers n) now)
+beyond_more offers takers n beyond now h lt member =
+    let slot : ℕ = at takers n in
     let after : List (List ℕ) = set beyond slot now in
-    let here : (s : ℕ) → is_among (set_at after slot) s ≡ (is_among (set_at beyond slot) s || is_among (offered shares n) s) = λ s. ap (λ xs. is_among xs s) (set_here beyond slot now lt) ∙ member s in
-    let more : (r s : ℕ) → LeadsBelow shares n r s → LeadsBelow shares (n + 1) r s = λ r s w. (w.0, omega (arith, w.1), w.2, w.3) in
+    let here : (s : ℕ) → is_among (set_at after slot) s ≡ (is_among (set_at beyond slot) s || is_among (offered offers n) s) = λ s. ap (λ xs. is_among xs s) (set_here beyond slot now lt) ∙ member s in
+    let more : (r s : ℕ) → LeadsBelow offers takers n r s → LeadsBelow offers takers (n + 1) r s = λ r s w. (w.0, omega (arith, w.1), w.2, w.3) in
     record {
       sound = λ r s m. elim (cases_eq r slot) [
-        | inl e ↦ elim (or_cases (is_among (set_at beyond slot) s) (is_among (offered shares n) s) (sym (here s) ∙ ap (λ r. is_among (set_at after r) s) (sym e) ∙ m)) [
-          | inl old ↦ more r s (subst (λ r. LeadsBelow shares n r s) (sym e) (h.sound slot s old))
+        | inl e ↦ elim (or_cases (is_among (set_at beyond slot) s) (is_among (offered offers n) s) (sym (here s) ∙ ap (λ r. is_among (set_at after r) s) (sym e) ∙ m)) [
+          | inl old ↦ more r s (subst (λ r. LeadsBelow offers takers n r s) (sym e) (h.sound slot s old))
           | inr new ↦ (n, omega arith, sym e, new)
         ]
         | inr ne ↦ more r s (h.sound r s (ap (λ xs. is_among xs s) (sym (set_there beyond slot now r ne)) ∙ m))
       ];
       whole = λ k s below m. elim (cases_eq k n) [
-        | inl e ↦ ap (λ k. is_among (set_at after (given shares k)) s) e ∙ here s ∙ or_right (is_among (set_at beyond slot) s) (is_among (offered shares n) s) (ap (λ k. is_among (offered shares k) s) (sym e) ∙ m)
-        | inr ne ↦ (let old : is_among (set_at beyond (given shares k)) s ≡ true = h.whole k s (omega arith) m in
-          elim (cases_eq (given shares k) slot) [
-            | inl e ↦ ap (λ r. is_among (set_at after r) s) e ∙ here s ∙ or_left (is_among (set_at beyond slot) s) (is_among (offered shares n) s) (ap (λ r. is_among (set_at beyond r) s) (sym e) ∙ old)
-            | inr other ↦ ap (λ xs. is_among xs s) (set_there beyond slot now (given shares k) other) ∙ old
+        | inl e ↦ ap (λ k. is_among (set_at after (at takers k)) s) e ∙ here s ∙ or_right (is_among (set_at beyond slot) s) (is_among (offered offers n) s) (ap (λ k. is_among (offered offers k) s) (sym e) ∙ m)
+        | inr ne ↦ (let old : is_among (set_at beyond (at takers k)) s ≡ true = h.whole k s (omega arith) m in
+          elim (cases_eq (at takers k) slot) [
+            | inl e ↦ ap (λ r. is_among (set_at after r) s) e ∙ here s ∙ or_left (is_among (set_at beyond slot) s) (is_among (offered offers n) s) (ap (λ r. is_among (set_at beyond r) s) (sym e) ∙ old)
+            | inr other ↦ ap (λ xs. is_among xs s) (set_there beyond slot now (at takers k) other) ∙ old
           ])
       ];
     }
@@ -204,17 +204,17 @@ is_closed beyond loads most reached froms turns done turn h all = record {
   high = λ r m. h.high r (all r (h.reach.small r m) m);
 }
 
--- a closed search settles the shares that it is about
-pub is_settled : (shares : List Share) (n : ℕ) (beyond : List (List ℕ)) (loads : List ℕ) (most : ℕ) (reached froms turns : List ℕ) (turn : ℕ) → n ≡ length shares → IsBeyond shares n beyond →
+-- a closed search settles the ids that it is about
+pub is_settled : (offers : List (Id × List ℕ)) (takers : List ℕ) (n : ℕ) (beyond : List (List ℕ)) (loads : List ℕ) (most : ℕ) (reached froms turns : List ℕ) (turn : ℕ) → n ≡ length takers → IsBeyond offers takers n beyond →
     ((r : ℕ) → r < RELAYS → get_or loads r 0 ≤ most) → (r : ℕ) × (r < RELAYS) × (get_or loads r 0 ≡ most) →
-    AreReached beyond loads most reached froms turns turn → IsClosed beyond loads most reached → IsSettled shares loads most reached
-is_settled shares n beyond loads most reached froms turns turn all h bound one reach closed = record {
+    AreReached beyond loads most reached froms turns turn → IsClosed beyond loads most reached → IsSettled offers takers loads most reached
+is_settled offers takers n beyond loads most reached froms turns turn all h bound one reach closed = record {
   bound = bound;
   one = one;
   small = reach.small;
   busiest = reach.busiest;
-  closed = λ k r lt m among. closed.closed (given shares k) r m (h.whole k r (omega arith) among);
+  closed = λ k r lt m among. closed.closed (at takers k) r m (h.whole k r (omega arith) among);
   high = closed.high;
   least = λ test begin keeps. reach.least test begin
-      (λ r s t among. (let w : LeadsBelow shares n r s = h.sound r s among in keeps w.0 s (omega (arith, w.1)) (ap test w.2 ∙ t) w.3));
+      (λ r s t among. (let w : LeadsBelow offers takers n r s = h.sound r s among in keeps w.0 s (omega (arith, w.1)) (ap test w.2 ∙ t) w.3));
 }

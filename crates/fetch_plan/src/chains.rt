@@ -2,12 +2,12 @@
 //! given, to a relay with at least two fewer. Where no chain leads to such a relay, no sharing has a smaller busiest
 //! load, and the relays that chains reach show it. This holds however the sharing was found.
 
-ghost use Rattle.std.specs.Prelude.{◌≡◌, ◌≤◌, ◌<◌, ◌+◌, ◌==◌, true, false, ℕ, List, length, slice_index, slice_index_or, cond, IfOk, OnOk, IfSome, IfNone};
+ghost use Rattle.std.specs.Prelude.{◌≡◌, ◌≤◌, ◌<◌, ◌+◌, ◌==◌, true, false, ℕ, List, length, slice_index_or, cond, IfOk, OnOk, IfSome, IfNone};
 ghost use Rattle.sharing.specs.Sharing.{is_among};
-ghost use Rattle.fetch_plan.specs.Shares.{given, offered, AreOffered, offers_of, IsMoved, KeepPace};
-ghost use Rattle.fetch_plan.specs.Chains.{set_at, at, LeadsBelow, IsBeyond, AreReached, IsClosed, IsLow, IsSettled, Begins, PassesOn, squares};
+ghost use Rattle.fetch_plan.specs.Takers.{at, offered, AreOffered, IsMoved, KeepPace};
+ghost use Rattle.fetch_plan.specs.Chains.{set_at, LeadsBelow, IsBeyond, AreReached, IsClosed, IsLow, IsSettled, Begins, PassesOn, squares};
 
-use crate::shares::Share;
+use neg_codec::Id;
 use offer_table::RelaySet;
 use sharing::{RELAYS, SLOTS};
 use std::alloc::{AllocError, Global};
@@ -25,23 +25,27 @@ fn no_sets(alloc: Global) -> Result<Vec<RelaySet>, AllocError>
 }
 
 /// For each relay the relays that offer an id which it is given.
-fn beyond_of(alloc: Global, shares: &[Share]) -> Result<Vec<RelaySet>, AllocError>
-    requires { AreOffered shares.now }
-    ensures beyond { IfOk result (λ beyond. IsBeyond shares.now (length shares.now) beyond.items) }
+fn beyond_of(
+    alloc: Global,
+    offers: &[(Id, RelaySet)],
+    takers: &[u16],
+) -> Result<Vec<RelaySet>, AllocError>
+    requires { AreOffered offers.now takers.now }
+    ensures beyond { IfOk result (λ beyond. IsBeyond offers.now takers.now (length takers.now) beyond.items) }
     ensures long { IfOk result (λ beyond. length beyond.items ≡ SLOTS) }
 {
     let mut beyond = no_sets(alloc)?;
-    for share in shares {
-        let slot = usize::from(share.relay);
-        beyond[slot] = beyond[slot].union(share.relays);
+    for (place, taker) in takers.iter().enumerate() {
+        let slot = usize::from(*taker);
+        beyond[slot] = beyond[slot].union(offers[place].1);
     }
     Ok(beyond)
 }
 
 /// The greatest load.
 pub(crate) fn greatest(loads: &[u64; SLOTS]) -> u64
-    ensures bound { (r : ℕ) → r < RELAYS → slice_index loads.now r ≤ result }
-    ensures one { (r : ℕ) × (r < RELAYS) × (slice_index loads.now r ≡ result) }
+    ensures bound { (r : ℕ) → r < RELAYS → at loads.now r ≤ result }
+    ensures one { (r : ℕ) × (r < RELAYS) × (at loads.now r ≡ result) }
 {
     let mut most = loads[0];
     for load in loads {
@@ -55,7 +59,7 @@ pub(crate) fn greatest(loads: &[u64; SLOTS]) -> u64
 /// The relays with this load.
 fn relays_with(loads: &[u64; SLOTS], most: u64) -> RelaySet
     ensures small { (r : ℕ) → is_among result r ≡ true → r < RELAYS }
-    ensures sound { (r : ℕ) → is_among result r ≡ true → slice_index loads.now r ≡ most }
+    ensures sound { (r : ℕ) → is_among result r ≡ true → at loads.now r ≡ most }
     ensures whole { Begins loads.now most (is_among result) }
 {
     let mut relays = RelaySet::empty();
@@ -117,7 +121,7 @@ fn search(
     turns: &mut [u16; SLOTS],
 ) -> Option<u16>
     requires long { length beyond.now ≡ SLOTS }
-    requires bound { (r : ℕ) → r < RELAYS → slice_index loads.now r ≤ most }
+    requires bound { (r : ℕ) → r < RELAYS → at loads.now r ≤ most }
     requires reach { AreReached beyond.now loads.now most reached.old froms.old turns.old 0 }
     ensures reach { (turn : ℕ) × AreReached beyond.now loads.now most reached.new froms.new turns.new turn }
     ensures low { IfSome result (IsLow loads.now most reached.new) }
@@ -137,43 +141,44 @@ fn search(
     None
 }
 
-/// The first share that is given to one relay and offered by another.
-fn place_of(shares: &[Share], from: u16, to: u16) -> usize
-    requires { LeadsBelow shares.now (length shares.now) from to }
-    ensures within { result < length shares.now }
-    ensures giver { given shares.now result ≡ from }
-    ensures taker { is_among (offered shares.now result) to ≡ true }
+/// The first id that is taken to one relay and offered by another.
+fn place_of(offers: &[(Id, RelaySet)], takers: &[u16], from: u16, to: u16) -> usize
+    requires long { length takers.now ≡ length offers.now }
+    requires leads { LeadsBelow offers.now takers.now (length takers.now) from to }
+    ensures within { result < length takers.now }
+    ensures giver { at takers.now result ≡ from }
+    ensures taker { is_among (offered offers.now result) to ≡ true }
 {
-    for (place, share) in shares.iter().enumerate() {
-        if share.relay == from && share.relays.has(to) {
+    for (place, taker) in takers.iter().enumerate() {
+        if *taker == from && offers[place].1.has(to) {
             return place;
         }
     }
     unreachable!()
 }
 
-/// Moves one share along each way, from the relay `end` back to a busiest one, which it answers.
+/// Moves one id along each way, from the relay `end` back to a busiest one, which it answers.
 fn walk(
-    shares: &mut [Share],
+    offers: &[(Id, RelaySet)],
+    takers: &mut [u16],
     froms: &[u16; SLOTS],
     turns: &[u16; SLOTS],
     loads: &[u64; SLOTS],
     most: u64,
     end: u16,
 ) -> u16
-    requires offered { AreOffered shares.old }
-    requires reach { (beyond : List (List ℕ)) × (reached : List ℕ) × (turn : ℕ) × IsBeyond shares.old (length shares.old) beyond × AreReached beyond loads.now most reached froms.now turns.now turn × (is_among reached end ≡ true) }
+    requires offered { AreOffered offers.now takers.old }
+    requires reach { (beyond : List (List ℕ)) × (reached : List ℕ) × (turn : ℕ) × IsBeyond offers.now takers.old (length takers.old) beyond × AreReached beyond loads.now most reached froms.now turns.now turn × (is_among reached end ≡ true) }
     ensures small { result < RELAYS }
-    ensures start { most ≤ slice_index loads.now result }
-    ensures moved { IsMoved shares.old shares.new result end }
-    ensures offers { offers_of shares.new ≡ offers_of shares.old }
-    ensures offered { AreOffered shares.new }
+    ensures start { most ≤ at loads.now result }
+    ensures moved { IsMoved takers.old takers.new result end }
+    ensures offered { AreOffered offers.now takers.new }
 {
     let mut at = end;
     'back: while loads[usize::from(at)] < most {
         let from = froms[usize::from(at)];
-        let place = place_of(shares, from, at);
-        shares[place].relay = at;
+        let place = place_of(offers, takers, from, at);
+        takers[place] = at;
         at = from;
     }
     at
@@ -183,29 +188,29 @@ fn walk(
 fn shift(loads: &mut [u64; SLOTS], from: u16, to: u16)
     requires from { from < RELAYS }
     requires to { to < RELAYS }
-    requires gap { slice_index loads.old to + 2 ≤ slice_index loads.old from }
-    ensures moved { (r : ℕ) → slice_index loads.new r + cond (from == r) 1 0 ≡ slice_index loads.old r + cond (to == r) 1 0 }
+    requires gap { at loads.old to + 2 ≤ at loads.old from }
+    ensures moved { (r : ℕ) → at loads.new r + cond (from == r) 1 0 ≡ at loads.old r + cond (to == r) 1 0 }
     ensures smaller { squares loads.new < squares loads.old }
 {
     loads[usize::from(from)] -= 1;
     loads[usize::from(to)] += 1;
 }
 
-/// Moves single shares along one chain from a busiest relay to one with at least two fewer. Where there is none, it
+/// Moves single ids along one chain from a busiest relay to one with at least two fewer. Where there is none, it
 /// answers the relays that chains reach.
 fn settle_once(
     alloc: Global,
-    shares: &mut [Share],
+    offers: &[(Id, RelaySet)],
+    takers: &mut [u16],
     loads: &mut [u64; SLOTS],
 ) -> Result<Option<RelaySet>, AllocError>
-    requires { AreOffered shares.old }
-    ensures offered { OnOk result (AreOffered shares.new) }
-    ensures offers { OnOk result (offers_of shares.new ≡ offers_of shares.old) }
-    ensures loads { OnOk result (KeepPace shares.old loads.old shares.new loads.new) }
+    requires { AreOffered offers.now takers.old }
+    ensures offered { OnOk result (AreOffered offers.now takers.new) }
+    ensures loads { OnOk result (KeepPace takers.old loads.old takers.new loads.new) }
     ensures smaller { IfOk result (λ found. IfNone found (squares loads.new < squares loads.old)) }
-    ensures settled { IfOk result (λ found. IfSome found (λ group. (most : ℕ) × IsSettled shares.new loads.new most group)) }
+    ensures settled { IfOk result (λ found. IfSome found (λ group. (most : ℕ) × IsSettled offers.now takers.new loads.new most group)) }
 {
-    let beyond = beyond_of(alloc, shares)?;
+    let beyond = beyond_of(alloc, offers, takers)?;
     let most = greatest(loads);
     let mut reached = relays_with(loads, most);
     let mut froms = [0; SLOTS];
@@ -213,28 +218,28 @@ fn settle_once(
     match search(&beyond, loads, most, &mut reached, &mut froms, &mut turns) {
         None => Ok(Some(reached)),
         Some(end) => {
-            let from = walk(shares, &froms, &turns, loads, most, end);
+            let from = walk(offers, takers, &froms, &turns, loads, most, end);
             shift(loads, from, end);
             Ok(None)
         }
     }
 }
 
-/// Moves single shares along chains until none leads from a busiest relay to one with at least two fewer. It
+/// Moves single ids along chains until none leads from a busiest relay to one with at least two fewer. It
 /// answers which relays chains reach then.
 pub(crate) fn settle(
     alloc: Global,
-    shares: &mut [Share],
+    offers: &[(Id, RelaySet)],
+    takers: &mut [u16],
     loads: &mut [u64; SLOTS],
 ) -> Result<RelaySet, AllocError>
-    requires { AreOffered shares.old }
-    ensures offered { OnOk result (AreOffered shares.new) }
-    ensures offers { OnOk result (offers_of shares.new ≡ offers_of shares.old) }
-    ensures loads { OnOk result (KeepPace shares.old loads.old shares.new loads.new) }
-    ensures settled { IfOk result (λ group. (most : ℕ) × IsSettled shares.new loads.new most group) }
+    requires { AreOffered offers.now takers.old }
+    ensures offered { OnOk result (AreOffered offers.now takers.new) }
+    ensures loads { OnOk result (KeepPace takers.old loads.old takers.new loads.new) }
+    ensures settled { IfOk result (λ group. (most : ℕ) × IsSettled offers.now takers.new loads.new most group) }
 {
     'chains: loop {
-        if let Some(group) = settle_once(alloc, shares, loads)? {
+        if let Some(group) = settle_once(alloc, offers, takers, loads)? {
             return Ok(group);
         }
     }

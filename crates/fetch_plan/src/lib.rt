@@ -3,6 +3,5 @@
 
 mod cell;
 mod chains;
-mod shares;
 
 pub use cell::Cell;

@@ -3,5 +3,5 @@ use Rattle.sharing.specs.declared.TheConstants.{SLOTS}
 use Rattle.fetch_plan.specs.Chains.{IsBeyond}
 use Rattle.fetch_plan.proofs.chains.beyond_of.Given as goal
 
-abbrev pub invariant-loop-share : goal.invariant-loop-share
-invariant-loop-share l = record { beyond : IsBeyond l.shares l.share-index l.beyond.items; long : length l.beyond.items ≡ SLOTS }
+abbrev pub invariant-loop-place : goal.invariant-loop-place
+invariant-loop-place l = record { beyond : IsBeyond l.offers l.takers l.place l.beyond.items; long : length l.beyond.items ≡ SLOTS }

@@ -9,10 +9,11 @@ search-requires-clause-reach c = let r = c.relays_with-reached.ensures in reache
 
 pub returns-in-None-clause-settled : goal.returns-in-None-clause-settled
 returns-in-None-clause-settled c =
-    let shares = c.args.shares.now in
+    let offers = c.args.offers.now in
+    let takers = c.args.takers.now in
     let g = c.greatest-most.ensures in
     let n = c.in-None.ensures in
-    (c.greatest-most.result, is_settled shares (length shares) _ _ _ _ _ _ n.reach.0 refl (subst (λ b. IsBeyond shares (length shares) b) (sym c.deref.ensures.value) c.in_ok-beyond.ensures.beyond) g.bound g.one n.reach.1 n.closed)
+    (c.greatest-most.result, is_settled offers takers (length takers) _ _ _ _ _ _ n.reach.0 refl (subst (λ b. IsBeyond offers takers (length takers) b) (sym c.deref.ensures.value) c.in_ok-beyond.ensures.beyond) g.bound g.one n.reach.1 n.closed)
 
 pub returns-clause-loads : goal.returns-clause-loads
 returns-clause-loads c r lt = omega (arith, c.walk-from.ensures.moved r, c.shift.ensures.moved r)
