@@ -2,3 +2,4 @@ pub mod Readers
 pub mod Reached
 pub mod Walks
 pub mod Moves
+pub mod Planned

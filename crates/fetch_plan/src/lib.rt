@@ -3,5 +3,6 @@
 
 mod cell;
 mod chains;
+mod takers;
 
 pub use cell::Cell;
