@@ -1,5 +1,5 @@
 -- A set of relays, as the ascending list of its members.
-use Rattle.std.specs.Prelude.{ℕ, ◌^◌, ◌==◌, Bool, if◌then◌else◌, List, [], ◌∷◌, ◌++◌, sum_by, zero, suc}
+use Rattle.std.specs.Prelude.{ℕ, ◌+◌, ◌*◌, ◌^◌, ◌==◌, Bool, if◌then◌else◌, List, [], ◌∷◌, ◌++◌, sum_by, zero, suc}
 use Rattle.std.specs.Int.{bit_at}
 use Rattle.sharing.specs.declared.TheConstants.{RELAYS}
 
@@ -15,3 +15,7 @@ members bits = those (λ r. bit_at bits r == 1) RELAYS
 -- the number whose set bits these are
 abbrev pub bits_of : List ℕ → ℕ
 bits_of relays = sum_by (λ r. 2 ^ r) relays
+
+-- two words as one number
+abbrev pub number : ℕ → ℕ → ℕ
+number high low = high * 2 ^ 128 + low
