@@ -6,6 +6,7 @@ use Rattle.std.specs.List.{All}
 use Rattle.std.proofs.lemmas.Bool.{cases_lt, ne_eqb}
 use Rattle.std.proofs.lemmas.List.{get_or-map, length-map, get_or_past}
 use Rattle.std.proofs.lemmas.List.Sums.{sum_by-cons}
+use Rattle.std.proofs.lemmas.List.Elements.{All-head, All-tail}
 use Rattle.neg_codec.specs.declared.Id.{Id}
 use Rattle.sharing.specs.Bases.{base_of, AreBases}
 use Rattle.sharing.specs.Sharing.{is_among, taken, load, IsSharing, IsGreatest, Shows}
@@ -17,7 +18,7 @@ use Rattle.sharing.proofs.Orders.{distinct_sorted}
 use Rattle.fetch_plan.specs.Plan.{Planned, IsPlan, IsPlanOf, planned_load}
 use Rattle.fetch_plan.specs.Takers.{at, offered, held, AreOffered, no_offer}
 use Rattle.fetch_plan.specs.Chains.{IsSettled}
-use Rattle.fetch_plan.proofs.Readers.{get_or_any, offered_is}
+use Rattle.fetch_plan.proofs.Readers.{offered_is, small_in}
 
 -- a number that is no relay takes nothing
 pub none_held : (takers : List ℕ) (r : ℕ) → ((k : ℕ) → k < length takers → at takers k < RELAYS) → RELAYS ≤ r → held takers r ≡ 0
@@ -83,11 +84,11 @@ module _ (bases : List ℕ) (offers : List (Id × List ℕ)) (takers : List ℕ)
         let fits : k < length offers = omega (arith, offered_ok.long) in
         keeps k no_offer fits (ap test (agree k no_offer fits) ∙ t) r (ap (λ rs. is_among rs r) (sym (offered_is offers k (get_or offers k no_offer) no_offer fits refl)) ∙ among)
 
-    pub least_over : 0 < most → AreRelays group → IsLeast (base_of bases) f offers most group
-    least_over some relays = record {
+    pub least_over : 0 < most → IsLeast (base_of bases) f offers most group
+    least_over some = record {
       sharing = sharing;
       greatest = greatest;
-      shows = shows_from_closed (base_of bases) f offers group most h.one.0 (distinct_sorted group relays.ascend) keeps (λ r m. omega (arith, h.high r m, load_at r (h.small r m))) some (h.busiest h.one.0 h.one.1 h.one.2) (load_at h.one.0 h.one.1 ∙ h.one.2);
+      shows = shows_from_closed (base_of bases) f offers group most h.one.0 (distinct_sorted group h.relays.ascend) keeps (λ r m. omega (arith, h.high r m, load_at r (small_in group r h.relays m))) some (h.busiest h.one.0 h.one.1 h.one.2) (load_at h.one.0 h.one.1 ∙ h.one.2);
       reached = λ _. record {
         busiest = λ r e. elim (cases_lt r RELAYS) [ inl lt ↦ h.busiest r lt (sym (load_at r lt) ∙ e) | inr ge ↦ absurd (omega (arith, load_past r ge, e)) ];
         keeps = keeps;
@@ -120,3 +121,13 @@ module _ (bases : List ℕ) (offers : List (Id × List ℕ)) (takers : List ℕ)
       group_ok = relays;
     };
   }
+
+none_given : (gives : List (Id × ℕ)) (r : ℕ) → All (λ g. g.1 < RELAYS) gives → RELAYS ≤ r → count_by (λ g. g.1 == r) gives ≡ 0
+none_given [] r h le = refl
+none_given (g ∷ gs) r h le =
+    let head : g.1 < RELAYS = All-head (λ (g : Id × ℕ). g.1 < RELAYS) g gs h in
+    omega (arith, none_given gs r (All-tail (λ (g : Id × ℕ). g.1 < RELAYS) g gs h) le, sum_by-cons (λ (g : Id × ℕ). cond (g.1 == r) 1 0) g gs, ap {B = ℕ} (λ b. cond b 1 0) (ne_eqb g.1 r (λ e. absurd (omega arith))))
+
+-- a number that is no relay has no load
+pub none_planned : (plan : Planned) (r : ℕ) → IsPlan plan → RELAYS ≤ r → 0 ≡ planned_load plan r
+none_planned plan r h le = omega (arith, none_given plan.gives r h.relays le, get_or_past plan.bases r 0 (omega (arith, h.bases_ok.long)))

@@ -6,10 +6,11 @@ use Rattle.std.proofs.lemmas.Bool.{false≢true, cases_eq, cases_lt, or_left, or
 use Rattle.std.proofs.lemmas.List.{get_or-set_same, get_or-set_other, length-set, get_or-replicate, get_or_past, length-replicate}
 use Rattle.std.proofs.lemmas.List.Sums.{sum_by-cons}
 use Rattle.sharing.specs.Sharing.{is_among}
+use Rattle.sharing.specs.Offers.{AreRelays}
 use Rattle.neg_codec.specs.declared.Id.{Id}
 use Rattle.fetch_plan.specs.Takers.{at, offered}
 use Rattle.fetch_plan.specs.Chains.{set_at, LeadsBelow, IsBeyond, PassesOn, Begins, IsWay, AreReached, IsClosed, IsSettled}
-use Rattle.fetch_plan.proofs.Readers.{set_here, set_there, one_more}
+use Rattle.fetch_plan.proofs.Readers.{set_here, set_there, one_more, small_in}
 
 -- of no ids
 pub beyond_none : (offers : List (Id × List ℕ)) (takers : List ℕ) (beyond : List (List ℕ)) → ((r s : ℕ) → is_among (set_at beyond r) s ≡ false) → IsBeyond offers takers 0 beyond
@@ -78,9 +79,9 @@ module _ (beyond : List (List ℕ)) (loads : List ℕ) (most : ℕ) (reached now
         leads = ap (λ k. is_among (set_at beyond k) other) same ∙ leads;
       }
 
-  pub reach_more : other < RELAYS → AreReached beyond loads most reached froms turns turn → AreReached beyond loads most now froms_after turns_after turn
-  reach_more tiny h = record {
-    small = one_more reached now other member (λ r. r < RELAYS) tiny h.small;
+  pub reach_more : AreRelays now → AreReached beyond loads most reached froms turns turn → AreReached beyond loads most now froms_after turns_after turn
+  reach_more relays h = record {
+    relays = relays;
     busiest = λ r lt e. stays r (h.busiest r lt e);
     ways_ok = one_more reached now other member (λ r. (get_or loads r 0 ≡ most) ⊎ IsWay beyond now froms_after turns_after r) (inr way_new)
         (λ r m. elim (h.ways_ok r m) [ inl e ↦ inl e | inr w ↦ inr (way_kept r m w) ]);
@@ -90,7 +91,7 @@ module _ (beyond : List (List ℕ)) (loads : List ℕ) (most : ℕ) (reached now
 
 pub reach_later : (beyond : List (List ℕ)) (loads : List ℕ) (most : ℕ) (reached froms turns : List ℕ) (turn : ℕ) → AreReached beyond loads most reached froms turns turn → AreReached beyond loads most reached froms turns (turn + 1)
 reach_later beyond loads most reached froms turns turn h = record {
-  small = h.small;
+  relays = h.relays;
   busiest = h.busiest;
   ways_ok = h.ways_ok;
   late = λ r m. omega (arith, h.late r m);
@@ -118,14 +119,14 @@ module _ (beyond : List (List ℕ)) (first froms_first turns_first : List ℕ) (
   pub reaching_pass : (is_among others other ≡ true → is_among reached other ≡ true) → Reaching beyond first froms_first turns_first relay turn others reached froms turns (other + 1)
   reaching_pass here = record { reach = h.reach; stay = h.stay; earlier = h.earlier; so_far = below_next others reached other h.so_far here; small = λ _. tiny }
 
-  pub reaching_step : (now : List ℕ) → other < RELAYS → other < length froms → other < length turns → is_among first relay ≡ true → others ≡ set_at beyond relay → is_among others other ≡ true → is_among reached other ≡ false →
+  pub reaching_step : (now : List ℕ) → AreRelays now → other < length froms → other < length turns → is_among first relay ≡ true → others ≡ set_at beyond relay → is_among others other ≡ true → is_among reached other ≡ false →
       ((r : ℕ) → is_among now r ≡ ((r == other) || is_among reached r)) →
       Reaching beyond first froms_first turns_first relay turn others now (set froms other relay) (set turns other turn) (other + 1)
-  reaching_step now lt fits fits' known same leads new member =
+  reaching_step now relays fits fits' known same leads new member =
       let known_now : is_among reached relay ≡ true = h.stay relay known in
       let along : is_among (set_at beyond relay) other ≡ true = ap (λ xs. is_among xs other) (sym same) ∙ leads in
       record {
-        reach = λ loads most start. reach_more beyond loads most reached now froms turns turn relay other fits fits' known_now new h.earlier along member lt (h.reach loads most start);
+        reach = λ loads most start. reach_more beyond loads most reached now froms turns turn relay other fits fits' known_now new h.earlier along member relays (h.reach loads most start);
         stay = λ r m. member r ∙ or_right (r == other) (is_among reached r) (h.stay r m);
         earlier = omega (arith, h.earlier, turn_kept beyond [] 0 reached now froms turns turn relay other fits fits' known_now new h.earlier along member relay known_now);
         so_far = below_next others now other (λ s below m. member s ∙ or_right (s == other) (is_among reached s) (h.so_far s below m)) (λ _. member other ∙ or_left (other == other) (is_among reached other) (eq-eqb other other refl));
@@ -161,14 +162,14 @@ searching_none beyond loads most reached froms turns reach = record {
 }
 
 -- where just the busiest are reached
-pub reached_none : (beyond : List (List ℕ)) (loads : List ℕ) (most : ℕ) (reached froms turns : List ℕ) → ((r : ℕ) → is_among reached r ≡ true → r < RELAYS) → ((r : ℕ) → is_among reached r ≡ true → get_or loads r 0 ≡ most) → Begins loads most (is_among reached) →
+pub reached_none : (beyond : List (List ℕ)) (loads : List ℕ) (most : ℕ) (reached froms turns : List ℕ) → AreRelays reached → ((r : ℕ) → is_among reached r ≡ true → get_or loads r 0 ≡ most) → Begins loads most (is_among reached) →
     ((r : ℕ) → at turns r ≡ 0) → AreReached beyond loads most reached froms turns 0
-reached_none beyond loads most reached froms turns small sound whole zeros = record {
-  small = small;
+reached_none beyond loads most reached froms turns relays sound whole zeros = record {
+  relays = relays;
   busiest = whole;
   ways_ok = λ r m. inl (sound r m);
   late = λ r m. omega (arith, zeros r);
-  least = λ test begin on r m. begin r (small r m) (sound r m);
+  least = λ test begin on r m. begin r (small_in reached r relays m) (sound r m);
 }
 
 pub no_turns : (n r : ℕ) → at (replicate {A = ℕ} n 0) r ≡ 0
@@ -200,8 +201,8 @@ searching_step beyond loads most reached now froms turns froms_now turns_now don
 pub is_closed : (beyond : List (List ℕ)) (loads : List ℕ) (most : ℕ) (reached froms turns : List ℕ) (done : List Bool) (turn : ℕ) → Searching beyond loads most reached froms turns done turn →
     ((r : ℕ) → r < RELAYS → is_among reached r ≡ true → get_or done r false ≡ true) → IsClosed beyond loads most reached
 is_closed beyond loads most reached froms turns done turn h all = record {
-  closed = λ r s m among. h.closed r s (all r (h.reach.small r m) m) among;
-  high = λ r m. h.high r (all r (h.reach.small r m) m);
+  closed = λ r s m among. h.closed r s (all r (small_in reached r h.reach.relays m) m) among;
+  high = λ r m. h.high r (all r (small_in reached r h.reach.relays m) m);
 }
 
 -- a closed search settles the ids that it is about
@@ -211,7 +212,7 @@ pub is_settled : (offers : List (Id × List ℕ)) (takers : List ℕ) (n : ℕ) 
 is_settled offers takers n beyond loads most reached froms turns turn all h bound one reach closed = record {
   bound = bound;
   one = one;
-  small = reach.small;
+  relays = reach.relays;
   busiest = reach.busiest;
   closed = λ k r lt m among. closed.closed (at takers k) r m (h.whole k r (omega arith) among);
   high = closed.high;

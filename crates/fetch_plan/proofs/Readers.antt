@@ -6,6 +6,10 @@ use Rattle.std.proofs.lemmas.Bool.{cases_eq, or_left, or_right, or_cases, eqb-tr
 use Rattle.std.proofs.lemmas.List.{get_or-set_same, get_or-set_other, length-set}
 use Rattle.std.proofs.lemmas.List.Sums.{sum_by-set, sum_by-cons}
 use Rattle.sharing.specs.Sharing.{is_among}
+use Rattle.sharing.specs.Offers.{AreRelays}
+use Rattle.sharing.proofs.Looks.{among_each}
+use Rattle.std.specs.List.Sorted.{IsStrictlySortedBy}
+use Rattle.std.proofs.lemmas.List.Elements.{All-nil}
 use Rattle.neg_codec.specs.declared.Id.{Id}
 use Rattle.fetch_plan.specs.Takers.{at, offered, held, no_offer, AreOffered}
 use Rattle.fetch_plan.specs.Chains.{set_at}
@@ -63,3 +67,11 @@ one_more old new one member P here before r m =
 -- one fewer is not done
 pub count_done : (done : List Bool) (relay : ℕ) → relay < length done → get_or done relay false ≡ false → count_by not (set done relay true) + 1 ≡ count_by not done
 count_done done relay lt new = omega (arith, sum_by-set (λ x. cond (not x) 1 0) done relay true false lt, ap {B = ℕ} (λ b. cond (not b) 1 0) new)
+
+-- a member is a relay
+pub small_in : (relays : List ℕ) (r : ℕ) → AreRelays relays → is_among relays r ≡ true → r < RELAYS
+small_in relays r h m = among_each (λ r. r < RELAYS) relays r h.small m
+
+pub no_relays : AreRelays []
+unfolding IsStrictlySortedBy
+no_relays = record { ascend = tt; small = All-nil (λ r. r < RELAYS) }

@@ -6,7 +6,7 @@ use Rattle.sharing.specs.Sharing.{is_among}
 use Rattle.neg_codec.specs.declared.Id.{Id}
 use Rattle.fetch_plan.specs.Takers.{at, offered, held, AreOffered, IsMoved}
 use Rattle.fetch_plan.specs.Chains.{set_at, LeadsBelow, IsBeyond, IsWay, AreReached}
-use Rattle.fetch_plan.proofs.Readers.{offered_kept, held_after}
+use Rattle.fetch_plan.proofs.Readers.{offered_kept, held_after, small_in}
 
 -- the ways behind this relay have been walked
 pub record Walking (offers : List (Id × List ℕ)) (old reached turns : List ℕ) (end : ℕ) (now : List ℕ) (here : ℕ) : Type 0 where
@@ -40,5 +40,5 @@ module _ (offers : List (Id × List ℕ)) (old : List ℕ) (beyond : List (List 
       known = way.known;
       untouched = λ k below. get_or-set_other now place k here 0 (spared k below) ∙ h.untouched k (omega (arith, way.earlier));
       moved = λ r. omega (arith, held_after now place here r lt, h.moved r, ap {B = ℕ} (λ x. cond (x == r) 1 0) giver);
-      kept = offered_kept offers now place here lt taker (reach.small here h.known) h.kept;
+      kept = offered_kept offers now place here lt taker (small_in reached here reach.relays h.known) h.kept;
     }

@@ -2,6 +2,7 @@
 use Rattle.std.specs.Prelude.{◌≡◌, ℕ, ◌+◌, ◌*◌, ◌<◌, ◌≤◌, Bool, true, ◌⊎◌, List, [], length, slice_index_or, sum_by}
 use Rattle.sharing.specs.declared.TheConstants.{RELAYS}
 use Rattle.sharing.specs.Sharing.{is_among}
+use Rattle.sharing.specs.Offers.{AreRelays}
 use Rattle.neg_codec.specs.declared.Id.{Id}
 use Rattle.fetch_plan.specs.Takers.{at, offered}
 
@@ -34,7 +35,7 @@ pub record IsWay (beyond : List (List ℕ)) (reached froms turns : List ℕ) (r 
 
 -- the busiest relays are reached, and each other one that is reached has a way to it
 pub record AreReached (beyond : List (List ℕ)) (loads : List ℕ) (most : ℕ) (reached froms turns : List ℕ) (turn : ℕ) : Type 0 where
-  pub small : (r : ℕ) → is_among reached r ≡ true → r < RELAYS
+  pub relays : AreRelays reached
   pub busiest : Begins loads most (is_among reached)
   pub ways_ok : (r : ℕ) → is_among reached r ≡ true → (at loads r ≡ most) ⊎ IsWay beyond reached froms turns r
   pub late : (r : ℕ) → is_among reached r ≡ true → at turns r ≤ turn
@@ -57,7 +58,7 @@ squares loads = sum_by (λ x. x * x) loads
 pub record IsSettled (offers : List (Id × List ℕ)) (takers loads : List ℕ) (most : ℕ) (group : List ℕ) : Type 0 where
   pub bound : (r : ℕ) → r < RELAYS → at loads r ≤ most
   pub one : (r : ℕ) × (r < RELAYS) × (at loads r ≡ most)
-  pub small : (r : ℕ) → is_among group r ≡ true → r < RELAYS
+  pub relays : AreRelays group
   pub busiest : Begins loads most (is_among group)
   pub closed : (k r : ℕ) → k < length takers → is_among group (at takers k) ≡ true → is_among (offered offers k) r ≡ true → is_among group r ≡ true
   pub high : (r : ℕ) → is_among group r ≡ true → most ≤ at loads r + 1

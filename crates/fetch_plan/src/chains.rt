@@ -4,6 +4,7 @@
 
 ghost use Rattle.std.specs.Prelude.{◌≡◌, ◌≤◌, ◌<◌, ◌+◌, ◌==◌, true, false, ℕ, List, length, slice_index_or, cond, IfOk, OnOk, IfSome, IfNone};
 ghost use Rattle.sharing.specs.Sharing.{is_among};
+ghost use Rattle.sharing.specs.Offers.{AreRelays};
 ghost use Rattle.fetch_plan.specs.Takers.{at, offered, AreOffered, IsMoved, KeepPace};
 ghost use Rattle.fetch_plan.specs.Chains.{set_at, LeadsBelow, IsBeyond, AreReached, IsClosed, IsLow, IsSettled, Begins, PassesOn, squares};
 
@@ -58,7 +59,7 @@ pub(crate) fn greatest(loads: &[u64; SLOTS]) -> u64
 
 /// The relays with this load.
 fn relays_with(loads: &[u64; SLOTS], most: u64) -> RelaySet
-    ensures small { (r : ℕ) → is_among result r ≡ true → r < RELAYS }
+    ensures relays { AreRelays result }
     ensures sound { (r : ℕ) → is_among result r ≡ true → at loads.now r ≡ most }
     ensures whole { Begins loads.now most (is_among result) }
 {

@@ -18,7 +18,7 @@ loop-other-preserved c =
     let tiny : (s : ℕ) → is_among set s ≡ true → s < RELAYS = λ s m. among_each (λ r. r < RELAYS) c.index-beyond-from.result s c.has.ensures.relays.small (ap (λ xs. is_among xs s) (sym same) ∙ m) in
     elim c.if-has.branch [
       | then-has+then-not-has w ↦ rw (w.reached-is, w.froms-is, w.turns-is, w.from-then-not-has.ensures, w.from-then-not-has-2.ensures)
-          (reaching_step _ _ _ _ _ _ _ _ _ _ _ c.loop-other.invariant tiny _ c.loop-other-test.true (omega arith) (omega arith) c.requires.known refl (sym value ∙ w.if-has.true) (sym (cc)) w.with.ensures.member)
+          (reaching_step _ _ _ _ _ _ _ _ _ _ _ c.loop-other.invariant tiny _ w.with.ensures.relays (omega arith) (omega arith) c.requires.known refl (sym value ∙ w.if-has.true) (sym (cc)) w.with.ensures.member)
       | else-has w ↦ rw (w.reached-is, w.froms-is, w.turns-is) (reaching_pass _ _ _ _ _ _ _ _ _ _ _ c.loop-other.invariant tiny
           (elim w.else-has.branch [
             | else-has-via-then-has+else-not-has v ↦ λ m. sym (cc)

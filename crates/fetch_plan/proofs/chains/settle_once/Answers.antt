@@ -5,7 +5,7 @@ use Rattle.fetch_plan.proofs.Reached.{reached_none, no_turns, is_settled}
 use Rattle.fetch_plan.proofs.chains.settle_once.Goals as goal
 
 pub search-requires-clause-reach : goal.search-requires-clause-reach
-search-requires-clause-reach c = let r = c.relays_with-reached.ensures in reached_none _ _ _ _ _ _ r.small r.sound r.whole (no_turns RELAYS)
+search-requires-clause-reach c = let r = c.relays_with-reached.ensures in reached_none _ _ _ _ _ _ r.relays r.sound r.whole (no_turns RELAYS)
 
 pub returns-in-None-clause-settled : goal.returns-in-None-clause-settled
 returns-in-None-clause-settled c =
