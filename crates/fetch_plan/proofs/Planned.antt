@@ -1,5 +1,5 @@
 -- From settled takers to the promises on offers.
-use Rattle.std.proofs.Common.{◌≡◌, ℕ, ◌+◌, ◌<◌, ◌≤◌, ◌==◌, Bool, true, cond, List, [], ◌∷◌, length, get_or, map, refl, sym, ap, ◌∙◌, subst, arith, inl, inr, Some, zero, suc}
+use Rattle.std.proofs.Common.{◌≡◌, ℕ, ◌+◌, ◌<◌, ◌≤◌, ◌==◌, Bool, true, cond, List, [], ◌∷◌, length, get_or, map, refl, sym, ap, ◌∙◌, subst, arith, inl, inr, ◌⊎◌, Some, zero, suc}
 use Rattle.sharing.specs.declared.TheConstants.{RELAYS, MOST_IDS}
 use Rattle.std.specs.Prelude.{count_by}
 use Rattle.std.specs.List.{All}
@@ -18,7 +18,8 @@ use Rattle.sharing.proofs.Orders.{distinct_sorted}
 use Rattle.fetch_plan.specs.Plan.{Planned, IsPlan, IsPlanOf, planned_load}
 use Rattle.fetch_plan.specs.Takers.{at, offered, held, AreOffered, no_offer}
 use Rattle.fetch_plan.specs.Chains.{IsSettled}
-use Rattle.fetch_plan.proofs.Readers.{offered_is, small_in}
+use Rattle.offer_table.specs.Table.{IsTable}
+use Rattle.fetch_plan.proofs.Readers.{offered_is, small_in, no_relays}
 
 -- a number that is no relay takes nothing
 pub none_held : (takers : List ℕ) (r : ℕ) → ((k : ℕ) → k < length takers → at takers k < RELAYS) → RELAYS ≤ r → held takers r ≡ 0
@@ -131,3 +132,21 @@ none_given (g ∷ gs) r h le =
 -- a number that is no relay has no load
 pub none_planned : (plan : Planned) (r : ℕ) → IsPlan plan → RELAYS ≤ r → 0 ≡ planned_load plan r
 none_planned plan r h le = omega (arith, none_given plan.gives r h.relays le, get_or_past plan.bases r 0 (omega (arith, h.bases_ok.long)))
+
+-- what is settled is a plan
+pub planned : (bases : List ℕ) (offers : List (Id × List ℕ)) (takers : List ℕ) (gives : List (Id × ℕ)) (loads reached group : List ℕ) (least_max : ℕ) → AreBases bases → IsTable (record { reported = []; offers = offers }) → AreOffered offers takers →
+    map (λ g. g.0) gives ≡ map (λ o. o.0) offers → map (λ g. g.1) gives ≡ takers → ((r : ℕ) → r < RELAYS → at loads r ≡ base_of bases r + held takers r) → (most : ℕ) × IsSettled offers takers loads most reached →
+    ((r : ℕ) → r < RELAYS → at loads r ≤ least_max) → (r : ℕ) × (r < RELAYS) × (at loads r ≡ least_max) → ((least_max ≡ 0) × (group ≡ [])) ⊎ ((0 < least_max) × (group ≡ reached)) →
+    IsPlanOf bases offers (record { bases = bases; gives = gives; least_max = least_max; group = group })
+planned bases offers takers gives loads reached group least_max bases_ok table offered_ok ids taken_ok loads_ok found bound one which =
+    let h : IsSettled offers takers loads found.0 reached = found.1 in
+    let e : found.0 ≡ least_max = omega (arith, h.bound one.0 one.1, one.2, bound h.one.0 h.one.1, h.one.2) in
+    let same : IsSettled offers takers loads least_max reached = subst (λ most. IsSettled offers takers loads most reached) e h in
+    elim which [
+      | inl none ↦ subst (λ g. IsPlanOf bases offers (record { bases = bases; gives = gives; least_max = least_max; group = g })) (sym none.1)
+          (is_plan_of bases offers takers gives loads reached bases_ok table.offers_ok.ascend offered_ok ids taken_ok loads_ok least_max [] table.few no_relays
+          (least_none bases offers takers gives loads reached bases_ok table.offers_ok.ascend offered_ok ids taken_ok loads_ok least_max same none.0))
+      | inr some ↦ subst (λ g. IsPlanOf bases offers (record { bases = bases; gives = gives; least_max = least_max; group = g })) (sym some.1)
+          (is_plan_of bases offers takers gives loads reached bases_ok table.offers_ok.ascend offered_ok ids taken_ok loads_ok least_max reached table.few same.relays
+          (least_over bases offers takers gives loads reached bases_ok table.offers_ok.ascend offered_ok ids taken_ok loads_ok least_max same some.0))
+    ]

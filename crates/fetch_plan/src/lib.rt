@@ -63,5 +63,6 @@ pub fn plan(alloc: Global, table: &OfferTable, bases: &Bases) -> Result<Plan, Al
     })
 }
 
+
 #[cfg(test)]
 mod tests;

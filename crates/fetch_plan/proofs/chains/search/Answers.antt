@@ -2,7 +2,7 @@ use Rattle.std.proofs.Common.{◌≡◌, ◌<◌, ◌≤◌, ◌+◌, ℕ, true,
 use Rattle.std.specs.List.{count_by}
 use Rattle.std.specs.Prelude.{not}
 use Rattle.fetch_plan.proofs.Readers.{count_done}
-use Rattle.fetch_plan.proofs.Reached.{searching_none, searching_step, reach_later}
+use Rattle.fetch_plan.proofs.Reached.{searching_none, searching_step, reach_later, is_closed}
 use Rattle.fetch_plan.proofs.chains.search.Goals as goal
 
 pub turns-init : goal.turns-init
@@ -23,3 +23,6 @@ turns-preserved c =
     rw c.from-slot.ensures
     (searching_step _ _ _ _ _ _ _ _ _ _ _ c.in-Some.relay inv lt n.2 (count_done c.turns.done c.in-Some.relay lt n.2) high
     (c.reach_from.ensures.reach c.args.loads.now c.args.most (reach_later _ _ _ _ _ _ _ inv.reach)) c.reach_from.ensures.stay c.reach_from.ensures.closed)
+
+pub returns-clause-closed : goal.returns-clause-closed
+returns-clause-closed c = is_closed _ _ _ _ _ _ _ _ c.turns.invariant c.in_default.ensures.none

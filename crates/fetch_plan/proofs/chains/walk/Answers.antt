@@ -1,6 +1,8 @@
 use Rattle.std.proofs.Common.{◌≡◌, ◌<◌, ℕ, arith, refl, sym, ap, subst, get_or, set, length}
+use Rattle.sharing.specs.declared.TheConstants.{RELAYS}
 use Rattle.fetch_plan.specs.Takers.{at}
 use Rattle.fetch_plan.specs.Chains.{LeadsBelow}
+use Rattle.fetch_plan.proofs.Readers.{small_in}
 use Rattle.fetch_plan.proofs.Walks.{way, leads, walking_step}
 use Rattle.fetch_plan.proofs.chains.walk.Goals as goal
 
@@ -23,3 +25,18 @@ back-preserved c =
     let found = c.place_of-place.ensures in
     (i.0, i.1, i.2, i.3, i.4, rw c.from-in-back.ensures
     (walking_step _ _ _ _ _ _ _ _ _ _ _ _ i.3 i.4 c.back.auto.takers i.5 low c.place_of-place.result found.within (rw c.from-in-back.ensures at found.giver) found.taker))
+
+pub bounds-loads-from : goal.bounds-loads-from
+bounds-loads-from c =
+    let i = c.back.invariant in
+    let lt : c.back.at < RELAYS = small_in i.1 c.back.at i.4.relays i.5.known in
+    omega (arith, c.from.ensures, lt)
+
+pub offset_bounds-loads-from : goal.offset_bounds-loads-from
+offset_bounds-loads-from c =
+    let i = c.back.invariant in
+    let lt : c.back.at < RELAYS = small_in i.1 c.back.at i.4.relays i.5.known in
+    omega (arith, c.from.ensures, lt)
+
+pub returns-clause-small : goal.returns-clause-small
+returns-clause-small c = let i = c.back.invariant in small_in i.1 c.back.at i.4.relays i.5.known
