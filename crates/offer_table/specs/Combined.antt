@@ -1,5 +1,5 @@
 -- Two lists of offers, walked side by side.
-use Rattle.std.specs.Prelude.{◌≡◌, ℕ, ◌+◌, ◌||◌, ◌&&◌, ◌⊎◌, not, Bool, List, [], ◌∷◌, length}
+use Rattle.std.specs.Prelude.{◌≡◌, ℕ, ◌+◌, ◌<◌, ◌++◌, ◌||◌, ◌&&◌, ◌⊎◌, not, Bool, List, [], ◌∷◌, length}
 use Rattle.std.specs.declared.cmp.Ordering.TheVariants.{Less}
 use Rattle.std.specs.List.{All}
 use Rattle.neg_codec.specs.declared.Id.{Id}
@@ -29,3 +29,7 @@ pub record IsLeast (mine theirs : List (Id × List ℕ)) (k : Id) (ours others :
   pub behind_mine : All (λ o. id_cmp k o.0 ≡ Less) more
   pub behind_theirs : All (λ o. id_cmp k o.0 ≡ Less) rest
   pub some : (mine ≡ (k, ours) ∷ more) ⊎ (theirs ≡ (k, others) ∷ rest)
+
+-- an id comes behind the others, where it has some relays
+abbrev pub IsPushed : List (Id × List ℕ) → Id → List ℕ → List (Id × List ℕ) → Type 0
+IsPushed old k relays new = ((relays ≡ []) × (new ≡ old)) ⊎ ((0 < length relays) × (new ≡ old ++ (k, relays) ∷ []))

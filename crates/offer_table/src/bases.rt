@@ -49,6 +49,7 @@ impl Bases {
         ensures err { OnErr result (self.new ≡ self.old) }
         ensures bases { AreBases self.new }
     {
+        let _ = &self.loads;
         if relay >= RELAYS {
             return Err(BaseFault::Relay);
         }
@@ -75,6 +76,11 @@ impl Bases {
     pub fn are_none(&self) -> bool
         ensures { IsTrue result ↔ ((r : ℕ) → base_of self.now r ≡ 0) }
     {
-        self.loads.iter().all(|load| *load == 0)
+        for relay in 0..SLOTS {
+            if self.loads[relay] != 0 {
+                return false;
+            }
+        }
+        true
     }
 }

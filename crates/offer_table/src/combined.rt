@@ -1,12 +1,12 @@
 //! The offers of two lists, walked side by side.
 
-ghost use Rattle.std.specs.Prelude.{◌≡◌, ◌≤◌, ◌+◌, ℕ, List, [], length, map, IfOk, MatchOption};
+ghost use Rattle.std.specs.Prelude.{◌≡◌, ◌≤◌, ◌+◌, ◌∷◌, ℕ, List, [], length, map, OnOk, IfOk, MatchOption};
 ghost use Rattle.neg_codec.specs.declared.Id.{Id};
 ghost use Rattle.sharing.specs.declared.TheConstants.{MOST_IDS};
 ghost use Rattle.sharing.specs.Sharing.{is_among};
 ghost use Rattle.sharing.specs.Offers.{AreRelays, Ascend, IsOffers, relays_of};
 ghost use Rattle.offer_table.specs.Table.{new_in};
-ghost use Rattle.offer_table.specs.Combined.{keeps, most_kept, IsLeast};
+ghost use Rattle.offer_table.specs.Combined.{keeps, most_kept, IsLeast, IsPushed};
 
 use crate::RelaySet;
 use neg_codec::Id;
@@ -123,6 +123,21 @@ pub(crate) fn count_both(mine: &[(Id, RelaySet)], theirs: &[(Id, RelaySet)]) -> 
     count
 }
 
+/// Adds an id with its relays, where there are some.
+fn push_some(
+    all: &mut Vec<(Id, RelaySet)>,
+    id: Id,
+    relays: RelaySet,
+) -> Result<(), AllocError>
+    ensures { OnOk result (IsPushed all.old.items id relays all.new.items) }
+{
+    if relays.is_empty() {
+        return Ok(());
+    }
+    all.push((id, relays))?;
+    Ok(())
+}
+
 /// The offers of two lists that are kept, which are that many ids at most.
 pub(crate) fn combined(
     alloc: Global,
@@ -141,9 +156,7 @@ pub(crate) fn combined(
     let (mut first, mut second) = (mine, theirs);
     while let Some(next) = least(first, second) {
         let relays = keep.of(next.mine, next.theirs);
-        if !relays.is_empty() {
-            all.push((next.id, relays))?;
-        }
+        push_some(&mut all, next.id, relays)?;
         first = next.more;
         second = next.rest;
     }

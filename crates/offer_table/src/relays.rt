@@ -7,6 +7,7 @@ ghost use Rattle.std.specs.Map.Iter.{TakesFirst};
 ghost use Rattle.sharing.specs.Sharing.{is_among};
 ghost use Rattle.sharing.specs.Offers.{AreRelays};
 ghost use Rattle.offer_table.specs.Groups.{set_cmp};
+ghost use Rattle.offer_table.specs.Relays.{IsFirst};
 
 use sharing::RELAYS;
 use std::cmp::Ordering;
@@ -120,7 +121,14 @@ impl RelaySet {
     pub fn meets(self, other: RelaySet) -> bool
         ensures { result ≡ list_any (is_among other) self }
     {
-        self.iter().any(|relay| other.has(relay))
+        let mut rest = self;
+        while let Some(parts) = rest.split_first() {
+            if other.has(parts.0) {
+                return true;
+            }
+            rest = parts.1;
+        }
+        false
     }
 
     /// The order of the sets, as numbers in which relay r counts 2^r.
@@ -133,25 +141,30 @@ impl RelaySet {
         }
     }
 
+    /// The least member.
+    fn first(self) -> Option<u16>
+        ensures { MatchOption result (self ≡ []) (λ r. IsFirst self r) }
+    {
+        if self.low != 0 {
+            return Some(self.low.trailing_zeros() as u16);
+        }
+        if self.high != 0 {
+            return Some(self.high.trailing_zeros() as u16 + HALF);
+        }
+        None
+    }
+
     /// The least member, and the others.
     pub fn split_first(self) -> Option<(u16, RelaySet)>
-        ensures first { MatchOption result (self ≡ []) (λ p. self ≡ p.0 ∷ p.1) }
-        ensures relays { AreRelays self }
+        ensures { MatchOption result (self ≡ []) (λ p. self ≡ p.0 ∷ p.1) }
     {
-        let relay = if self.low != 0 {
-            self.low.trailing_zeros() as u16
-        } else if self.high != 0 {
-            self.high.trailing_zeros() as u16 + HALF
-        } else {
-            return None;
-        };
+        let relay = self.first()?;
         Some((relay, self.minus(RelaySet::one(relay))))
     }
 
     /// The members, ascending. A step for each of them.
     pub fn iter(self) -> Members
-        ensures value { result ≡ self }
-        ensures relays { AreRelays self }
+        ensures { result ≡ self }
     {
         Members { left: self }
     }

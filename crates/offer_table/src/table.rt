@@ -55,6 +55,17 @@ fn all_of(offers: &[(Id, RelaySet)]) -> RelaySet
     all
 }
 
+/// The relays beside this id.
+fn looked_up(offers: &[(Id, RelaySet)], id: &Id) -> RelaySet
+    requires { Ascend (map (λ o. o.0) offers.now) }
+    ensures { result ≡ relays_of offers.now id.now }
+{
+    match offers.binary_search_by_key(id, |offer| offer.0) {
+        Ok(at) => offers[at].1,
+        Err(_) => RelaySet::empty(),
+    }
+}
+
 impl OfferTable {
     /// The table of these relays that reported, and these offers.
     fn of_list(
@@ -210,10 +221,7 @@ impl OfferTable {
         ensures value { result ≡ relays_of self.now.offers id.now }
         ensures table { IsTable self.now }
     {
-        match self.offers.binary_search_by_key(id, |offer| offer.0) {
-            Ok(at) => self.offers[at].1,
-            Err(_) => RelaySet::empty(),
-        }
+        looked_up(&self.offers, id)
     }
 
     /// The offered ids, ascending.
