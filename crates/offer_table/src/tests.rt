@@ -1,8 +1,8 @@
 //! Tables of a few reports, and of as many ids as a table takes.
 
-use crate::row::Row;
-use crate::{OfferFault, OfferTable, RelaySet};
+use crate::{BaseFault, Bases, OfferFault, OfferTable, RelaySet};
 use neg_codec::Id;
+use sharing::RELAYS;
 use std::alloc::{AllocError, Global};
 use std::collections::BTreeSet;
 use std::test::Fail;
@@ -75,7 +75,7 @@ fn sizes(table: &OfferTable) -> (usize, usize) {
 #[test]
 fn two_reports_are_put_together(rt: HostRuntime) -> Result<(), Fail> {
     let a = report(rt.alloc(), 0, &[1, 2])?;
-    let b = report(rt.alloc(), 63, &[2, 3])?;
+    let b = report(rt.alloc(), 255, &[2, 3])?;
     let both = merged(a, b)?;
     let listed = both.ids().copied().collect::<Vec<Id>>(rt.alloc())?;
     assert!(rt; listed.as_slice() == [numbered(1), numbered(2), numbered(3)].as_slice());
@@ -87,22 +87,95 @@ fn two_reports_are_put_together(rt: HostRuntime) -> Result<(), Fail> {
     ] {
         let relays = both.offers(&numbered(number));
         assert_eq!(rt;
-            (relays.has(0), relays.has(63)),
+            (relays.has(0), relays.has(255)),
             (first, last),
             "at {number}"
         );
-        assert!(rt; !relays.has(1) && !relays.has(64), "no other at {number}");
+        assert!(rt; !relays.has(1) && !relays.has(256), "no other at {number}");
     }
-    assert!(rt; both.reported().has(0) && both.reported().has(63) && !both.reported().has(1));
+    assert!(rt; both.reported().has(0) && both.reported().has(255) && !both.reported().has(1));
+    Ok(())
+}
+
+/// The relays of a set, one after another.
+fn listed(alloc: Global, relays: RelaySet) -> Result<Vec<u16>, AllocError> {
+    relays.iter().collect(alloc)
+}
+
+fn set_of(relays: &[u16]) -> RelaySet {
+    let mut set = RelaySet::empty();
+    for relay in relays {
+        if *relay < RELAYS {
+            set = set.with(*relay);
+        }
+    }
+    set
+}
+
+#[test]
+fn a_set_has_its_relays_in_order(rt: HostRuntime) -> Result<(), Fail> {
+    for relays in [
+        [0, 1, 63, 64, 127].as_slice(),
+        &[128, 129, 255],
+        &[5, 127, 128, 200],
+        &[],
+    ] {
+        let set = set_of(relays);
+        assert!(rt; listed(rt.alloc(), set)?.as_slice() == relays);
+        assert_eq!(rt; set.is_empty(), relays.is_empty());
+        for relay in 0..300u16 {
+            assert_eq!(rt; set.has(relay), relays.contains(&relay), "{relay}");
+        }
+    }
     Ok(())
 }
 
 #[test]
-fn a_set_has_a_number(rt: HostRuntime) -> Result<(), Fail> {
-    let none = RelaySet::empty();
-    assert_eq!(rt; none.number(), 0);
-    assert_eq!(rt; none.with(0).with(2).number(), 5);
-    assert_eq!(rt; none.with(63).with(1).number(), 0x8000_0000_0000_0002);
+fn sets_are_ordered_by_the_highest_relay(rt: HostRuntime) -> Result<(), Fail> {
+    let sets = [
+        set_of(&[]),
+        set_of(&[0]),
+        set_of(&[0, 1, 2]),
+        set_of(&[127]),
+        set_of(&[126, 127]),
+        set_of(&[128]),
+        set_of(&[127, 128]),
+        set_of(&[0, 255]),
+    ];
+    for (i, a) in sets.iter().enumerate() {
+        for (k, b) in sets.iter().enumerate() {
+            assert!(rt; a.compare(*b) == i.cmp(&k), "{i} and {k}");
+        }
+    }
+    Ok(())
+}
+
+#[test]
+fn sets_are_put_together_and_taken_apart(rt: HostRuntime) -> Result<(), Fail> {
+    let (a, b) = (set_of(&[1, 100, 200]), set_of(&[100, 201]));
+    assert!(rt; listed(rt.alloc(), a.union(b))?.as_slice() == [1, 100, 200, 201].as_slice());
+    assert!(rt; listed(rt.alloc(), a.minus(b))?.as_slice() == [1, 200].as_slice());
+    assert!(rt; a.meets(b) && !a.meets(set_of(&[0, 201])) && !a.meets(RelaySet::empty()));
+    Ok(())
+}
+
+#[test]
+fn bases_are_kept_by_relay(rt: HostRuntime) -> Result<(), Fail> {
+    let mut bases = Bases::none();
+    assert!(rt; bases.are_none());
+    for (relay, load, answer) in [
+        (7, 9, Ok(())),
+        (255, 1_000_000_000_000, Ok(())),
+        (256, 1, Err(BaseFault::Relay)),
+        (3, 1_000_000_000_001, Err(BaseFault::Load)),
+        (256, 1_000_000_000_001, Err(BaseFault::Relay)),
+    ] {
+        assert!(rt; bases.set(relay, load) == answer, "{relay}");
+    }
+    for (relay, load) in [(7, 9), (255, 1_000_000_000_000), (3, 0), (256, 0), (65_535, 0)] {
+        assert_eq!(rt; bases.of(relay), load, "{relay}");
+    }
+    assert!(rt; !bases.are_none());
     Ok(())
 }
 
@@ -118,8 +191,8 @@ fn each_relay_reports_once(rt: HostRuntime) -> Result<(), Fail> {
 
 #[test]
 fn a_number_may_be_no_relay(rt: HostRuntime) -> Result<(), Fail> {
-    match OfferTable::of_report(rt.alloc(), 64, &BTreeSet::new(rt.alloc())) {
-        Ok(_) => Err("64 is no relay")?,
+    match OfferTable::of_report(rt.alloc(), 256, &BTreeSet::new(rt.alloc())) {
+        Ok(_) => Err("256 is no relay")?,
         Err(fault) => assert_eq!(rt; fault, OfferFault::Relay),
     }
     Ok(())
@@ -145,21 +218,6 @@ fn a_report_is_too_long(rt: HostRuntime) -> Result<(), Fail> {
     Ok(())
 }
 
-#[test]
-fn large_tables_are_merged_and_struck(rt: HostRuntime) -> Result<(), Fail> {
-    let many = spread(rt.alloc(), 0, 200_000)?;
-    let a = table_of(rt.alloc(), 3, &many)?;
-    let b = table_of(rt.alloc(), 5, &many)?;
-    let mut both = merged(a, b)?;
-    for (relay, left) in [(3, 200_000), (5, 0)] {
-        for id in &many {
-            assert!(rt; struck(&mut both, id, relay)?);
-        }
-        assert_eq!(rt; sizes(&both), (left, left.min(1)), "after relay {relay}");
-    }
-    Ok(())
-}
-
 /// Whether a group has just these relays, and the ids of just these numbers.
 fn is_group(table: &OfferTable, k: usize, relays: &[u16], numbers: &[u32]) -> bool {
     if k >= table.groups() {
@@ -169,7 +227,7 @@ fn is_group(table: &OfferTable, k: usize, relays: &[u16], numbers: &[u32]) -> bo
     if ids.len() != numbers.len() {
         return false;
     }
-    for relay in 0..66u16 {
+    for relay in 0..258u16 {
         if set.has(relay) != relays.contains(&relay) {
             return false;
         }
@@ -230,9 +288,9 @@ fn strikes_move_ids_between_groups(rt: HostRuntime) -> Result<(), Fail> {
 
 #[test]
 fn a_report_is_one_group(rt: HostRuntime) -> Result<(), Fail> {
-    let table = report(rt.alloc(), 63, &[3, 1, 2])?;
+    let table = report(rt.alloc(), 255, &[3, 1, 2])?;
     assert_eq!(rt; table.groups(), 1);
-    assert!(rt; is_group(&table, 0, &[63], &[1, 2, 3]));
+    assert!(rt; is_group(&table, 0, &[255], &[1, 2, 3]));
     assert_eq!(rt; report(rt.alloc(), 5, &[])?.groups(), 0);
     assert_eq!(rt; OfferTable::empty(rt.alloc()).groups(), 0);
     Ok(())
@@ -269,194 +327,81 @@ fn struck_ids_are_passed_over(rt: HostRuntime) -> Result<(), Fail> {
     Ok(())
 }
 
-/// Whether a row has the ids of just these numbers.
-fn has_just(row: &Row, numbers: &[u32]) -> bool {
-    let ids = row.as_slice();
-    ids.len() == numbers.len()
-        && ids
-            .iter()
-            .zip(numbers)
-            .all(|(id, number)| *id == numbered(*number))
+/// Offers of ids by their numbers.
+fn offers_of(alloc: Global, pairs: &[(u32, RelaySet)]) -> Result<Vec<(Id, RelaySet)>, AllocError> {
+    pairs
+        .iter()
+        .map(|pair| (numbered(pair.0), pair.1))
+        .collect(alloc)
 }
 
 #[test]
-fn ids_come_and_go_on_both_sides_of_a_row(rt: HostRuntime) -> Result<(), Fail> {
-    let mut row = Row::one(rt.alloc(), numbered(40));
-    for k in (1..=19u32).rev() {
-        row.put(numbered(2 * k))?;
-    }
-    assert!(rt;
-        has_just(
-            &row,
-            &[
-                2, 4, 6, 8, 10, 12, 14, 16, 18, 20, 22, 24, 26, 28, 30, 32, 34, 36, 38, 40
-            ]
-        )
-    );
-    for number in [1, 41, 11, 31, 0, 20, 5] {
-        row.put(numbered(number))?;
-    }
-    assert!(rt;
-        has_just(
-            &row,
-            &[
-                0, 1, 2, 4, 5, 6, 8, 10, 11, 12, 14, 16, 18, 20, 22, 24, 26, 28, 30, 31, 32, 34,
-                36, 38, 40, 41,
-            ]
-        )
-    );
-    for number in [0, 41, 12, 30, 13, 20, 6, 1] {
-        row.take(&numbered(number));
-    }
-    assert!(rt;
-        has_just(
-            &row,
-            &[
-                2, 4, 5, 8, 10, 11, 14, 16, 18, 22, 24, 26, 28, 31, 32, 34, 36, 38, 40
-            ]
-        )
-    );
-    for number in [3, 0, 1, 9, 7, 13, 12] {
-        row.put(numbered(number))?;
-    }
-    assert!(rt;
-        has_just(
-            &row,
-            &[
-                0, 1, 2, 3, 4, 5, 7, 8, 9, 10, 11, 12, 13, 14, 16, 18, 22, 24, 26, 28, 31, 32, 34,
-                36, 38, 40,
-            ]
-        )
-    );
-    for number in 0..=40u32 {
-        row.take(&numbered(40 - number));
-    }
-    assert!(rt; row.is_empty());
+fn many_offers_are_left_out_at_once(rt: HostRuntime) -> Result<(), Fail> {
+    let mut table = three_groups(rt.alloc())?;
+    let all = set_of(&[0, 1, 2, 255]);
+    let gone = offers_of(
+        rt.alloc(),
+        &[
+            (0, all),
+            (3, set_of(&[1])),
+            (4, RelaySet::empty()),
+            (10, set_of(&[0, 2])),
+            (15, set_of(&[2])),
+            (16, set_of(&[1])),
+            (99, all),
+        ],
+    )?;
+    table.leave_out(&gone)?;
+    assert_eq!(rt; sizes(&table), (16, 5));
+    assert!(rt; is_group(&table, 0, &[0], &[3]));
+    assert!(rt; is_group(&table, 1, &[1], &[10]));
+    assert!(rt; is_group(&table, 2, &[0, 1], &[1, 2, 4, 5, 6, 7, 8, 9]));
+    assert!(rt; is_group(&table, 3, &[2], &[16, 17]));
+    assert!(rt; is_group(&table, 4, &[1, 2], &[11, 12, 13, 14]));
+    assert!(rt; table.reported().has(0) && table.reported().has(2));
+    table.leave_out(&[])?;
+    assert_eq!(rt; sizes(&table), (16, 5));
     Ok(())
 }
 
 #[test]
-fn ids_come_to_a_row_of_one_and_leave_it(rt: HostRuntime) -> Result<(), Fail> {
-    for (number, ids) in [(3, [3, 7]), (9, [7, 9])] {
-        let mut row = Row::one(rt.alloc(), numbered(7));
-        row.take(&numbered(number));
-        row.put(numbered(number))?;
-        assert!(rt; has_just(&row, &ids));
-        row.take(&numbered(number));
-        assert!(rt; has_just(&row, &[7]));
+fn each_id_has_the_number_of_its_group(rt: HostRuntime) -> Result<(), Fail> {
+    let table = three_groups(rt.alloc())?;
+    let (offers, numbers) = (table.list(), table.numbers());
+    assert_eq!(rt; (offers.len(), numbers.len()), (18, 18));
+    for (k, number) in numbers.iter().enumerate() {
+        let group = match k {
+            0..=9 => 0,
+            10..=14 => 2,
+            _ => 1,
+        };
+        assert_eq!(rt; *number, group, "{k}");
+        assert!(rt; offers[k].0 == numbered(k as u32), "{k}");
     }
-    let mut row = Row::one(rt.alloc(), numbered(7));
-    row.put(numbered(7))?;
-    assert!(rt; has_just(&row, &[7]));
-    let mut emptied = Row::one(rt.alloc(), numbered(7));
-    emptied.take(&numbered(7));
-    assert!(rt; emptied.is_empty());
-    emptied.put(numbered(5))?;
-    assert!(rt; has_just(&emptied, &[5]));
     Ok(())
 }
 
 #[test]
-fn a_large_group_moves_in_descending_order(rt: HostRuntime) -> Result<(), Fail> {
-    let many = spread(rt.alloc(), 0, 20_000)?;
-    let a = table_of(rt.alloc(), 0, &many)?;
-    let mut both = merged(a, table_of(rt.alloc(), 1, &many)?)?;
-    let ids = many.iter().copied().collect::<Vec<Id>>(rt.alloc())?;
-    for id in ids.iter().rev() {
-        assert!(rt; struck(&mut both, id, 0)?);
+fn two_hundred_and_fifty_six_relays_offer_an_id(rt: HostRuntime) -> Result<(), Fail> {
+    let mut table = OfferTable::empty(rt.alloc());
+    for relay in 0..256u16 {
+        table = merged(table, report(rt.alloc(), relay, &[1, 2 + u32::from(relay)])?)?;
     }
-    assert_eq!(rt; both.groups(), 1);
-    let (relays, moved) = both.group_at(0);
-    assert_eq!(rt; relays.number(), 2);
-    assert!(rt; moved == ids.as_slice());
+    assert_eq!(rt; sizes(&table), (257, 257));
+    assert!(rt; (0..256u16).all(|relay| table.offers(&numbered(1)).has(relay)));
+    assert!(rt; is_group(&table, 0, &[0], &[2]) && is_group(&table, 255, &[255], &[257]));
+    assert_eq!(rt; table.group_at(256).1.len(), 1);
     Ok(())
 }
 
-/// Ids 0 to 5,999, which relays 0 and 1 offer, and two each those that half the id counts as a number from relay 2 on.
-fn many_groups(alloc: Global) -> Result<OfferTable, Fail> {
-    let mut table = OfferTable::empty(alloc);
-    for relay in 0..14u16 {
-        let mut ids = BTreeSet::new(alloc);
-        for k in 0..6_000u32 {
-            if (((k / 2) * 4 + 3) >> relay) & 1 == 1 {
-                ids.insert(numbered(k))?;
-            }
-        }
-        table = merged(table, table_of(alloc, relay, &ids)?)?;
-    }
-    Ok(table)
-}
-
-/// Whether a group has the set with this number, and the ids of just these numbers.
-fn is_numbered(table: &OfferTable, k: usize, number: u64, numbers: &[u32]) -> bool {
-    if k >= table.groups() {
-        return false;
-    }
-    let (set, ids) = table.group_at(k);
-    set.number() == number
-        && ids.len() == numbers.len()
-        && ids
-            .iter()
-            .zip(numbers)
-            .all(|(id, number)| *id == numbered(*number))
-}
-
-/// Strikes a relay's offers of the even or the odd ids below 6,000, the last one first. Whether all were there.
-fn struck_halves(table: &mut OfferTable, is_odd: bool, relay: u16) -> Result<bool, Fail> {
-    for k in (0..3_000u32).rev() {
-        if !struck(table, &numbered(2 * k + u32::from(is_odd)), relay)? {
-            return Ok(false);
-        }
-    }
-    Ok(true)
-}
-
-/// Whether the groups from the first on are those of two ids each whose sets' numbers end with these two bits.
-fn are_pairs(table: &OfferTable, first: u32, bits: u8) -> bool {
-    for k in first..3_000u32 {
-        let number = k as u64 * 4 + u64::from(bits);
-        if !is_numbered(table, (k - first) as usize, number, &[2 * k, 2 * k + 1]) {
-            return false;
-        }
-    }
-    true
-}
-
-/// Whether the groups are those of one id each, by twos: one whose set's number ends with these two bits, and one
-/// whose set's number is the next. The first of the two has the even id or the odd one.
-fn are_halves(table: &OfferTable, bits: u8, is_odd_first: bool) -> bool {
-    for k in 0..3_000u32 {
-        let (at, number) = (2 * k as usize, k as u64 * 4 + u64::from(bits));
-        let odd = u32::from(is_odd_first);
-        if !is_numbered(table, at, number, &[2 * k + odd])
-            || !is_numbered(table, at + 1, number + 1, &[2 * k + 1 - odd])
-        {
-            return false;
-        }
-    }
-    true
-}
-
 #[test]
-fn thousands_of_groups_come_and_go(rt: HostRuntime) -> Result<(), Fail> {
-    let mut table = many_groups(rt.alloc())?;
-    assert_eq!(rt; sizes(&table), (6_000, 3_000));
-    assert!(rt; are_pairs(&table, 0, 3));
-    assert!(rt; struck_halves(&mut table, false, 0)?);
-    assert_eq!(rt; sizes(&table), (6_000, 6_000));
-    assert!(rt; are_halves(&table, 2, false));
-    assert!(rt; struck_halves(&mut table, true, 1)?);
-    assert_eq!(rt; sizes(&table), (6_000, 6_000));
-    assert!(rt; are_halves(&table, 1, true));
-    assert!(rt; struck_halves(&mut table, false, 1)? && struck_halves(&mut table, true, 0)?);
-    assert_eq!(rt; sizes(&table), (5_998, 2_999));
-    assert!(rt; are_pairs(&table, 1, 0));
-    for relay in 2..14u16 {
-        for k in 0..6_000u32 {
-            struck(&mut table, &numbered(k), relay)?;
-        }
-    }
-    assert_eq!(rt; sizes(&table), (0, 0));
+fn known_offers_make_a_table(rt: HostRuntime) -> Result<(), Fail> {
+    let offers = offers_of(rt.alloc(), &[(1, set_of(&[3])), (2, set_of(&[0, 255]))])?;
+    let Ok(table) = OfferTable::of_sets(rt.alloc(), offers) else {
+        return Err("no table of offers")?;
+    };
+    assert_eq!(rt; sizes(&table), (2, 2));
+    assert!(rt; listed(rt.alloc(), table.reported())?.as_slice() == [0, 3, 255].as_slice());
     Ok(())
 }
 
@@ -467,6 +412,12 @@ fn faults_have_texts(rt: HostRuntime) -> Result<(), Fail> {
         (OfferFault::TableFull, "more than 200,000 ids"),
         (OfferFault::Double, "two reports of one relay"),
         (OfferFault::Memory, "out of memory"),
+    ] {
+        assert_eq!(rt; format!(in rt.alloc(); "{fault}")?.as_str(), text);
+    }
+    for (fault, text) in [
+        (BaseFault::Relay, "not a relay's number"),
+        (BaseFault::Load, "a load above 1,000,000,000,000"),
     ] {
         assert_eq!(rt; format!(in rt.alloc(); "{fault}")?.as_str(), text);
     }
