@@ -38,7 +38,7 @@ module _ (pairs : List (Id × List ℕ)) (ordered : Ascend (map (λ p. p.0) pair
       let e : Id = record { 0 = [] } in
       let at : (i : ℕ) → i < length pairs → get_or (map (λ p. p.0) pairs) i e ≡ (get_or pairs i d).0 = λ i f. get_or-map (λ (p : Id × List ℕ). p.0) pairs i d e f in
       let less : id_cmp (get_or (map (λ p. p.0) pairs) k e) (get_or (map (λ p. p.0) pairs) (k + 1) e) ≡ Less = Less-from_sorted id_cmp (map (λ p. p.0) pairs) k (k + 1) e ordered (omega arith) (omega (arith, length-map pairs (λ (p : Id × List ℕ). p.0))) in
-      ap is_lt (flipped (get_or pairs k d).0 (get_or pairs (k + 1) d).0 Less Greater (sym (ap (λ i. id_cmp i (get_or pairs (k + 1) d).0) (at k (omega arith)) ) ∙ sym (ap (id_cmp (get_or (map (λ p. p.0) pairs) k e)) (at (k + 1) high)) ∙ less) refl))
+      ap is_lt (flipped (get_or pairs k d).0 (get_or pairs (k + 1) d).0 Less Greater (sym (ap (λ i. id_cmp i (get_or pairs (k + 1) d).0) (at k (omega arith))) ∙ sym (ap (id_cmp (get_or (map (λ p. p.0) pairs) k e)) (at (k + 1) high)) ∙ less) refl))
 
   pub found : (i : ℕ) (d : Id × List ℕ) → i < length pairs → id_cmp (get_or pairs i d).0 id ≡ Equal → beside pairs id ≡ Some (get_or pairs i d).1
   found i d lt same = ap (beside pairs) (sym (same_id (get_or pairs i d).0 id (ap is_eq same))) ∙ found_itself pairs ordered i d lt

@@ -124,11 +124,7 @@ pub(crate) fn count_both(mine: &[(Id, RelaySet)], theirs: &[(Id, RelaySet)]) -> 
 }
 
 /// Adds an id with its relays, where there are some.
-fn push_some(
-    all: &mut Vec<(Id, RelaySet)>,
-    id: Id,
-    relays: RelaySet,
-) -> Result<(), AllocError>
+fn push_some(all: &mut Vec<(Id, RelaySet)>, id: Id, relays: RelaySet) -> Result<(), AllocError>
     ensures { OnOk result (IsPushed all.old.items id relays all.new.items) }
 {
     if relays.is_empty() {

@@ -172,7 +172,13 @@ fn bases_are_kept_by_relay(rt: HostRuntime) -> Result<(), Fail> {
     ] {
         assert!(rt; bases.set(relay, load) == answer, "{relay}");
     }
-    for (relay, load) in [(7, 9), (255, 1_000_000_000_000), (3, 0), (256, 0), (65_535, 0)] {
+    for (relay, load) in [
+        (7, 9),
+        (255, 1_000_000_000_000),
+        (3, 0),
+        (256, 0),
+        (65_535, 0),
+    ] {
         assert_eq!(rt; bases.of(relay), load, "{relay}");
     }
     assert!(rt; !bases.are_none());
@@ -385,7 +391,10 @@ fn each_id_has_the_number_of_its_group(rt: HostRuntime) -> Result<(), Fail> {
 fn two_hundred_and_fifty_six_relays_offer_an_id(rt: HostRuntime) -> Result<(), Fail> {
     let mut table = OfferTable::empty(rt.alloc());
     for relay in 0..256u16 {
-        table = merged(table, report(rt.alloc(), relay, &[1, 2 + u32::from(relay)])?)?;
+        table = merged(
+            table,
+            report(rt.alloc(), relay, &[1, 2 + u32::from(relay)])?,
+        )?;
     }
     assert_eq!(rt; sizes(&table), (257, 257));
     assert!(rt; (0..256u16).all(|relay| table.offers(&numbered(1)).has(relay)));
