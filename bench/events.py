@@ -1,14 +1,15 @@
 #!/usr/bin/env python3
-"""Measures reading, checking and writing events beside a plain program.
+"""Measures reading, checking and writing events.
 
-    bench/events.py --baseline PATH [--copy PATH] [--events N,N,..] [--runs R]
+    bench/events.py [--baseline PATH] [--copy PATH] [--events N,N,..] [--runs R]
 
-The baseline makes the events (`BASELINE gen events --n N`), JSON objects of kinds 0, 1, 3, 6, 7 and others,
-one a line, with right ids. `event_copy read` reads each line as JSON, makes the event and checks its id;
-`event_copy` also writes each as compact JSON. The baseline does the same at the start and the end of
-`serve`, which here serves one connection that is closed at once; it also keeps the events in its store, and reads
-the file in several threads, so compare processor times. Each runs R times in turn; the least times and the greatest
-peak of resident memory are shown. The texts that are written are compared.
+The inputs are events as JSON, one a line, with right ids (`inputs.py`). `event_copy read` reads each line as JSON, makes
+the event and checks its id; `event_copy` also writes each as compact JSON, which has to be the line again. Each runs R
+times; the least times and the greatest peak of resident memory are shown.
+
+With `--baseline`, a plain program whose command `serve` reads a file of events at its start and writes it at its end,
+both run in turn. Here it serves one connection that is closed at once. It also keeps the events in its store, and reads
+the file in several threads, so compare processor times. The texts that are written are compared.
 """
 import argparse
 import os
@@ -19,7 +20,9 @@ import sys
 import tempfile
 import time
 
-from measure import ended, numbers, once
+from inputs import events as write_events
+from inputs import made
+from measure import ended, numbers, once, program_of, same
 
 
 def served(baseline, folder, source, target):
@@ -45,10 +48,9 @@ def lines(path):
 
 
 def main():
-    root = os.path.dirname(os.path.dirname(os.path.abspath(__file__)))
     parser = argparse.ArgumentParser(description=__doc__.split("\n")[0])
-    parser.add_argument("--baseline", required=True, help="the plain program")
-    parser.add_argument("--copy", default=os.path.join(root, "crates", "event_copy", "out", "event_copy"))
+    parser.add_argument("--baseline", help="a plain program to compare with")
+    parser.add_argument("--copy", default=program_of("event_copy"))
     parser.add_argument("--events", type=numbers, default=[10000, 100000])
     parser.add_argument("--runs", type=int, default=3)
     options = parser.parse_args()
@@ -59,15 +61,17 @@ def main():
     with tempfile.TemporaryDirectory() as folder:
         source, ours, theirs = (os.path.join(folder, name) for name in ("events", "ours", "theirs"))
         for events in options.events:
-            with open(source, "wb") as made:
-                subprocess.run([options.baseline, "gen", "events", "--n", str(events)], stdout=made, check=True)
+            made(write_events, source, events)
             size = os.path.getsize(source) / events
-            runs = {"read": [], "read and write": [], "plain": []}
+            runs = {"read": [], "read and write": []}
+            if options.baseline:
+                runs["plain"] = []
             for _ in range(options.runs):
                 runs["read"].append(once([options.copy, "read"], source, ours))
                 runs["read and write"].append(once([options.copy], source, ours))
-                runs["plain"].append(served(options.baseline, folder, source, theirs))
-            equal = lines(ours) == lines(theirs)
+                if options.baseline:
+                    runs["plain"].append(served(options.baseline, folder, source, theirs))
+            equal = same(source, ours) and (not options.baseline or lines(ours) == lines(theirs))
             wrong = wrong or not equal
             for name, taken in runs.items():
                 print("%8d %8.0f | %-14s | %9.0f %12.2f %9.1f | %s" % (

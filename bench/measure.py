@@ -3,9 +3,16 @@ import os
 import subprocess
 import time
 
+ROOT = os.path.dirname(os.path.dirname(os.path.abspath(__file__)))
+
 
 class Refused(Exception):
     """A program ended with another status than 0."""
+
+
+def program_of(crate):
+    """Where the proved build of a crate's program lies."""
+    return os.path.join(ROOT, "crates", crate, "out", crate)
 
 
 def ended(child, words, start, errors=b""):
@@ -40,13 +47,16 @@ def same(one, other):
                 return True
 
 
-def compared(ours, theirs):
-    """A cell for the wall time in ms, the processor time in ms and the memory in MiB of two lists of runs, with the
-    ratio: least times, greatest memory."""
+def compared(ours, theirs=()):
+    """A cell for the wall time in ms, the processor time in ms and the memory in MiB of a list of runs, or of two lists
+    with their ratio: least times, greatest memory."""
     cells = []
     for k, unit, best in ((0, 1e3, min), (1, 1e3, min), (2, 1 / 1024, max)):
-        x, y = best(run[k] for run in ours) * unit, best(run[k] for run in theirs) * unit
-        cells.append("%6.1f %6.1f (%5.2f)" % (x, y, x / max(y, 1e-9)))
+        values = [best(run[k] for run in runs) * unit for runs in (ours, theirs) if runs]
+        cell = " ".join("%6.1f" % value for value in values)
+        if len(values) == 2:
+            cell += " (%5.2f)" % (values[0] / max(values[1], 1e-9))
+        cells.append(cell)
     return cells
 
 

@@ -1,5 +1,5 @@
 -- Items that stand twice, in a list and in its permutations.
-use Rattle.std.proofs.Common.{◌≡◌, ℕ, zero, suc, ◌+◌, ◌-◌, ◌<◌, ◌≤◌, ◌⊎◌, inl, inr, Bool, true, false, eqb, ltb, List, [], ◌∷◌, length, get_or, add-one, refl, sym, ap, subst, ◌∙◌, arith}
+use Rattle.std.proofs.Common.{◌≡◌, ℕ, suc, ◌+◌, ◌-◌, ◌<◌, ◌≤◌, ◌⊎◌, inl, inr, Bool, true, false, eqb, ltb, List, [], ◌∷◌, length, get_or, add-one, sym, ap, subst, ◌∙◌, arith}
 use Rattle.std.specs.Prelude.{All, IsPermutation}
 use Rattle.std.specs.List.{IsDistinct, AllByRecursion}
 use Rattle.std.specs.List.Sorted.{IsNonDecreasingBy}
@@ -13,6 +13,7 @@ use Rattle.neg_codec.specs.Laws.{OnePlace}
 use Rattle.item_roll.specs.Parts.{Ascending, IsRoll}
 use Rattle.item_roll.specs.Repeats.{HasRepeat}
 use Rattle.item_roll.proofs.Truths.{order_at}
+use Rattle.item_roll.proofs.Lists.{at_any}
 
 -- ---- whether an item stands twice
 
@@ -35,12 +36,6 @@ search_for x (y ∷ ys) = elim (cases_eq (place x) (place y)) [
     | inr none ↦ inr (ne_eqb (place x) (place y) ne, none)
   ]
 ]
-
--- the element at an index, whatever is given for an index past the end
-pub at_any : (xs : List Item) (i : ℕ) (d e : Item) → i < length xs → get_or xs i d ≡ get_or xs i e
-at_any [] i d e lt = absurd (omega arith)
-at_any (x ∷ xs) zero d e lt = refl
-at_any (x ∷ xs) (suc i) d e lt = at_any xs i d e (omega arith)
 
 pub twice : (items : List Item) → OnePlace → All IsKey items → HasRepeat items ⊎ IsDistinct same_place items
 unfolding IsDistinct

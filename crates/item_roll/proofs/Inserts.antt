@@ -12,7 +12,7 @@ use Rattle.neg_codec.proofs.Stretches.{key_below}
 use Rattle.item_roll.specs.Parts.{Ascending, IsRoll, part, count_below}
 use Rattle.item_roll.specs.Gaps.{IsGap}
 use Rattle.item_roll.proofs.Cuts.{part_is}
-use Rattle.item_roll.proofs.Distinct.{at_any}
+use Rattle.item_roll.proofs.Lists.{at_any}
 use Rattle.item_roll.proofs.Places.{low_item, high_item, count_at, rises}
 
 -- where the items below a key end, none is above it

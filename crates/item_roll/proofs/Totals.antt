@@ -1,13 +1,14 @@
--- Sums of the ids of items.
+-- Sums of the ids of items, as items come and go.
 use Rattle.std.proofs.Common.{◌≡◌, ℕ, ◌+◌, ◌-◌, ◌%◌, ◌^◌, ◌<◌, ◌≤◌, List, [], ◌∷◌, ◌++◌, length, get_or, take, drop, add-one, refl, sym, ap, ◌∙◌, arith}
 use Rattle.std.proofs.Math.Seq.{take-suc}
-use Rattle.std.specs.List.{sum_by, fold, slice_range}
+use Rattle.std.specs.List.{insert, sum_by, fold, slice_range}
 use Rattle.std.proofs.lemmas.List.{length-take, length-drop}
-use Rattle.std.proofs.lemmas.List.Sums.{sum_by-append}
+use Rattle.std.proofs.lemmas.List.Sums.{sum_by-insert, sum_by-append}
 use Rattle.neg_codec.specs.declared.Id.{Id}
 use Rattle.neg_codec.specs.declared.Item.{Item}
 use Rattle.neg_print.specs.Print.{little_number, sum_of, print_by, print_of}
 use Rattle.item_roll.specs.Parts.{ids_of}
+use Rattle.item_roll.specs.Sums.{sum_at}
 
 abbrev by_items : List Item → ℕ
 by_items xs = sum_by (λ (k : Item). little_number k.id.0) xs
@@ -16,9 +17,12 @@ ids_fold : (xs : List Item) (a : ℕ) → fold (λ (n : ℕ) (i : Id). n + littl
 ids_fold [] a = refl
 ids_fold (x ∷ xs) a = ids_fold xs (a + little_number x.id.0)
 
-sum_is : (xs : List Item) → sum_of (ids_of xs) ≡ by_items xs % 2 ^ 256
+ids_sum : (xs : List Item) → sum_by (λ i. little_number i.0) (ids_of xs) ≡ by_items xs
+ids_sum xs = ids_fold xs 0
+
+pub sum_is : (xs : List Item) → sum_at xs ≡ by_items xs % 2 ^ 256
 unfolding sum_of
-sum_is xs = ap (λ (n : ℕ). n % 2 ^ 256) (ids_fold xs 0)
+sum_is xs = ap (λ (n : ℕ). n % 2 ^ 256) (ids_sum xs)
 
 mod_more : (a b : ℕ) → (a + b) % 2 ^ 256 ≡ (a % 2 ^ 256 + b) % 2 ^ 256
 mod_more a b = omega arith
@@ -26,7 +30,20 @@ mod_more a b = omega arith
 mod_both : (a b : ℕ) → (a + b) % 2 ^ 256 ≡ (a % 2 ^ 256 + b % 2 ^ 256) % 2 ^ 256
 mod_both a b = omega arith
 
-pub sum_none : sum_of (ids_of []) ≡ 0
+pub sum_insert : (xs : List Item) (j : ℕ) (x : Item) → sum_at (insert xs j x) ≡ (sum_at xs + little_number x.id.0) % 2 ^ 256
+sum_insert xs j x =
+    sum_is (insert xs j x) ∙ ap (λ (n : ℕ). n % 2 ^ 256) (sum_by-insert (λ (k : Item). little_number k.id.0) xs j x) ∙ mod_more (by_items xs) (little_number x.id.0)
+    ∙ ap (λ (n : ℕ). (n + little_number x.id.0) % 2 ^ 256) (sym (sum_is xs))
+
+pub sum_append : (xs ys : List Item) → sum_at (xs ++ ys) ≡ (sum_at xs + sum_at ys) % 2 ^ 256
+sum_append xs ys =
+    sum_is (xs ++ ys) ∙ ap (λ (n : ℕ). n % 2 ^ 256) (sum_by-append (λ (k : Item). little_number k.id.0) xs ys) ∙ mod_both (by_items xs) (by_items ys)
+    ∙ ap (λ (n : ℕ). (n + by_items ys % 2 ^ 256) % 2 ^ 256) (sym (sum_is xs)) ∙ ap (λ (n : ℕ). (sum_at xs + n) % 2 ^ 256) (sym (sum_is ys))
+
+pub sum_small : (xs : List Item) → sum_at xs < 2 ^ 256
+sum_small xs = omega (arith, sum_is xs)
+
+pub sum_none : sum_at [] ≡ 0
 sum_none = sum_is []
 
 -- one more item

@@ -2,13 +2,18 @@
 #![tactic(auto)]
 
 mod bound;
+mod chunk;
+mod entries;
 mod order;
 mod roll;
 mod sorting;
 mod split;
 
 pub use bound::minimal_bound;
+pub use chunk::Chunk;
+pub use entries::Entry;
 pub use roll::{Roll, RollFault};
+pub use split::LISTED_BELOW;
 
 #[cfg(test)]
 mod tests;

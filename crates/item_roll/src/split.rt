@@ -18,7 +18,7 @@ use std::alloc::{AllocError, Global};
 const PIECES: usize = 16;
 
 /// A piece of fewer items is listed.
-const LISTED_BELOW: usize = 32;
+pub const LISTED_BELOW: usize = 32;
 
 /// Where the first of that many pieces ends, the larger ones first.
 fn piece_end(from: usize, hi: usize, pieces: usize) -> usize
@@ -109,7 +109,7 @@ impl Roll {
         // They reach up to the bound, and none of them is a Skip.
         ensures last { IfOk result (λ v. Reaches (edge_of upper.now) (map span_of v.items)) }
     {
-        self.is_in_order();
+        self.items_rise();
         if hi - lo < LISTED_BELOW {
             told_by_ids(self, alloc, lo, hi, upper)
         } else {

@@ -1,5 +1,6 @@
 use super::*;
 use neg_codec::{Bound, Id, Item, Key, Payload, Range};
+use neg_print::Sum;
 use std::process::Abort;
 use std::test::*;
 
@@ -223,5 +224,122 @@ fn a_full_roll_takes_no_more(rt: HostRuntime) -> Result<(), Fail> {
     assert_eq!(rt; roll.len(), 1_000_000);
     assert!(rt; roll.insert(item(0, 0)) == Err(RollFault::Full));
     assert!(rt; roll.insert(item(1_000_001, 0)) == Err(RollFault::Present));
+    Ok(())
+}
+
+/// An item at a time, whose id ends with the time's bytes.
+fn timed(time: u64) -> Item {
+    let mut id = [0xe7; 32];
+    id[24..].copy_from_slice(&time.to_le_bytes());
+    Item { time, id: Id(id) }
+}
+
+/// The sum of all ids, one by one.
+fn sum_of(items: &[Item]) -> Sum {
+    let mut sum = Sum::zero();
+    for item in items {
+        sum = sum.add(Sum::of(&item.id));
+    }
+    sum
+}
+
+/// Whether a chunk has 1 to 512 items, which stand in the list from a place on, and their sum.
+fn is_chunk_at(chunk: &Chunk, items: &[Item], from: usize) -> bool {
+    let own = chunk.items();
+    if own.is_empty() || own.len() > 512 || from > items.len() || own.len() > items.len() - from {
+        return false;
+    }
+    let there = &items[from..from + own.len()];
+    own == there && chunk.sum() == sum_of(own)
+}
+
+/// Whether a roll has these items, one by one and in its chunks.
+fn has_items(roll: &Roll, items: &[Item]) -> bool {
+    if roll.len() != items.len() || roll.chunks() != roll.entries().len() {
+        return false;
+    }
+    let mut from = 0;
+    for entry in roll.entries() {
+        if !is_chunk_at(entry.chunk(), items, from) {
+            return false;
+        }
+        from = from.saturating_add(entry.chunk().items().len());
+    }
+    for at in 0..items.len() {
+        if at >= roll.len() || roll.get(at) != items[at] {
+            return false;
+        }
+    }
+    from == items.len()
+}
+
+/// Whether the fingerprints between all these places are those of the items there.
+fn has_all_prints(roll: &Roll, items: &[Item], places: &[usize]) -> bool {
+    for lo in places {
+        for hi in places {
+            if *lo <= *hi && *hi <= roll.len() && *hi <= items.len() {
+                let want = neg_print::print(sum_of(&items[*lo..*hi]), (*hi - *lo) as u64);
+                if roll.print(*lo, *hi) != want {
+                    return false;
+                }
+            }
+        }
+    }
+    true
+}
+
+#[test]
+fn chunks_of_1025_items(rt: HostRuntime) -> Result<(), Fail> {
+    let mut items = Vec::new(rt.alloc());
+    for time in 0..1025 {
+        items.push(timed(time))?;
+    }
+    let roll = Roll::from_items(rt.alloc(), &items)?;
+    assert!(rt; roll.chunks() >= 3);
+    assert!(rt; roll.chunk(0).is_some() && roll.chunk(roll.chunks()).is_none());
+    assert!(rt; has_items(&roll, &items));
+    let places = [0, 1, 3, 255, 257, 500, 511, 512, 513, 540, 900, 1024, 1025];
+    assert!(rt; has_all_prints(&roll, &items, &places));
+    assert!(rt; roll.len() == 1025 && items.len() == 1025);
+    let ids = roll.ids(rt.alloc(), 500, 600)?;
+    assert!(rt; ids.len() == 100 && ids[0] == items[500].id && ids[99] == items[599].id);
+    Ok(())
+}
+
+#[test]
+fn a_share_stays_as_it_was(rt: HostRuntime) -> Result<(), Fail> {
+    let alloc = rt.alloc();
+    let (mut before, mut after) = (Vec::new(alloc), Vec::new(alloc));
+    for time in 0..1625_u64 {
+        after.push(timed(time))?;
+        if time % 2 == 0 || time >= 1200 {
+            before.push(timed(time))?;
+        }
+    }
+    let mut roll = Roll::from_items(alloc, &before)?;
+    let share = roll.share(alloc)?;
+    for at in 0..600 {
+        roll.insert(timed(1 + (at * 7 % 600) * 2))?;
+    }
+    assert!(rt; has_items(&share, &before));
+    assert!(rt; has_items(&roll, &after));
+    let places = [0, 2, 200, 255, 256, 700, 1000, 1025, 1300, 1624, 1625];
+    assert!(rt; has_all_prints(&share, &before, &places));
+    assert!(rt; has_all_prints(&roll, &after, &places));
+    Ok(())
+}
+
+#[test]
+fn items_one_by_one(rt: HostRuntime) -> Result<(), Fail> {
+    let alloc = rt.alloc();
+    let mut roll = Roll::from_items(alloc, &[])?;
+    let mut items = Vec::new(alloc);
+    for time in 0..1100 {
+        items.push(timed(time))?;
+        roll.insert(timed(1099 - time))?;
+    }
+    assert!(rt; has_items(&roll, &items));
+    assert!(rt; roll.insert(timed(512)) == Err(RollFault::Present));
+    assert!(rt; has_items(&roll, &items));
     Ok(())
 }

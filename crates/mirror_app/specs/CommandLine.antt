@@ -5,8 +5,8 @@ use Rattle.clap.specs.Words.{App, IsUnsignedIn, Row, Rule, Text, new_app, new_ru
 use Rattle.clap.specs.declared.builder.value_parser.ValueParser.TheVariants as parser
 use Rattle.mirror_app.specs.declared.words.Words.{Words}
 use Rattle.mirror_app.specs.declared.words.Words.TheVariants.{Recon, Plan, Check}
-use Rattle.mirror_app.specs.declared.words.WordsFault.{WordsFault}
-use Rattle.mirror_app.specs.declared.words.WordsFault.TheVariants.{Usage, Memory}
+use Rattle.mirror_app.specs.declared.usage.WordsFault.{WordsFault}
+use Rattle.mirror_app.specs.declared.usage.WordsFault.TheVariants.{Usage, Memory}
 
 -- `--limit N`, a number from 4,096 to 1,048,576
 abbrev pub limit_rule : Rule
@@ -24,9 +24,12 @@ check = new_app (codes "check")
 abbrev pub wants_subcommand : App → App
 wants_subcommand a = record a { top = record a.top { subcommand_required = true } }
 
--- the program without its subcommands
+abbrev pub tells_version : App → App
+tells_version a = record a { top = record a.top { has_version = true } }
+
+-- the program without its subcommands, which tells its version
 abbrev pub program : App
-program = wants_subcommand (new_app (codes "nostr-mirror"))
+program = wants_subcommand (tells_version (new_app (codes "nostr-mirror")))
 
 -- one of the subcommands has to be named, and no other word
 abbrev pub nostr_mirror : App

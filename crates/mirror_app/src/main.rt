@@ -1,44 +1,23 @@
 //! `nostr-mirror`: the program.
 #![tactic(auto)]
 
+mod jobs;
 #[cfg(test)]
 mod tests;
+mod usage;
 mod words;
 
-use mirror_run::{Refusal, run_recon};
-use plan_run::{run_check, run_plan};
+use jobs::{End, run};
+use std::io;
 use std::process::ExitCode;
-use std::{env, io};
-use words::{Words, WordsFault, read_words};
-
-const REFUSED: u8 = 1;
-
-const USAGE: u8 = 2;
+use usage::words_of;
 
 fn main(rt: HostRuntime) -> io::Result<ExitCode> {
     let alloc = rt.alloc();
-    let given: Vec<String> = env::args(&rt)?.collect(alloc)?;
-    let words = match read_words(alloc, given.as_slice()) {
-        Ok(words) => words,
-        Err(WordsFault::Usage(text)) => {
-            let _ = eprint!(rt; "{text}");
-            return Ok(ExitCode::from(USAGE));
-        }
-        Err(WordsFault::Memory) => {
-            let _ = eprintln!(rt; "refused: {}", Refusal::Memory);
-            return Ok(ExitCode::from(REFUSED));
-        }
+    let end = match words_of(alloc, &rt) {
+        Ok(words) => run(alloc, words.as_slice(), &mut rt.stdin(), &mut rt.stdout()),
+        Err(fault) => End::from(fault),
     };
-    let done = match words {
-        Words::Recon(limit) => run_recon(alloc, &mut rt.stdin(), &mut rt.stdout(), limit),
-        Words::Plan => run_plan(alloc, &mut rt.stdin(), &mut rt.stdout()),
-        Words::Check => run_check(alloc, &mut rt.stdin(), &mut rt.stdout()),
-    };
-    match done {
-        Ok(()) => Ok(ExitCode::SUCCESS),
-        Err(refusal) => {
-            let _ = eprintln!(rt; "refused: {refusal}");
-            Ok(ExitCode::from(REFUSED))
-        }
-    }
+    let _ = eprint!(rt; "{end}");
+    Ok(ExitCode::from(end.status()))
 }

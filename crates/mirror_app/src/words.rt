@@ -1,13 +1,13 @@
 //! The job that the program's words name.
 
-ghost use Rattle.std.specs.Prelude.{◌≡◌, ◌≢◌, ◌≤◌, false, map, codes, Some, IfOk, OnOk, IfErr, string_bytes};
-ghost use Rattle.clap.specs.Words.{app_of, kind_of, rule_of, shape_of, subcommand_name_of, subcommand_of, subcommand_rows_of, found_of, one_of, rows_of};
+ghost use Rattle.std.specs.Prelude.{◌≡◌, ◌≤◌, false, map, codes, Some, IfOk, OnOk, IfErr, string_bytes};
+ghost use Rattle.clap.specs.Words.{app_of, rule_of, shape_of, subcommand_name_of, subcommand_of, subcommand_rows_of, found_of, one_of, rows_of};
 ghost use Rattle.clap.specs.declared.builder.command.Command.TheViews.{out-Command as fields_of};
 ghost use Rattle.clap.specs.Simple.{new_shape};
-ghost use Rattle.mirror_app.specs.CommandLine.{nostr_mirror, program as the_program, recon as the_recon, limit_rule, name_of, IsJob, IsWithin, IsLimitOf, TellsLimit, limit_text, IsNamed, IsAccepted, IsUsage, IsDue};
+ghost use Rattle.mirror_app.specs.CommandLine.{nostr_mirror, program as the_program, recon as the_recon, limit_rule, name_of, IsJob, IsWithin, IsLimitOf, TellsLimit, limit_text, IsNamed, IsAccepted, IsDue};
 
-use clap::error::ErrorKind;
-use clap::{Arg, ArgMatches, Command, Error, value_parser};
+use crate::usage::{WordsFault, fault_of};
+use clap::{Arg, ArgMatches, Command, value_parser};
 use std::alloc::{AllocError, Global};
 
 /// How many bytes a message may have at least.
@@ -19,6 +19,9 @@ const MOST_LIMIT: usize = 1_048_576;
 /// How many it may have where no limit is named.
 const DEFAULT_LIMIT: usize = 60_000;
 
+/// What `--version` tells.
+const VERSION: &str = "0.1.0";
+
 /// What the program is to do.
 #[derive(Clone, Copy, Debug, PartialEq, Eq)]
 pub enum Words {
@@ -29,26 +32,6 @@ pub enum Words {
     Plan,
     /// Tell the busiest load of a plan text, read from standard input, where no sharing has less.
     Check,
-}
-
-/// Why the words name no job.
-#[derive(Debug, Drop)]
-pub enum WordsFault {
-    /// The words are wrong, or ask for help: `clap`'s text.
-    Usage(String),
-    /// No memory was found.
-    Memory,
-}
-
-impl From<AllocError> for WordsFault {
-    ghost use Rattle.std.specs.Prelude.{◌≡◌};
-    ghost use Rattle.mirror_app.specs.declared.words.WordsFault.TheVariants.{Memory};
-
-    ghost from_gives = { λ _ e. e ≡ Memory };
-
-    fn from(_e: AllocError) -> WordsFault {
-        WordsFault::Memory
-    }
 }
 
 /// A subcommand that takes no words.
@@ -72,7 +55,7 @@ fn limit_option<'a>(alloc: Global) -> Arg<'a>
 }
 
 /// The subcommand that compares two lists.
-fn recon<'a>(alloc: Global) -> Result<Command<'a>, AllocError>
+pub fn recon<'a>(alloc: Global) -> Result<Command<'a>, AllocError>
     ensures shape { IfOk result (λ c. shape_of c ≡ the_recon.top) }
     ensures local { IfOk result (λ c. (fields_of c).has_globals ≡ false) }
 {
@@ -91,12 +74,13 @@ fn program<'a>(alloc: Global) -> Result<Command<'a>, AllocError>
     let program = Command::new(alloc, "nostr-mirror")
         .bin_name("nostr-mirror")?
         .about("A proved mirror relay for Nostr")
+        .version(VERSION)
         .subcommand_required(true);
     Ok(program)
 }
 
 /// The words that the program takes.
-fn command<'a>(alloc: Global) -> Result<Command<'a>, AllocError>
+pub fn command<'a>(alloc: Global) -> Result<Command<'a>, AllocError>
     ensures { IfOk result (λ c. app_of c ≡ nostr_mirror) }
 {
     let recon = recon(alloc)?;
@@ -152,19 +136,6 @@ fn job_of(matches: &ArgMatches) -> Words
         Words::Check
     } else {
         Words::Recon(limit_of(matches))
-    }
-}
-
-/// The text of an error, unless that is want of memory.
-fn fault_of(alloc: Global, error: Error) -> WordsFault
-    ensures { IsUsage result → kind_of error ≢ ErrorKind.OutOfMemory }
-{
-    if matches!(error.kind(), ErrorKind::OutOfMemory) {
-        return WordsFault::Memory;
-    }
-    match format!(in alloc; "{error}") {
-        Ok(text) => WordsFault::Usage(text),
-        Err(AllocError) => WordsFault::Memory,
     }
 }
 

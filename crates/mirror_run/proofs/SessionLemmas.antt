@@ -1,67 +1,128 @@
 -- What one session with a peer in this process shows.
-use Rattle.std.proofs.Common.{◌≡◌, ℕ, ◌≤◌, List, [], length, Option, None, Some, Result, Ok, Err, All, subst, lit≤, arith}
-use Rattle.std.specs.Prelude.{IfSome, IsPermutation}
+use Rattle.std.proofs.Common.{◌≡◌, ◌⊎◌, inl, inr, ℕ, ◌<◌, ◌≤◌, List, [], ◌∷◌, length, Option, None, Some, Result, Ok, Err, All, refl, sym, ap, ◌∙◌, subst, arith}
+use Rattle.std.specs.Prelude.{IfSome, IsUtf8}
 use Rattle.std.specs.Io.KnownBytes.{Appends}
 use Rattle.item_roll.specs.Parts.{IsRoll}
+use Rattle.neg_codec.specs.declared.CodecFault.{CodecFault}
 use Rattle.neg_codec.specs.declared.Item.{Item}
+use Rattle.neg_codec.specs.Ranges.{Span}
+use Rattle.neg_codec.specs.Reading.{message_at}
+use Rattle.neg_codec.specs.Text.{Spells}
+use Rattle.neg_codec.proofs.Again.{message_again}
+use Rattle.std.proofs.lemmas.List.Elements.{All-nil, All-cons, All-head, All-tail}
 use Rattle.neg_initiator.specs.declared.initiator.Outcome.{Outcome}
-use Rattle.neg_session.specs.Exchange.{Exchange}
-use Rattle.neg_session.specs.Explaining.{Explains, AnswersBy}
+use Rattle.neg_session.specs.Asking.{Linked, Chained, MayResume, MayAsk}
+use Rattle.neg_session.specs.Exchange.{Exchange, KeepsLimit, gained}
+use Rattle.neg_session.specs.Explaining.{IsExplained, Explains, AnswersBy}
 use Rattle.neg_session.specs.Faults.{number_of}
-use Rattle.neg_session.specs.Local.{Local, Keeps, RollExplains}
-use Rattle.neg_session.specs.Ran.{Ran}
+use Rattle.neg_session.specs.Local.{Local, IsRefused, IsAnswered, Keeps, RollExplains}
+use Rattle.neg_session.specs.Most.{AreMost}
+use Rattle.neg_session.specs.Ran.{LastAnswer, IsRefused as session_refused, Ran}
 use Rattle.neg_session.specs.declared.limits.SessionLimits.{SessionLimits}
 use Rattle.neg_session.specs.declared.fault.SessionFault.{SessionFault}
 use Rattle.neg_session.specs.declared.fault.SessionFault.TheVariants.{PeerFailed, Bad, Rounds, NeedFull, LogFull, Memory}
-use Rattle.mirror_run.specs.ItemLists.{IsInput}
 use Rattle.mirror_run.specs.ReconText.{recon_text}
-use Rattle.mirror_run.specs.Reconciled.{AreLimits, Reconciles, Fails, IsPrinted}
+use Rattle.mirror_run.specs.declared.refusal.Refusal.{Refusal}
+use Rattle.mirror_run.specs.declared.refusal.Refusal.TheVariants as refusal
+use Rattle.mirror_run.specs.Refused.{IsTextRefusal, IsLinesRefusal}
+use Rattle.mirror_run.specs.Reconciled.{Reconciles, Fails, TellsRolls, IsSessionRefusal, IsListsRefusal, IsReconRefusal, IsPrinted}
 
 -- a peer that was asked nothing yet
-pub record IsFresh (theirs : List Item) (peer : Local) : Type 0 where
+pub record IsFresh (limit : ℕ) (theirs : List Item) (peer : Local) : Type 0 where
   pub roll : peer.roll ≡ theirs
   pub log : peer.log ≡ []
   pub faults : peer.faults ≡ 0
   pub sorted : IsRoll peer.roll
   pub answers : All (AnswersBy peer.roll) peer.log
+  pub limit_is : peer.limit ≡ limit
+  pub pairs : All (IsAnswered limit) peer.log
 
-ran_fresh : (mine theirs : List Item) (limits : SessionLimits) (old new : Local) (r : Result Outcome SessionFault) → IsFresh theirs old
+ran_fresh : (limit : ℕ) (mine theirs : List Item) (limits : SessionLimits) (old new : Local) (r : Result Outcome SessionFault) → IsFresh limit theirs old
     → Ran mine limits old.log new.log old.faults new.faults r → Ran mine limits [] new.log 0 new.faults r
-ran_fresh mine theirs limits old new r fresh ran = rw (fresh.log, fresh.faults) at ran
+ran_fresh limit mine theirs limits old new r fresh ran = rw (fresh.log, fresh.faults) at ran
 
-explained : (mine theirs : List Item) (limits : SessionLimits) (old new : Local) (r : Result Outcome SessionFault) → RollExplains → IsFresh theirs old → Keeps old new
+explained : (limit : ℕ) (mine theirs : List Item) (limits : SessionLimits) (old new : Local) (r : Result Outcome SessionFault) → RollExplains → IsFresh limit theirs old → Keeps old new
     → Ran mine limits [] new.log 0 new.faults r → Explains theirs new.log
-explained mine theirs limits old new r law fresh keeps ran =
+explained limit mine theirs limits old new r law fresh keeps ran =
     let P : List Item → Type 0 = λ b. Explains b new.log in
     let kept : All (AnswersBy old.roll) new.log = let h = keeps.answers fresh.answers in rw keeps.roll at h in
     subst P fresh.roll (law limits.limit mine old.roll [] new.log fresh.sorted kept ran.appended ran.chained)
 
-pub reconciled : (limit : ℕ) (mine theirs : List Item) (limits : SessionLimits) (old new : Local) (o : Outcome) → RollExplains → AreLimits limit limits → IsFresh theirs old
+-- what a session asks and hears is no longer than the limit
+
+kept_pairs : (limit : ℕ) (theirs : List Item) (old new : Local) → IsFresh limit theirs old → Keeps old new → All (IsAnswered limit) new.log
+kept_pairs limit theirs old new fresh keeps =
+    subst (λ (n : ℕ). All (IsAnswered n) new.log) (keeps.limit_is ∙ fresh.limit_is) (keeps.pairs (subst (λ (n : ℕ). All (IsAnswered n) old.log) (sym fresh.limit_is) fresh.pairs))
+
+chained_all : {r : Result Outcome SessionFault} {n : ℕ} → (mine : List Item) (limits : SessionLimits) (log : List Exchange) → Ran mine limits [] log 0 n r → Chained limits.limit mine log
+chained_all mine limits log ran = subst (Chained limits.limit mine) (sym ran.appended) ran.chained
+
+linked_short : (limit : ℕ) (own : List Item) (e : Exchange) (es : List Exchange) → Linked limit own e es → All (IsAnswered limit) es → All (KeepsLimit limit) es
+linked_short limit own e [] l h = All-nil (KeepsLimit limit)
+linked_short limit own e (f ∷ fs) l h =
+    All-cons (KeepsLimit limit) f fs (l.0.short, (All-head (IsAnswered limit) f fs h).short) (linked_short limit own f fs l.1 (All-tail (IsAnswered limit) f fs h))
+
+all_short : (limit : ℕ) (own : List Item) (es : List Exchange) → Chained limit own es → All (IsAnswered limit) es → All (KeepsLimit limit) es
+all_short limit own [] l h = All-nil (KeepsLimit limit)
+all_short limit own (e ∷ es) l h =
+    All-cons (KeepsLimit limit) e es (l.0.short, (All-head (IsAnswered limit) e es h).short) (linked_short limit own e es l.1 (All-tail (IsAnswered limit) e es h))
+
+-- a message within the length that is read isn't refused
+
+is_read : (bytes : List ℕ) (m : List Span) (c : CodecFault) → length bytes ≤ 1048576 → Spells bytes m → message_at bytes ≡ Err c → ⊥
+is_read bytes m c short spells refused = let read = message_again bytes m short spells in cc
+
+heard : (limit : ℕ) (theirs : List Item) (c : CodecFault) (log : List Exchange) → limit ≤ 1048576 → Explains theirs log → All (IsAnswered limit) log → LastAnswer (session_refused c) log → ⊥
+heard limit theirs c log most explains pairs last = go log explains.each pairs last
+  where
+    go : (es : List Exchange) → All (IsExplained theirs) es → All (IsAnswered limit) es → LastAnswer (session_refused c) es → ⊥
+    go [] x h l = l
+    go (e ∷ []) x h l =
+        let told = All-head (IsExplained theirs) e [] x in
+        is_read e.answered told.answered c (omega (arith, most, (All-head (IsAnswered limit) e [] h).short)) told.answers l
+    go (e ∷ f ∷ es) x h l = go (f ∷ es) (All-tail (IsExplained theirs) e (f ∷ es) x) (All-tail (IsAnswered limit) e (f ∷ es) h) l
+
+may_resume_read : (limit : ℕ) (own : List Item) (e : Exchange) (es : List Exchange) (q : List ℕ) → limit ≤ 1048576 → MayResume limit own e es q → IsRefused q → ⊥
+may_resume_read limit own e [] q most may refused = is_read q may.asked refused.0 (omega (arith, most, may.short)) may.spelled refused.1
+may_resume_read limit own e (f ∷ fs) q most may refused = may_resume_read limit own f fs q most may refused
+
+may_be_read : (limit : ℕ) (own : List Item) (es : List Exchange) (q : List ℕ) → limit ≤ 1048576 → MayAsk limit own es q → IsRefused q → ⊥
+may_be_read limit own [] q most may refused = is_read q may.asked refused.0 (omega (arith, most, may.short)) may.spelled refused.1
+may_be_read limit own (e ∷ es) q most may refused = may_resume_read limit own e es q most may refused
+
+pub reconciled : (limit : ℕ) (mine theirs : List Item) (limits : SessionLimits) (old new : Local) (o : Outcome) → RollExplains → AreMost limit limits → IsFresh limit theirs old
     → Keeps old new → Ran mine limits old.log new.log old.faults new.faults (Ok o) → Reconciles limit mine theirs new.log o
 reconciled limit mine theirs limits old new o law are fresh keeps ran =
-    let from_start = ran_fresh mine theirs limits old new (Ok o) fresh ran in
-    let explains = explained mine theirs limits old new (Ok o) law fresh keeps from_start in
+    let from_start = ran_fresh limit mine theirs limits old new (Ok o) fresh ran in
+    let explains = explained limit mine theirs limits old new (Ok o) law fresh keeps from_start in
     let P : ℕ → Type 0 = λ n. Ran mine limits [] new.log 0 n (Ok o) in
     record {
       limits = limits;
       are = are;
-      ran = subst P from_start.unfailed from_start;
+      ran = subst P (from_start.unfailed (λ e. cc)) from_start;
+      short = all_short limit mine new.log (subst (λ (n : ℕ). Chained n mine new.log) are.limit_is (chained_all mine limits new.log from_start)) (kept_pairs limit theirs old new fresh keeps);
       explained = explains;
       right = from_start.exact theirs explains;
     }
 
-number_at_most : (fault : SessionFault) → number_of fault ≤ 6
-number_at_most PeerFailed = lit≤ tt
-number_at_most (Bad c) = lit≤ tt
-number_at_most Rounds = lit≤ tt
-number_at_most NeedFull = lit≤ tt
-number_at_most LogFull = lit≤ tt
-number_at_most Memory = lit≤ tt
+number_range : (fault : SessionFault) → ((c : CodecFault) → fault ≡ Bad c → ⊥) → (fault ≡ PeerFailed → ⊥) → (fault ≡ Memory → ⊥) → (2 < number_of fault) × (number_of fault < 6)
+number_range PeerFailed bad failed memory = absurd (failed refl)
+number_range (Bad c) bad failed memory = absurd (bad c refl)
+number_range Rounds bad failed memory = (omega arith, omega arith)
+number_range NeedFull bad failed memory = (omega arith, omega arith)
+number_range LogFull bad failed memory = (omega arith, omega arith)
+number_range Memory bad failed memory = absurd (memory refl)
 
-pub failed : (limit : ℕ) (mine theirs : List Item) (limits : SessionLimits) (old new : Local) (fault : SessionFault) (number : ℕ) → RollExplains → AreLimits limit limits → IsFresh theirs old
-    → Keeps old new → Ran mine limits old.log new.log old.faults new.faults (Err fault) → number ≡ number_of fault → (number ≡ 6 → ⊥) → Fails limit mine theirs number
-failed limit mine theirs limits old new fault number law are fresh keeps ran is other =
-    let from_start = ran_fresh mine theirs limits old new (Err fault) fresh ran in
+pub failed : (limit : ℕ) (mine theirs : List Item) (limits : SessionLimits) (old new : Local) (fault : SessionFault) (number : ℕ) → RollExplains → AreMost limit limits → limit ≤ 1048576 → IsFresh limit theirs old
+    → Keeps old new → Ran mine limits old.log new.log old.faults new.faults (Err fault)
+    → (fault ≡ PeerFailed → (q : List ℕ) × MayAsk limits.limit mine (gained old.log new.log) q × IsRefused q)
+    → number ≡ number_of fault → (fault ≡ Memory → ⊥) → Fails limit mine theirs number
+failed limit mine theirs limits old new fault number law are most fresh keeps ran asked is other =
+    let from_start = ran_fresh limit mine theirs limits old new (Err fault) fresh ran in
+    let explains = explained limit mine theirs limits old new (Err fault) law fresh keeps from_start in
+    let range = number_range fault
+    (λ c e. heard limit theirs c new.log most explains (kept_pairs limit theirs old new fresh keeps) (from_start.bad c (ap Err e)))
+    (λ e. let q = asked e in may_be_read limits.limit mine (gained old.log new.log) q.0 (omega (arith, are.limit_is, most)) q.1 q.2) other in
     record {
       limits = limits;
       log = new.log;
@@ -69,24 +130,96 @@ failed limit mine theirs limits old new fault number law are fresh keeps ran is 
       fault = fault;
       are = are;
       ran = from_start;
-      explained = explained mine theirs limits old new (Err fault) law fresh keeps from_start;
+      explained = explains;
       is = is;
-      not_memory = omega (arith, number_at_most fault);
+      answered = omega (arith, is, range.0);
+      not_memory = omega (arith, is, range.1);
     }
 
+is_memory : (fault : SessionFault) → (fault ≡ Memory) ⊎ (fault ≡ Memory → ⊥)
+is_memory PeerFailed = inr (λ e. cc)
+is_memory (Bad c) = inr (λ e. cc)
+is_memory Rounds = inr (λ e. cc)
+is_memory NeedFull = inr (λ e. cc)
+is_memory LogFull = inr (λ e. cc)
+is_memory Memory = inl refl
+
+pub refused : (limit : ℕ) (mine theirs : List Item) (limits : SessionLimits) (old new : Local) (fault : SessionFault) (result : Refusal) → RollExplains → AreMost limit limits → limit ≤ 1048576 → IsFresh limit theirs old
+    → Keeps old new → Ran mine limits old.log new.log old.faults new.faults (Err fault)
+    → (fault ≡ PeerFailed → (q : List ℕ) × MayAsk limits.limit mine (gained old.log new.log) q × IsRefused q)
+    → (fault ≡ Memory → result ≡ refusal.Memory) → ((fault ≡ Memory → ⊥) → result ≡ refusal.Session (number_of fault)) → IsSessionRefusal limit mine theirs result
+refused limit mine theirs limits old new fault result law are most fresh keeps ran asked memory others = elim (is_memory fault) [
+  | inl is ↦ subst (IsSessionRefusal limit mine theirs) (sym (memory is)) tt
+  | inr other ↦ subst (IsSessionRefusal limit mine theirs) (sym (others other)) (failed limit mine theirs limits old new fault (number_of fault) law are most fresh keeps ran asked refl other)
+]
+
+-- and what the text's two lists come to
+pub lists_refused : (limit : ℕ) (text : List ℕ) (mine theirs : List Item) (e : Refusal) → TellsRolls text mine theirs → IsSessionRefusal limit mine theirs e → IsListsRefusal limit text e
+lists_refused limit text mine theirs (refusal.Session number) told h = (mine, theirs, told, h)
+lists_refused limit text mine theirs refusal.Memory told h = tt
+lists_refused limit text mine theirs refusal.Read told h = h
+lists_refused limit text mine theirs refusal.Write told h = h
+lists_refused limit text mine theirs refusal.InputTooLong told h = h
+lists_refused limit text mine theirs refusal.NotUtf8 told h = h
+lists_refused limit text mine theirs (refusal.Line n f) told h = absurd h
+lists_refused limit text mine theirs (refusal.Plan k) told h = h
+lists_refused limit text mine theirs refusal.TableFull told h = h
+
+pub lines_refused : (limit : ℕ) (text : List ℕ) (e : Refusal) → IsLinesRefusal text e → IsListsRefusal limit text e
+lines_refused limit text (refusal.Session number) h = absurd h
+lines_refused limit text refusal.Memory h = tt
+lines_refused limit text refusal.Read h = h
+lines_refused limit text refusal.Write h = h
+lines_refused limit text refusal.InputTooLong h = h
+lines_refused limit text refusal.NotUtf8 h = h
+lines_refused limit text (refusal.Line n f) h = h
+lines_refused limit text (refusal.Plan k) h = h
+lines_refused limit text refusal.TableFull h = h
+
+pub input_refused : (limit : ℕ) (known : Option (List ℕ)) (text : List ℕ) (e : Refusal) → IfSome known (λ input. text ≡ input) → length text ≤ 67108864 → IsUtf8 text → IsListsRefusal limit text e
+    → IfSome known (λ input. IsReconRefusal limit input e)
+input_refused limit None text e is short utf8 h = tt
+input_refused limit (Some input) text e is short utf8 h = subst (λ (bytes : List ℕ). IsReconRefusal limit bytes e) is (go e h)
+  where
+    go : (e : Refusal) → IsListsRefusal limit text e → IsReconRefusal limit text e
+    go (refusal.Session number) h = h
+    go refusal.Memory h = tt
+    go refusal.Read h = absurd h
+    go refusal.Write h = absurd h
+    go refusal.InputTooLong h = absurd h
+    go refusal.NotUtf8 h = absurd h
+    go (refusal.Line n f) h = (short, utf8, h)
+    go (refusal.Plan k) h = absurd h
+    go refusal.TableFull h = absurd h
+
+pub text_refused : (limit : ℕ) (known : Option (List ℕ)) (e : Refusal) → IfSome known (λ input. IsTextRefusal input e) → IfSome known (λ input. IsReconRefusal limit input e)
+text_refused limit None e h = tt
+text_refused limit (Some input) e h = go e h
+  where
+    go : (e : Refusal) → IsTextRefusal input e → IsReconRefusal limit input e
+    go (refusal.Session number) h = absurd h
+    go refusal.Memory h = h
+    go refusal.Read h = h
+    go refusal.Write h = absurd h
+    go refusal.InputTooLong h = h
+    go refusal.NotUtf8 h = h
+    go (refusal.Line n f) h = absurd h
+    go (refusal.Plan k) h = h
+    go refusal.TableFull h = h
+
 -- what was written, where the input is known
-pub printed : (limit : ℕ) (known old new : Option (List ℕ)) (mine theirs : List Item) (log pairs : List Exchange) (o : Outcome) (trusted : ℕ)
-    → IfSome known (λ input. (first : List Item) × (second : List Item) × IsInput input first second × IsPermutation first mine × IsPermutation second theirs)
+pub printed : (limit : ℕ) (known old new : Option (List ℕ)) (text : List ℕ) (mine theirs : List Item) (log pairs : List Exchange) (o : Outcome) (trusted : ℕ)
+    → IfSome known (λ input. text ≡ input) → TellsRolls text mine theirs
     → Reconciles limit mine theirs log o → pairs ≡ log → trusted ≡ length o.trusted.items
     → Appends old new (recon_text pairs o.need.keys o.have.keys trusted)
     → IfSome known (λ input. IsPrinted limit input old new)
-printed limit None old new mine theirs log pairs o trusted told session same count written = tt
-printed limit (Some input) old new mine theirs log pairs o trusted told session same count written = record {
+printed limit None old new text mine theirs log pairs o trusted is told session same count written = tt
+printed limit (Some input) old new text mine theirs log pairs o trusted is told session same count written = record {
   mine = mine;
   theirs = theirs;
   log = log;
   outcome = o;
-  told = record { first = told.0; second = told.1; told = told.2; mine_is = told.3; theirs_is = told.4 };
+  told = subst (λ (bytes : List ℕ). TellsRolls bytes mine theirs) is told;
   session = session;
   written = rw (same, count) at written;
 }

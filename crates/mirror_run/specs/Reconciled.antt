@@ -1,46 +1,43 @@
 -- A session between two lists, and how `recon` ends.
-use Rattle.std.specs.Prelude.{◌≡◌, ℕ, ◌<◌, List, [], length, Option, Ok, Err, IsPermutation}
+use Rattle.std.specs.Prelude.{◌≡◌, ℕ, ◌<◌, List, [], length, Option, Ok, Err, All, IsPermutation}
 use Rattle.std.specs.Io.KnownBytes.{Appends}
 use Rattle.neg_codec.specs.declared.Item.{Item}
 use Rattle.neg_initiator.specs.declared.initiator.Outcome.{Outcome}
 use Rattle.neg_session.specs.declared.limits.SessionLimits.{SessionLimits}
 use Rattle.neg_session.specs.declared.fault.SessionFault.{SessionFault}
-use Rattle.neg_session.specs.Exchange.{Exchange}
+use Rattle.neg_session.specs.Exchange.{Exchange, KeepsLimit}
 use Rattle.neg_session.specs.Explaining.{Explains}
 use Rattle.neg_session.specs.Faults.{number_of}
+use Rattle.neg_session.specs.Most.{AreMost}
 use Rattle.neg_session.specs.Ran.{Ran, IsRight}
 use Rattle.mirror_run.specs.declared.refusal.Refusal.{Refusal}
 use Rattle.mirror_run.specs.declared.refusal.Refusal.TheVariants.{Write, Session, Memory}
 use Rattle.mirror_run.specs.ItemLists.{IsInput}
 use Rattle.mirror_run.specs.ReconText.{recon_text}
-use Rattle.mirror_run.specs.Refused.{IsInputRefusal}
-
--- the limits of the program's sessions
-pub record AreLimits (limit : ℕ) (limits : SessionLimits) : Type 0 where
-  pub limit_is : limits.limit ≡ limit
-  pub rounds : limits.rounds ≡ 4096
-  pub need : limits.need ≡ 200000
-  pub log : limits.log ≡ 67108864
+use Rattle.mirror_run.specs.Refused.{IsLinesRefusal, IsInputRefusal}
 
 -- A session of `mine` with a peer that answers by `theirs`, its pairs and what it found: each answer is
--- true of `theirs`, and what was found is right for the two.
+-- true of `theirs`, no message is longer than the limit, and what was found is right for the two.
 pub record Reconciles (limit : ℕ) (mine theirs : List Item) (log : List Exchange) (o : Outcome) : Type 0 where
   pub limits : SessionLimits
-  pub are : AreLimits limit limits
+  pub are : AreMost limit limits
   pub ran : Ran mine limits [] log 0 0 (Ok o)
+  pub short : All (KeepsLimit limit) log
   pub explained : Explains theirs log
   pub right : IsRight mine theirs o
 
--- such a session that ended by a fault, which has that number
+-- Such a session that ended by a fault, which has that number. A peer that answers by a list neither fails nor answers
+-- what is no message.
 pub record Fails (limit : ℕ) (mine theirs : List Item) (number : ℕ) : Type 0 where
   pub limits : SessionLimits
   pub log : List Exchange
   pub failures : ℕ
   pub fault : SessionFault
-  pub are : AreLimits limit limits
+  pub are : AreMost limit limits
   pub ran : Ran mine limits [] log 0 failures (Err fault)
   pub explained : Explains theirs log
   pub is : number ≡ number_of fault
+  pub answered : 2 < number
   pub not_memory : number < 6
 
 -- the input tells two lists, whose items in order are the rolls
@@ -66,6 +63,12 @@ pub record IsPrinted (limit : ℕ) (input : List ℕ) (old new : Option (List �
   pub told : TellsRolls input mine theirs
   pub session : Reconciles limit mine theirs log outcome
   pub written : Appends old new (recon_text log outcome.need.keys outcome.have.keys (length outcome.trusted.items))
+
+-- why two lists told by a text gave nothing
+abbrev pub IsListsRefusal : ℕ → List ℕ → Refusal → Type 0
+IsListsRefusal limit text (Session number) =
+    (mine : List Item) × (theirs : List Item) × TellsRolls text mine theirs × Fails limit mine theirs number
+IsListsRefusal limit text e = IsLinesRefusal text e
 
 -- why `recon` gave nothing
 abbrev pub IsReconRefusal : ℕ → List ℕ → Refusal → Type 0

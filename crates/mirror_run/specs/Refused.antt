@@ -37,6 +37,12 @@ abbrev pub IsLineFault : List ℕ → ℕ → LineFault → Type 0
 IsLineFault input n Form = IsFirstWrong (lines_of input) n
 IsLineFault input n fault = (mine : List Item) × (theirs : List Item) × IsInput input mine theirs × IsUnplaced mine theirs n fault
 
+-- why a text gives no two rolls
+abbrev pub IsLinesRefusal : List ℕ → Refusal → Type 0
+IsLinesRefusal text (Line n fault) = IsLineFault text n fault
+IsLinesRefusal text Memory = Unit {0}
+IsLinesRefusal text _ = ⊥
+
 -- why an input gives no two rolls
 abbrev pub IsInputRefusal : List ℕ → Refusal → Type 0
 IsInputRefusal input (Line n fault) = (length input ≤ 67108864) × IsUtf8 input × IsLineFault input n fault

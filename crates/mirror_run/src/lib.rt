@@ -16,7 +16,7 @@ pub use input::{LONGEST_INPUT, read_input};
 pub use lists::{Lists, read_lists};
 pub use output::write_recon;
 pub use placing::place_items;
-pub use recon::run_recon;
+pub use recon::{reconcile, run_recon};
 pub use refusal::{LineFault, Refusal};
 pub use rolls::read_rolls;
 

@@ -2,18 +2,32 @@
 
 ghost use Rattle.std.specs.Prelude.{◌≡◌, ◌≤◌, ◌≢◌, List, length, IfOk, IfErr, OnOk, IfSome};
 ghost use Rattle.std.specs.Io.KnownBytes.{Keeps};
-ghost use Rattle.mirror_run.specs.Reconciled.{Reconciles, IsSessionRefusal, IsPrinted, IsReconRefusal};
+ghost use Rattle.neg_codec.specs.declared.Item.{Item};
+ghost use Rattle.neg_session.specs.Faults.{number_of};
+ghost use Rattle.neg_session.specs.declared.fault.SessionFault.TheVariants as session_fault;
+ghost use Rattle.mirror_run.specs.Reconciled.{Reconciles, IsSessionRefusal, TellsRolls, IsListsRefusal, IsPrinted, IsReconRefusal};
 
+use crate::input::read_input;
 use crate::output::write_recon;
 use crate::refusal::Refusal;
 use crate::rolls::read_rolls;
 use item_roll::Roll;
-use neg_session::{LocalPeer, Outcome, Peer, SessionLimits, reconcile_with, roll_explains};
+use neg_session::{
+    LocalPeer, Outcome, Peer, SessionFault, SessionLimits, reconcile_with, roll_explains,
+};
 use std::alloc::Global;
 use std::io::{Read, Write};
 
-/// The number of a session's fault for want of memory.
-const MEMORY: u8 = 6;
+/// What a session's fault comes to.
+fn refusal_of(fault: SessionFault) -> Refusal
+    ensures memory { fault ≡ session_fault.Memory → result ≡ Refusal.Memory }
+    ensures others { fault ≢ session_fault.Memory → result ≡ Refusal.Session (number_of fault) }
+{
+    match fault {
+        SessionFault::Memory => Refusal::Memory,
+        other => Refusal::Session(other.number()),
+    }
+}
 
 /// A session of one roll with a peer that answers by another.
 fn session(
@@ -28,22 +42,27 @@ fn session(
 {
     roll_explains();
     let mut peer = LocalPeer::new(alloc, theirs, limit);
-    let limits = SessionLimits {
-        limit,
-        rounds: 4096,
-        need: 200_000,
-        log: 67_108_864,
-    };
+    let limits = SessionLimits::most(limit);
     match reconcile_with(alloc, &mut peer, mine, &limits) {
         Ok(outcome) => Ok((peer, outcome)),
-        Err(fault) => {
-            let number = fault.number();
-            if number == MEMORY {
-                return Err(Refusal::Memory);
-            }
-            Err(Refusal::Session(number))
-        }
+        Err(fault) => Err(refusal_of(fault)),
     }
+}
+
+/// Runs a session between the two item lists that a text of at most 67,108,864 bytes tells: the peer that answered, with
+/// its messages, and what was found. No message has more than `limit` bytes, 4,096 to 1,048,576.
+///
+/// # Errors
+///
+/// `Line`, `Session` (3 to 5) and `Memory`; docs/FORMATS.md has their causes.
+pub fn reconcile(alloc: Global, text: &str, limit: usize) -> Result<(LocalPeer, Outcome), Refusal>
+    requires short { length text.now ≤ 67108864 }
+    requires limit { 4096 ≤ limit × limit ≤ 1048576 }
+    ensures ok { IfOk result (λ s. (mine : List Item) × (theirs : List Item) × TellsRolls text.now mine theirs × Reconciles limit mine theirs s.0.log s.1) }
+    ensures err { IfErr result (IsListsRefusal limit text.now) }
+{
+    let (mine, theirs) = read_rolls(alloc, text)?;
+    session(alloc, &mine, theirs, limit)
 }
 
 /// Reads two item lists, runs a session between them, and prints its messages and results. No message has more than
@@ -51,7 +70,7 @@ fn session(
 ///
 /// # Errors
 ///
-/// `Read`, `InputTooLong`, `NotUtf8`, `Line`, `Session` (1 to 5), `Write` and `Memory`; docs/FORMATS.md has their
+/// `Read`, `InputTooLong`, `NotUtf8`, `Line`, `Session` (3 to 5), `Write` and `Memory`; docs/FORMATS.md has their
 /// causes. Only after `Write` may something have been written.
 pub fn run_recon<R: Read, W: Write>(
     alloc: Global,
@@ -65,8 +84,8 @@ pub fn run_recon<R: Read, W: Write>(
     ensures err { IfErr result (λ e. IfSome (R.remaining reader.old) (λ input. IsReconRefusal limit input e)) }
     ensures unwritten { IfErr result (λ e. e ≢ Refusal.Write → Keeps (W.contents writer.old) (W.contents writer.new)) }
 {
-    let (mine, theirs) = read_rolls(alloc, reader)?;
-    let (peer, outcome) = session(alloc, &mine, theirs, limit)?;
+    let text = read_input(alloc, reader)?;
+    let (peer, outcome) = reconcile(alloc, text.as_str(), limit)?;
     write_recon(
         alloc,
         writer,

@@ -2,11 +2,12 @@
 
 use crate::waiting::{put, send};
 use crate::{
-    LineFault, Lists, Refusal, place_items, read_input, read_lists, read_rolls, run_recon,
+    LineFault, Lists, Refusal, place_items, read_input, read_lists, read_rolls, reconcile, run_recon,
     write_recon,
 };
 use neg_codec::{Id, Item};
-use neg_session::Pair;
+use item_roll::Roll;
+use neg_session::{Pair, Peer};
 use std::alloc::Global;
 use std::collections::BTreeSet;
 use std::io;
@@ -68,9 +69,35 @@ impl Write for Narrow {
     }
 }
 
+/// Keeps what it takes until it is flushed, and drops what isn't.
+#[derive(Drop)]
+struct Lazy {
+    held: Vec<u8>,
+    flushed: Vec<u8>,
+}
+
+impl Write for Lazy {
+    fn write(&mut self, buf: &[u8]) -> io::Result<usize> {
+        self.held.extend_from_slice(buf)?;
+        Ok(buf.len())
+    }
+
+    fn flush(&mut self) -> io::Result<()> {
+        self.flushed.extend_from_slice(self.held.as_slice())?;
+        self.held.clear();
+        Ok(())
+    }
+}
+
+/// The rolls of an input.
+fn rolls_of<R: Read>(alloc: Global, reader: &mut R) -> Result<(Roll, Roll), Refusal> {
+    let text = read_input(alloc, reader)?;
+    read_rolls(alloc, text.as_str())
+}
+
 /// What comes of an input: `taken`, or the refusal's text.
 fn outcome(alloc: Global, text: &str) -> Result<String, Fail> {
-    match read_rolls(alloc, &mut text.as_bytes()) {
+    match rolls_of(alloc, &mut text.as_bytes()) {
         Ok(_) => Ok(String::from_str(alloc, "taken")?),
         Err(refusal) => Ok(format!(in alloc; "{refusal}")?),
     }
@@ -158,7 +185,7 @@ fn lists_and_rolls(rt: HostRuntime) -> Result<(), Fail> {
         reads: 0,
         fails_at: 0,
     };
-    let (mine, theirs) = read_rolls(alloc, &mut reader).ok().ok_or("refused")?;
+    let (mine, theirs) = rolls_of(alloc, &mut reader).ok().ok_or("refused")?;
     assert!(rt; mine.len() == 2 && mine.get(0) == a && mine.get(1) == b);
     assert!(rt; theirs.len() == 2 && theirs.get(0) == a && theirs.get(1) == c);
     // Each read fails in turn.
@@ -169,7 +196,7 @@ fn lists_and_rolls(rt: HostRuntime) -> Result<(), Fail> {
             fails_at: n,
         };
         assert_eq!(rt;
-            read_rolls(alloc, &mut reader).err(),
+            rolls_of(alloc, &mut reader).err(),
             Some(Refusal::Read),
             "read {n}"
         );
@@ -188,6 +215,21 @@ fn item(time: u64, byte: u8) -> Item {
         time,
         id: Id([byte; 32]),
     }
+}
+
+#[test]
+fn a_session_of_a_text(rt: HostRuntime) -> Result<(), Fail> {
+    let alloc = rt.alloc();
+    let text = format!(in alloc; "mine\n11 {BB}\n10 {AA}\ntheirs\n12 {CC}\n10 {AA}\n")?;
+    let text = read_input(alloc, &mut text.as_str().as_bytes())
+        .ok()
+        .ok_or("refused")?;
+    let (peer, found) = reconcile(alloc, text.as_str(), 4_096).ok().ok_or("refused")?;
+    assert!(rt; peer.pairs().len() == 1 && peer.failures() == 0);
+    assert!(rt; found.need.len() == 1 && found.need.contains(&Id([0xcc; 32])));
+    assert!(rt; found.have.len() == 1 && found.have.contains(&Id([0xbb; 32])));
+    assert!(rt; found.trusted.is_empty());
+    Ok(())
 }
 
 #[test]
@@ -274,6 +316,16 @@ fn messages_and_results(rt: HostRuntime) -> Result<(), Fail> {
         Ok(())
     );
     assert_eq!(rt; whole.as_slice(), want.as_str().as_bytes());
+    // All of it is flushed.
+    let mut lazy = Lazy {
+        held: Vec::new(alloc),
+        flushed: Vec::new(alloc),
+    };
+    assert_eq!(rt;
+        write_recon(alloc, &mut lazy, pairs.as_slice(), &need, &have, 7),
+        Ok(())
+    );
+    assert_eq!(rt; lazy.flushed.as_slice(), want.as_str().as_bytes());
     // One byte at a time, and each write fails in turn.
     for n in 0..want.len() as u64 + 1 {
         let mut writer = Narrow {

@@ -2,7 +2,7 @@
 use Rattle.std.proofs.Common.{◌≡◌, ℕ, ◌+◌, ◌<◌, ◌≤◌, ◌⊎◌, length, append_assoc, inl, inr, Bool, true, false, cond, ltb, List, [], ◌∷◌, ◌++◌, refl, sym, ap, subst, ◌∙◌, arith}
 use Rattle.std.specs.Prelude.{Contains, All}
 use Rattle.std.proofs.lemmas.Bool.{ltb-true, ltb-false, lt-ltb, cases_lt}
-use Rattle.std.proofs.lemmas.List.Elements.{All-contains, All-head, All-weaker, All-contains_itself, Contains-append_left, Contains-append_right, Contains-append_cases}
+use Rattle.std.proofs.lemmas.List.Elements.{All-nil, All-contains, All-head, All-weaker, All-contains_itself, Contains-append_left, Contains-append_right, Contains-append_cases}
 use Rattle.neg_codec.proofs.Stretches.{contains_head, contains_tail, contains_cases, contains_none, key_below, endless_above, least_below}
 use Rattle.neg_codec.specs.declared.Item.{Item}
 use Rattle.neg_codec.specs.Keys.{place, least, endless, infinity, IsKey}
@@ -11,10 +11,7 @@ use Rattle.neg_codec.specs.Encoding.{text_of}
 use Rattle.neg_codec.proofs.Lengths.{text_none}
 use Rattle.item_roll.specs.Truth.{IsTrueOf}
 use Rattle.item_roll.specs.Closed.{closed_from}
-use Rattle.neg_draft.specs.Coverage.{Written, end_of, gap, passed, told_more, all_left, IsDraft, IsLeftOut, IsCutAt, Covers, Tells, Whole, Cut}
-
-abbrev stretch_at : Item → Span → Stretch
-stretch_at lower r = record { lower = lower; upper = r.upper; claim = r.claim }
+use Rattle.neg_draft.specs.Coverage.{Written, begun_at, end_of, gap, passed, told_more, all_left, HasKeys, IsDraft, IsLeftOut, IsCutAt, Covers, Tells, Whole, Cut}
 
 abbrev due : Item → Span
 due upper = record { upper = upper; claim = skip }
@@ -23,7 +20,7 @@ due upper = record { upper = upper; claim = skip }
 
 pub closed-append : (lower : Item) (xs ys : List Span) → closed_from lower (xs ++ ys) ≡ closed_from lower xs ++ closed_from (end_of lower xs) ys
 closed-append lower [] ys = refl
-closed-append lower (x ∷ xs) ys = ap (λ (t : List Stretch). stretch_at lower x ∷ t) (closed-append x.upper xs ys)
+closed-append lower (x ∷ xs) ys = ap (λ (t : List Stretch). begun_at lower x ∷ t) (closed-append x.upper xs ys)
 
 pub end-append : (lower : Item) (xs ys : List Span) → end_of lower (xs ++ ys) ≡ end_of (end_of lower xs) ys
 end-append lower [] ys = refl
@@ -44,11 +41,11 @@ gap-end lower upper (inl same) = go (ltb (place lower) (place upper))
     go false = same
 gap-end lower upper (inr lt) = rw (lt-ltb _ _ lt) refl
 
-gap-members : (lower upper : Item) (s : Stretch) → Contains (closed_from lower (gap lower upper)) s → (place lower < place upper) × (stretch_at lower (due upper) ≡ s)
+gap-members : (lower upper : Item) (s : Stretch) → Contains (closed_from lower (gap lower upper)) s → (place lower < place upper) × (begun_at lower (due upper) ≡ s)
 gap-members lower upper s h = go (ltb (place lower) (place upper)) refl h
   where
-    go : (b : Bool) → ltb (place lower) (place upper) ≡ b → Contains (closed_from lower (cond b (due upper ∷ []) [])) s → (place lower < place upper) × (stretch_at lower (due upper) ≡ s)
-    go true e h' = elim (contains_cases (stretch_at lower (due upper)) [] s h') [
+    go : (b : Bool) → ltb (place lower) (place upper) ≡ b → Contains (closed_from lower (cond b (due upper ∷ []) [])) s → (place lower < place upper) × (begun_at lower (due upper) ≡ s)
+    go true e h' = elim (contains_cases (begun_at lower (due upper)) [] s h') [
       | inl same ↦ (ltb-true _ _ e, same)
       | inr n ↦ absurd (contains_none s n)
     ]
@@ -58,7 +55,7 @@ gap-covers : (lower upper k : Item) → place lower ≤ place k → place k < pl
 gap-covers lower upper k le lt = go (ltb (place lower) (place upper)) refl
   where
     go : (b : Bool) → ltb (place lower) (place upper) ≡ b → (s : Stretch) × Contains (closed_from lower (cond b (due upper ∷ []) [])) s × IsSkip s × Lies k s
-    go true e = (stretch_at lower (due upper), contains_head (stretch_at lower (due upper)) [], refl, (le, lt))
+    go true e = (begun_at lower (due upper), contains_head (begun_at lower (due upper)) [], refl, (le, lt))
     go false e = absurd (omega (arith, ltb-false _ _ e, le, lt))
 
 meets_le : (lower upper : Item) → Meets lower upper → place lower ≤ place upper
@@ -77,6 +74,7 @@ all_from H xs f = All-weaker (Contains xs) H f xs (All-contains_itself xs)
 pub draft_none : (limit : ℕ) → 4096 ≤ limit → IsDraft (record { limit = limit; spans = []; end = least })
 draft_none limit enough = record {
   ascends = tt;
+  none_empty = All-nil HasKeys;
   within = inl refl;
   low = omega (arith, least_below infinity);
   open_unless_blank = inl refl;
@@ -104,8 +102,8 @@ pub draft_passes : (d : Written) (upper : Item) → IsDraft d → place upper �
 draft_passes d upper h low = go (ltb (place d.end) (place upper)) refl
   where
     go : (b : Bool) → ltb (place d.end) (place upper) ≡ b → IsDraft (record { limit = d.limit; spans = d.spans; end = cond b upper d.end })
-    go true e = record { ascends = h.ascends; within = inr (omega (arith, meets_le _ _ h.within, ltb-true _ _ e)); low = low; open_unless_blank = h.open_unless_blank; fits = h.fits; room = λ less. h.room (omega (arith, ltb-true _ _ e, less)) }
-    go false e = record { ascends = h.ascends; within = h.within; low = h.low; open_unless_blank = h.open_unless_blank; fits = h.fits; room = h.room }
+    go true e = record { ascends = h.ascends; none_empty = h.none_empty; within = inr (omega (arith, meets_le _ _ h.within, ltb-true _ _ e)); low = low; open_unless_blank = h.open_unless_blank; fits = h.fits; room = λ less. h.room (omega (arith, ltb-true _ _ e, less)) }
+    go false e = record { ascends = h.ascends; none_empty = h.none_empty; within = h.within; low = h.low; open_unless_blank = h.open_unless_blank; fits = h.fits; room = h.room }
 
 pub covers_passes : (H : Stretch → Type 0) (P Q : Item → Type 0) (d : Written) (upper : Item) → IsDraft d → place d.end ≤ place upper → Covers H P Q d
     → ((k : Item) → IsKey k → place d.end ≤ place k → place k < place upper → P k) → Covers H P Q (passed d upper)
@@ -175,9 +173,12 @@ gap-ascends lower upper m fin = go (ltb (place lower) (place upper)) refl
     go true e = (finite_below lower upper (ltb-true _ _ e) fin, omega (arith, ltb-true _ _ e), tt)
     go false e = tt
 
+all_append : (H : Stretch → Type 0) (xs ys : List Stretch) → All H xs → All H ys → All H (xs ++ ys)
+all_append H xs ys hx hy = all_from H (xs ++ ys) (λ s h. elim (Contains-append_cases xs ys s h) [ inl l ↦ All-contains H xs s hx l | inr r ↦ All-contains H ys s hy r ])
+
 first_open : (lower : Item) (rs : List Span) → ((rs ≡ []) → ⊥) → All (λ s. IsSkip s → ⊥) (closed_from lower rs) → (s : Stretch) × Contains (closed_from lower rs) s × (IsSkip s → ⊥)
 first_open lower [] some none = absurd (some refl)
-first_open lower (r ∷ rs) some none = (stretch_at lower r, contains_head (stretch_at lower r) (closed_from r.upper rs), All-head (λ s. IsSkip s → ⊥) (stretch_at lower r) (closed_from r.upper rs) none)
+first_open lower (r ∷ rs) some none = (begun_at lower r, contains_head (begun_at lower r) (closed_from r.upper rs), All-head (λ s. IsSkip s → ⊥) (begun_at lower r) (closed_from r.upper rs) none)
 
 pub draft_tells : (d : Written) (upper : Item) (rs : List Span) → IsDraft d → place upper ≤ place infinity → Tells d.end upper rs → length (text_of (told_more d upper rs).spans) ≤ d.limit
     → (place upper < place infinity → length (text_of (told_more d upper rs).spans) + 64 ≤ d.limit) → IsDraft (told_more d upper rs)
@@ -187,17 +188,20 @@ draft_tells d upper rs draft low t fits room = record {
   ascends = ascends-append least d.spans (gap (end_of least d.spans) d.end ++ rs) draft.ascends
       (ascends-append (end_of least d.spans) (gap (end_of least d.spans) d.end) rs (gap-ascends (end_of least d.spans) d.end draft.within draft.low)
       (subst (λ (x : Item). Ascends x rs) (sym (gap-end (end_of least d.spans) d.end draft.within)) t.ascends));
+  none_empty = subst (λ (z : List Stretch). All HasKeys z) (sym (all-closed d rs draft))
+      (all_append HasKeys (closed_from least d.spans) (closed_from (end_of least d.spans) (gap (end_of least d.spans) d.end) ++ closed_from d.end rs) draft.none_empty
+      (all_append HasKeys (closed_from (end_of least d.spans) (gap (end_of least d.spans) d.end)) (closed_from d.end rs)
+      (all_from HasKeys (closed_from (end_of least d.spans) (gap (end_of least d.spans) d.end))
+      (λ s h. let g = gap-members (end_of least d.spans) d.end s h in omega (arith, g.0, ap (λ (x : Stretch). place x.lower) g.1, ap (λ (x : Stretch). place x.upper) g.1)))
+      t.none_empty));
   within = inl (more-ends d upper rs draft t);
   low = low;
   open_unless_blank = let o = first_open d.end rs t.some t.none_skipped in inr (o.0, in_new d rs o.0 draft o.1, o.2);
 }
 
-all_append : (H : Stretch → Type 0) (xs ys : List Stretch) → All H xs → All H ys → All H (xs ++ ys)
-all_append H xs ys hx hy = all_from H (xs ++ ys) (λ s h. elim (Contains-append_cases xs ys s h) [ inl l ↦ All-contains H xs s hx l | inr r ↦ All-contains H ys s hy r ])
-
 upto_end : (lower : Item) (rs : List Span) → Ascends lower rs → (s : Stretch) → Contains (closed_from lower rs) s → place s.upper ≤ place (end_of lower rs)
 upto_end lower [] up s h = absurd (contains_none s h)
-upto_end lower (r ∷ rs) up s h = elim (contains_cases (stretch_at lower r) (closed_from r.upper rs) s h) [
+upto_end lower (r ∷ rs) up s h = elim (contains_cases (begun_at lower r) (closed_from r.upper rs) s h) [
   | inl e ↦ omega (arith, ap (λ (x : Stretch). place x.upper) e, end_above r.upper rs up.2)
   | inr rest ↦ upto_end r.upper rs up.2 s rest
 ]
@@ -282,7 +286,7 @@ covers_cut P Q roll d new upper draft c was skips none =
 -- the stretches of a message are those of its ranges, and a Skip up to infinity where they end before
 ending_is : (lower : Item) (rs : List Span) → stretches_from lower rs ≡ closed_from lower rs ++ cond (ltb (end_of lower rs).time endless) (record { lower = end_of lower rs; upper = infinity; claim = skip } ∷ []) []
 ending_is lower [] = refl
-ending_is lower (r ∷ rs) = ap (λ (t : List Stretch). stretch_at lower r ∷ t) (ending_is r.upper rs)
+ending_is lower (r ∷ rs) = ap (λ (t : List Stretch). begun_at lower r ∷ t) (ending_is r.upper rs)
 
 abbrev last_skip : Item → Stretch
 last_skip lower = record { lower = lower; upper = infinity; claim = skip }
@@ -320,16 +324,16 @@ told_whole H spans skips told = subst (λ (t : List Stretch). All H t) (sym (end
 -- ---- walking the ranges of a message
 
 -- the stretch of a range, begun where those before it end
-pub stretch_of : (lower : Item) (front : List Span) (r : Span) (back : List Span) → Contains (stretches_from lower (front ++ (r ∷ back))) (stretch_at (end_of lower front) r)
-stretch_of lower [] r back = contains_head (stretch_at lower r) (stretches_from r.upper back)
-stretch_of lower (f ∷ front) r back = contains_tail (stretch_at lower f) (stretches_from f.upper (front ++ (r ∷ back))) (stretch_at (end_of f.upper front) r) (stretch_of f.upper front r back)
+pub stretch_of : (lower : Item) (front : List Span) (r : Span) (back : List Span) → Contains (stretches_from lower (front ++ (r ∷ back))) (begun_at (end_of lower front) r)
+stretch_of lower [] r back = contains_head (begun_at lower r) (stretches_from r.upper back)
+stretch_of lower (f ∷ front) r back = contains_tail (begun_at lower f) (stretches_from f.upper (front ++ (r ∷ back))) (begun_at (end_of f.upper front) r) (stretch_of f.upper front r back)
 
 -- beyond its ranges a message skips
 pub beyond : (lower : Item) (rs : List Span) (k : Item) → IsKey k → place (end_of lower rs) ≤ place k → (s : Stretch) × Contains (stretches_from lower rs) s × IsSkip s × Lies k s
 beyond lower [] k key le =
     let fin : lower.time < endless = elim (cases_lt lower.time endless) [ inl f ↦ f | inr inf ↦ absurd (omega (arith, endless_above lower inf, key_below k key, le)) ] in
     (last_skip lower, subst (λ (b : Bool). Contains (cond b (last_skip lower ∷ []) []) (last_skip lower)) (sym (lt-ltb _ _ fin)) (contains_head (last_skip lower) []), refl, (le, key_below k key))
-beyond lower (r ∷ rs) k key le = let s = beyond r.upper rs k key le in (s.0, contains_tail (stretch_at lower r) (stretches_from r.upper rs) s.0 s.1, s.2, s.3)
+beyond lower (r ∷ rs) k key le = let s = beyond r.upper rs k key le in (s.0, contains_tail (begun_at lower r) (stretches_from r.upper rs) s.0 s.1, s.2, s.3)
 
 -- ---- bounds
 

@@ -1,7 +1,7 @@
 -- What a roll's own ranges tell.
 use Rattle.std.proofs.Common.{◌≡◌, ℕ, ◌<◌, ◌≤◌, inl, inr, Bool, true, false, cond, ltb, List, [], ◌∷◌, length, refl, sym, ap, subst, ◌∙◌, arith}
 use Rattle.std.specs.Prelude.{All, filter, slice_range}
-use Rattle.std.proofs.lemmas.Bool.{ltb-true, ltb-false}
+use Rattle.std.proofs.lemmas.Bool.{ltb-true, ltb-false, cases_lt}
 use Rattle.std.proofs.lemmas.List.Elements.{All-head, All-tail, All-cons, All-nil}
 use Rattle.neg_codec.specs.declared.Id.{Id}
 use Rattle.neg_codec.specs.declared.Item.{Item}
@@ -10,7 +10,7 @@ use Rattle.neg_codec.specs.Ranges.{ids, Span, IsSkip, Ascends, IsEdge}
 use Rattle.item_roll.specs.Parts.{part, ids_of, count_below}
 use Rattle.item_roll.specs.Truth.{SameIds, IsTrueOf}
 use Rattle.item_roll.specs.Closed.{closed_from, EndsAt, IsTold, Reaches}
-use Rattle.neg_draft.specs.Coverage.{end_of, Tells}
+use Rattle.neg_draft.specs.Coverage.{end_of, HasKeys, Tells}
 use Rattle.neg_draft.proofs.Covering.{edge_low}
 
 -- no fewer items stand below a higher bound
@@ -25,6 +25,13 @@ count_up (x ∷ xs) l u le = go (ltb (place x) (place l)) (ltb (place x) (place 
     go true false ea eb ih = absurd (omega (arith, ltb-true _ _ ea, ltb-false _ _ eb, le))
     go false true ea eb ih = omega (arith, ih)
     go false false ea eb ih = ih
+
+-- where fewer items stand below a bound, it is lower
+pub lower_of : (xs : List Item) (l u : Item) → count_below xs l < count_below xs u → place l < place u
+lower_of xs l u lt = elim (cases_lt (place l) (place u)) [
+  | inl less ↦ less
+  | inr ge ↦ absurd (omega (arith, lt, count_up xs u l ge))
+]
 
 -- a bound below another is a key
 pub edge_key : (l u : Item) → IsEdge l → IsEdge u → place l < place u → IsKey l
@@ -44,23 +51,25 @@ none_skip : (lower : Item) (rs : List Span) → All IsTold rs → All (λ s. IsS
 none_skip lower [] h = All-nil (λ s. IsSkip s → ⊥)
 none_skip lower (r ∷ rs) h = All-cons (λ s. IsSkip s → ⊥) (record { lower = lower; upper = r.upper; claim = r.claim }) (closed_from r.upper rs) (λ e. All-head IsTold r rs h e) (none_skip r.upper rs (All-tail IsTold r rs h))
 
-pub tells_split : (lower upper : Item) (rs : List Span) → Ascends lower rs → Reaches upper rs → Tells lower upper rs
-tells_split lower upper rs up r = record {
+pub tells_split : (lower upper : Item) (rs : List Span) → Ascends lower rs → Reaches upper rs → All HasKeys (closed_from lower rs) → Tells lower upper rs
+tells_split lower upper rs up r full = record {
   ascends = up;
   ends = ends_at lower upper rs r.ends;
   some = some_end upper rs r.ends;
   none_skipped = none_skip lower rs r.told;
+  none_empty = full;
 }
 
 abbrev pub listed : Item → List Id → Span
 listed upper is = record { upper = upper; claim = ids is }
 
-pub tells_ids : (lower upper : Item) (is : List Id) → IsKey lower → place lower ≤ place upper → Tells lower upper (listed upper is ∷ [])
-tells_ids lower upper is key le = record {
-  ascends = (key.time, le, tt);
+pub tells_ids : (lower upper : Item) (is : List Id) → IsKey lower → place lower < place upper → Tells lower upper (listed upper is ∷ [])
+tells_ids lower upper is key lt = record {
+  ascends = (key.time, omega (arith, lt), tt);
   ends = refl;
   some = λ e. cc;
   none_skipped = All-cons (λ s. IsSkip s → ⊥) (record { lower = lower; upper = upper; claim = ids is }) [] (λ e. cc) (All-nil (λ s. IsSkip s → ⊥));
+  none_empty = All-cons HasKeys (record { lower = lower; upper = upper; claim = ids is }) [] lt (All-nil HasKeys);
 }
 
 pub ids_hold : (roll : List Item) (lower upper : Item) (is : List Id) → is ≡ ids_of (part roll lower upper) → All (IsTrueOf roll) (closed_from lower (listed upper is ∷ []))

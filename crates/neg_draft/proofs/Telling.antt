@@ -3,29 +3,28 @@ use Rattle.std.proofs.Common.{◌≡◌, ℕ, zero, suc, drop, ◌+◌, ◌-◌,
 use Rattle.std.specs.Prelude.{All, Contains, slice_get, slice_range, IfOk, Result, Some}
 use Rattle.std.proofs.lemmas.Result.{IfOk-weaker}
 use Rattle.std.specs.declared.alloc.AllocError.{AllocError}
-use Rattle.std.proofs.lemmas.Bool.{ltb-true, ltb-false, le-ltb, cases_lt}
+use Rattle.std.proofs.lemmas.Bool.{ltb-false, le-ltb, cases_lt}
 use Rattle.std.proofs.lemmas.List.{length-append, length-map, length-take-le, length-drop}
 use Rattle.std.proofs.lemmas.List.Elements.{All-cons, All-nil, All-head, All-tail, All-append, All-weaker, All-contains, All-contains_itself, Contains-append_left}
 use Rattle.neg_codec.specs.declared.Item.{Item}
-use Rattle.neg_codec.specs.declared.Id.{Id}
 use Rattle.neg_codec.specs.Keys.{place, least, endless, infinity, IsKey, IsId}
 use Rattle.neg_codec.specs.declared.Payload.{Payload}
 use Rattle.neg_codec.specs.declared.Payload.TheVariants as payload
 use Rattle.neg_codec.specs.Ranges.{Claim, skip, print, ids, Span, Stretch, IsSkip, Ascends, IsEdge, claim_of, edge_of, span_of}
-use Rattle.neg_codec.specs.Encoding.{bound_text, claim_text, range_text, ranges_text, text_of, IsShort}
+use Rattle.neg_codec.specs.Encoding.{bound_text, claim_text, range_text, ranges_text, text_of}
 use Rattle.neg_codec.proofs.Lengths.{bound_most, bound_infinite, skip_len, print_len, ids_most, ids_least, range_len}
 use Rattle.neg_print.specs.Print.{print_of}
 use Rattle.item_roll.specs.Parts.{IsRoll, part, ids_of, count_below}
 use Rattle.item_roll.specs.Splits.{prints_at, split_of, minimal_bound_of}
-use Rattle.item_roll.proofs.Truths.{split_listed, next_of, IsCut, cut_at, got, order_at, key_at}
+use Rattle.item_roll.proofs.Truths.{split_listed, split_printed, next_of, parts_next, IsCut, cut_at, got, order_at, key_at}
 use Rattle.item_roll.proofs.Places.{low_item, high_item}
 use Rattle.neg_codec.proofs.Stretches.{key_below}
 use Rattle.item_roll.proofs.Members.{part_gives, ids_give}
 use Rattle.item_roll.specs.Truth.{IsTrueOf}
 use Rattle.item_roll.specs.Closed.{closed_from}
-use Rattle.neg_draft.specs.Coverage.{Written, end_of, gap, told_more, all_left, before_payload, IsDraft, IsPrint, Tells, Whole, Cut}
+use Rattle.neg_draft.specs.Coverage.{Written, end_of, gap, told_more, all_left, before_payload, HasKeys, IsDraft, IsPrint, Tells, Whole, Cut}
 use Rattle.neg_draft.proofs.Covering.{closed-append, end-append, end_above, ascends-append, more-ends}
-use Rattle.neg_draft.proofs.Owning.{edge_key}
+use Rattle.neg_draft.proofs.Owning.{edge_key, lower_of}
 use Rattle.neg_draft.proofs.Walking.{ranges_at, ranges_upto}
 use Rattle.neg_codec.specs.declared.Range.{Range}
 
@@ -151,6 +150,9 @@ tells-append lower m u xs ys t s = record {
   none_skipped = subst (λ (z : List Stretch). All (λ x. IsSkip x → ⊥) z) (sym (closed-append lower xs ys))
       (All-append (λ x. IsSkip x → ⊥) (closed_from lower xs) (closed_from (end_of lower xs) ys) t.none_skipped
       (subst (λ (x : Item). All (λ s. IsSkip s → ⊥) (closed_from x ys)) (sym t.ends) s.none_skipped));
+  none_empty = subst (λ (z : List Stretch). All HasKeys z) (sym (closed-append lower xs ys))
+      (All-append HasKeys (closed_from lower xs) (closed_from (end_of lower xs) ys) t.none_empty
+      (subst (λ (x : Item). All HasKeys (closed_from x ys)) (sym t.ends) s.none_empty));
 }
 
 pub holds-append : (roll : List Item) (lower m : Item) (xs ys : List Span) → end_of lower xs ≡ m → All (IsTrueOf roll) (closed_from lower xs) → All (IsTrueOf roll) (closed_from m ys) → All (IsTrueOf roll) (closed_from lower (xs ++ ys))
@@ -180,20 +182,21 @@ cut_higher roll d e m u le c = record { finite = c.finite; front = c.front; left
 
 -- ---- one range
 
-pub tells_one : (lower : Item) (r : Span) → IsKey lower → place lower ≤ place r.upper → ((r.claim ≡ skip) → ⊥) → Tells lower r.upper (r ∷ [])
-tells_one lower r key le some = record {
-  ascends = (key.time, le, tt);
+pub tells_one : (lower : Item) (r : Span) → IsKey lower → place lower < place r.upper → ((r.claim ≡ skip) → ⊥) → Tells lower r.upper (r ∷ [])
+tells_one lower r key lt some = record {
+  ascends = (key.time, omega (arith, lt), tt);
   ends = refl;
   some = λ e. cc;
   none_skipped = All-cons (λ s. IsSkip s → ⊥) (record { lower = lower; upper = r.upper; claim = r.claim }) [] some (All-nil (λ s. IsSkip s → ⊥));
+  none_empty = All-cons HasKeys (record { lower = lower; upper = r.upper; claim = r.claim }) [] lt (All-nil HasKeys);
 }
 
 pub holds_one : (roll : List Item) (lower : Item) (r : Span) → IsTrueOf roll (record { lower = lower; upper = r.upper; claim = r.claim }) → All (IsTrueOf roll) (closed_from lower (r ∷ []))
 holds_one roll lower r h = All-cons (IsTrueOf roll) (record { lower = lower; upper = r.upper; claim = r.claim }) [] h (All-nil (IsTrueOf roll))
 
-pub whole_one : (roll : List Item) (d new : Written) (r : Span) → place d.end < place infinity → place d.end ≤ place r.upper → IsKey d.end → ((r.claim ≡ skip) → ⊥) → IsTrueOf roll (record { lower = d.end; upper = r.upper; claim = r.claim })
+pub whole_one : (roll : List Item) (d new : Written) (r : Span) → place d.end < place infinity → place d.end < place r.upper → IsKey d.end → ((r.claim ≡ skip) → ⊥) → IsTrueOf roll (record { lower = d.end; upper = r.upper; claim = r.claim })
     → new ≡ told_more d r.upper (r ∷ []) → Whole roll d r.upper new
-whole_one roll d new r fin le key some h now = record { finite = fin; spans = r ∷ []; tells = tells_one d.end r key le some; holds = holds_one roll d.end r h; now = now }
+whole_one roll d new r fin lt key some h now = record { finite = fin; spans = r ∷ []; tells = tells_one d.end r key lt some; holds = holds_one roll d.end r h; now = now }
 
 -- all that is left by one fingerprint
 pub cut_one : (roll : List Item) (d new : Written) (upper : Item) (p : List ℕ) → place d.end < place infinity → place d.end ≤ place upper → IsKey d.end → p ≡ print_of (ids_of (part roll d.end infinity))
@@ -202,7 +205,7 @@ cut_one roll d new upper p fin le key own now full = record {
   finite = fin;
   front = [];
   left = p;
-  tells = tells_one d.end (record { upper = infinity; claim = print p }) key (omega (arith, fin)) (λ e. cc);
+  tells = tells_one d.end (record { upper = infinity; claim = print p }) key fin (λ e. cc);
   holds = holds_one roll d.end (record { upper = infinity; claim = print p }) own;
   less = le;
   now = now;
@@ -248,6 +251,7 @@ tells_front lower upper xs ys some t = record {
   ends = refl;
   some = some;
   none_skipped = all_front (λ s. IsSkip s → ⊥) lower xs ys t.none_skipped;
+  none_empty = all_front HasKeys lower xs ys t.none_empty;
 }
 
 -- the stretch of a range between others
@@ -310,6 +314,25 @@ all_prints zero items lo hi upper = All-cons IsPrint _ [] (print_of (ids_of (sli
 all_prints (suc more) items lo hi upper =
     All-cons IsPrint _ _ (print_of (ids_of (slice_range items lo (next_of lo hi more))), refl) (all_prints more items (next_of lo hi more) hi upper)
 
+-- and each has an item
+pub prints_full : (more : ℕ) (items : List Item) (lo hi : ℕ) (lower upper : Item) → IsRoll items → hi ≤ length items → lo + more + 1 ≤ hi → count_below items upper ≡ hi → count_below items lower ≡ lo
+    → All HasKeys (closed_from lower (prints_at more items lo hi upper))
+unfolding prints_at
+prints_full zero items lo hi lower upper roll len room high low = All-cons HasKeys _ [] (lower_of items lower upper (omega (arith, high, low, room))) (All-nil HasKeys)
+prints_full (suc more) items lo hi lower upper roll len room high low =
+    let enough : more + 2 ≤ hi - lo = omega arith in
+    let parts = parts_next (hi - lo) more enough in
+    let cut = cut_at items (next_of lo hi more) roll (omega arith) (omega arith) in
+    let b = minimal_bound_of (get_or items (next_of lo hi more - 1) least) (get_or items (next_of lo hi more) least) in
+    All-cons HasKeys _ _ (lower_of items lower (minimal_bound_of (get_or items (next_of lo hi more - 1) least) (get_or items (next_of lo hi more) least)) (omega (arith, low, cut.count)))
+    (prints_full more items (next_of lo hi more) hi (minimal_bound_of (get_or items (next_of lo hi more - 1) least) (get_or items (next_of lo hi more) least)) upper roll len (omega arith) high cut.count)
+
+pub split_full : (roll : List Item) (lower upper : Item) (lo hi : ℕ) (rs : List Span) → IsRoll roll → hi ≤ length roll → 32 ≤ hi - lo → rs ≡ split_of roll lo hi upper → hi ≡ count_below roll upper → lo ≡ count_below roll lower
+    → All HasKeys (closed_from lower rs)
+split_full roll lower upper lo hi rs is_roll len many is high low =
+    subst (λ (xs : List Span). All HasKeys (closed_from lower xs)) (sym (is ∙ split_printed roll lo hi upper many))
+    (prints_full 15 roll lo hi lower upper is_roll len (omega (arith, many)) (sym high) (sym low))
+
 -- ---- ids of a roll
 
 pub ids_whole : (roll : List Item) (lower upper : Item) → All IsKey roll → All IsId (ids_of (part roll lower upper))
@@ -336,8 +359,8 @@ listed_fits roll d upper n draft edge edge_u keys few count fits =
     whole_fits d upper (listed_part roll d.end upper) (32 * n) draft edge edge_u (omega (arith, most, count)) fits
 
 -- they are true of the roll
-pub listed_whole : (roll : List Item) (d new : Written) (upper : Item) → place d.end < place infinity → place d.end ≤ place upper → IsKey d.end → new ≡ told_more d upper (listed_part roll d.end upper ∷ []) → Whole roll d upper new
-listed_whole roll d new upper fin le key now = whole_one roll d new (listed_part roll d.end upper) fin le key (λ e. cc) (λ i. (λ h. h, λ h. h)) now
+pub listed_whole : (roll : List Item) (d new : Written) (upper : Item) → place d.end < place infinity → place d.end < place upper → IsKey d.end → new ≡ told_more d upper (listed_part roll d.end upper ∷ []) → Whole roll d upper new
+listed_whole roll d new upper fin lt key now = whole_one roll d new (listed_part roll d.end upper) fin lt key (λ e. cc) (λ i. (λ h. h, λ h. h)) now
 
 -- a bound between two neighbours of a roll
 pub cut_between : (items : List Item) (next : ℕ) (x y b : Item) → IsRoll items → 0 < next → next < length items → slice_get items (next - 1) ≡ Some x → slice_get items next ≡ Some y → b ≡ minimal_bound_of x y → IsCut items next b
@@ -380,7 +403,7 @@ listed_cut roll d e new b upper n draft keys edge key lt le low count full is no
     let text = ap (λ (w : Written). length (text_of w.spans)) is in
     let full_e : e.limit ≤ length (text_of e.spans) + 256 = omega (arith, limit, full, before_most d, grows, more, count, text) in
     let c = closed_cut roll e new upper (subst IsEdge (sym end) (inr key)) (omega (arith, ap place end, key_below b key)) (omega (arith, ap place end, le)) full_e now in
-    whole_cut roll d e new b upper draft (listed_whole roll d e b fin (omega (arith, lt)) (end_key d edge fin) is) c
+    whole_cut roll d e new b upper draft (listed_whole roll d e b fin lt (end_key d edge fin) is) c
 
 -- the bound behind so many ids
 pub bound_behind : (roll : List Item) (lower upper x y b : Item) (from count : ℕ) → IsRoll roll → from ≡ count_below roll lower → (count ≡ 0 → ⊥) → count_below roll lower + count < count_below roll upper → count_below roll upper ≤ length roll
@@ -414,8 +437,8 @@ going_over roll old upper front r back d t (inl h) edge over = absurd (elim edge
   | inr key ↦ omega (arith, key_below d.end key, over)
 ])
 
-pub going_ahead : (old : Written) (upper : Item) (front : List Span) (r : Span) (back : List Span) (d : Written) → Tells old.end upper (front ++ (r ∷ back)) → Onward old front d → place d.end ≤ place r.upper
-going_ahead old upper front r back d t h = omega (arith, (ascends_at old.end front r back t.ascends).1, ap place (onward_end old front d h))
+pub going_ahead : (old : Written) (upper : Item) (front : List Span) (r : Span) (back : List Span) (d : Written) → Tells old.end upper (front ++ (r ∷ back)) → Onward old front d → place d.end < place r.upper
+going_ahead old upper front r back d t h = let full : place (end_of old.end front) < place r.upper = here HasKeys old.end front r back t.none_empty in omega (arith, full, ap place (onward_end old front d h))
 
 pub going_own : (roll : List Item) (old : Written) (front : List Span) (r : Span) (back : List Span) (d : Written) (p : List ℕ) → All (IsTrueOf roll) (closed_from old.end (front ++ (r ∷ back))) → Onward old front d → r.claim ≡ print p
     → p ≡ print_of (ids_of (part roll d.end r.upper))
@@ -447,7 +470,7 @@ over_at roll old upper ranges i r d lt is t h edge over =
     going_over roll old upper (map span_of (take i ranges)) (span_of r) (map span_of (drop (suc i) ranges)) d (subst (λ (x : List Span). Tells old.end upper x) (ranges_at ranges i r lt is) t) h edge over
 
 pub ahead_at : (roll : List Item) (old : Written) (upper : Item) (ranges : List Range) (i : ℕ) (r : Range) (d : Written) → i < length ranges → r ≡ get_or ranges i r → Tells old.end upper (map span_of ranges)
-    → Going roll old upper (map span_of (take i ranges)) d → (place infinity ≤ place d.end → ⊥) → place d.end ≤ place (edge_of r.upper)
+    → Going roll old upper (map span_of (take i ranges)) d → (place infinity ≤ place d.end → ⊥) → place d.end < place (edge_of r.upper)
 ahead_at roll old upper ranges i r d lt is t h fin =
     going_ahead old upper (map span_of (take i ranges)) (span_of r) (map span_of (drop (suc i) ranges)) d (subst (λ (x : List Span). Tells old.end upper x) (ranges_at ranges i r lt is) t)
     (going_on roll old upper (map span_of (take i ranges)) d h fin)

@@ -2,7 +2,7 @@
 use Rattle.std.specs.Prelude.{◌≡◌, ◌<◌, ◌≤◌, ◌+◌, ◌⊎◌, ℕ, List, [], ◌∷◌, ◌++◌, length, All, Contains, nat_lt, if◌then◌else◌}
 use Rattle.neg_codec.specs.declared.Item.{Item}
 use Rattle.neg_codec.specs.Keys.{place, least, infinity, IsKey}
-use Rattle.neg_codec.specs.Ranges.{skip, print, Span, Stretch, Lies, IsSkip, Ascends}
+use Rattle.neg_codec.specs.Ranges.{skip, print, Span, Stretch, stretches, Lies, IsSkip, Ascends}
 use Rattle.neg_codec.specs.Encoding.{text_of}
 use Rattle.item_roll.specs.Truth.{IsTrueOf}
 use Rattle.item_roll.specs.Closed.{closed_from}
@@ -14,6 +14,14 @@ pub record Written : Type 0 where
   pub spans : List Span
   pub end : Item
 
+-- the stretch of a range that begins at a bound
+abbrev pub begun_at : Item → Span → Stretch
+begun_at lower r = record { lower = lower; upper = r.upper; claim = r.claim }
+
+-- a Skip of the message has the key
+abbrev pub IsSkippedAt : List Span → Item → Type 0
+IsSkippedAt spans k = (s : Stretch) × Contains (stretches spans) s × IsSkip s × Lies k s
+
 -- where ranges end
 abbrev pub end_of : Item → List Span → Item
 end_of lower [] = lower
@@ -23,15 +31,24 @@ end_of lower (r ∷ rs) = end_of r.upper rs
 abbrev pub gap : Item → Item → List Span
 gap lower upper = if nat_lt (place lower) (place upper) then record { upper = upper; claim = skip } ∷ [] else []
 
+-- the stretch isn't empty
+abbrev pub HasKeys : Stretch → Type 0
+HasKeys s = place s.lower < place s.upper
+
+-- no range is empty: each ends above where it begins
+abbrev pub NoneEmpty : List Span → Type 0
+NoneEmpty spans = All HasKeys (closed_from least spans)
+
 -- one of the ranges is no Skip
 abbrev pub IsOpen : List Span → Type 0
 IsOpen spans = (s : Stretch) × Contains (closed_from least spans) s × (IsSkip s → ⊥)
 
--- The ranges stand in order and end no higher than the message has come. Unless there is none, one of
--- them is no Skip. They are no longer than the limit, and leave room for two short ranges where keys
+-- The ranges stand in order, none of them is empty, and they end no higher than the message has come. Unless there
+-- is none, one of them is no Skip. They are no longer than the limit, and leave room for two short ranges where keys
 -- are left.
 pub record IsDraft (d : Written) : Type 0 where
   pub ascends : Ascends least d.spans
+  pub none_empty : NoneEmpty d.spans
   pub within : (end_of least d.spans ≡ d.end) ⊎ (place (end_of least d.spans) < place d.end)
   pub low : place d.end ≤ place infinity
   pub open_unless_blank : (d.spans ≡ []) ⊎ IsOpen d.spans
@@ -70,12 +87,13 @@ passed d upper = record { limit = d.limit; spans = d.spans; end = if nat_lt (pla
 abbrev pub told_more : Written → Item → List Span → Written
 told_more d upper spans = record { limit = d.limit; spans = d.spans ++ (gap (end_of least d.spans) d.end ++ spans); end = upper }
 
--- ranges that may be written at a bound: in order from there, and each says something
+-- ranges that may be written at a bound: in order from there, and each has keys and says something of them
 pub record Tells (lower upper : Item) (spans : List Span) : Type 0 where
   pub ascends : Ascends lower spans
   pub ends : end_of lower spans ≡ upper
   pub some : (spans ≡ []) → ⊥
   pub none_skipped : All (λ s. IsSkip s → ⊥) (closed_from lower spans)
+  pub none_empty : All HasKeys (closed_from lower spans)
 
 -- the draft tells what is true of a roll, from where it has come to up to a bound
 pub record Whole (roll : List Item) (old : Written) (upper : Item) (new : Written) : Type 0 where

@@ -14,7 +14,8 @@ use std::marker::Model;
 /// The bound, the mode and the count of a range take no more bytes.
 const MOST_HEAD: usize = 48;
 
-/// So many bytes are kept free for the last two ranges.
+/// So many bytes are kept free for the two ranges that end a message which is cut: the Skip that waits, at most 44 bytes,
+/// and one fingerprint up to infinity, 19 bytes.
 const SPARE: usize = 64;
 
 /// Ranges that are written from front to back (Negentropy protocol V1, "Message"), up to a number of
@@ -69,14 +70,6 @@ impl Draft {
         ensures draft { IsDraft self.now }
     {
         !self.end.is_below(&Bound::Infinite)
-    }
-
-    /// Whether nothing was told yet.
-    pub fn is_blank(&self) -> bool
-        ensures blank { IsTrue result ↔ (self.now.spans ≡ []) }
-        ensures draft { IsDraft self.now }
-    {
-        self.ranges.is_empty()
     }
 
     /// Goes up to a bound, unless it has come further, and says nothing of the keys below it. It takes no

@@ -115,7 +115,7 @@ impl Draft {
     /// doesn't fit, one of all that is left ends the message.
     fn tell_print(self, roll: &Roll, upper: Bound, print: [u8; 16]) -> Result<Draft, AllocError>
         requires finite { place self.end < place infinity }
-        requires ahead { place self.end ≤ place (edge_of upper) }
+        requires ahead { place self.end < place (edge_of upper) }
         requires own { print ≡ print_of (ids_of (part roll.now self.end (edge_of upper))) }
         ensures { IfOk result (λ d. (d ≡ told_more self (edge_of upper) (record { upper = edge_of upper; claim = told.print print } ∷ [])) ⊎ Cut roll.now self (edge_of upper) d) }
     {
@@ -165,8 +165,7 @@ impl Draft {
         ensures exact { IfOk result (λ d. (d ≡ told_more self (edge_of upper) (split_of roll.now (count_below roll.now self.end) (count_below roll.now (edge_of upper)) (edge_of upper))) ⊎ Cut roll.now self (edge_of upper) d) }
     {
         let lower = self.end();
-        let _ = lower.edge();
-        let _ = upper.edge();
+        let _ = (lower.edge(), upper.edge(), roll.len());
         let lo = roll.find(&lower);
         let hi = roll.find(&upper);
         if hi - lo < LISTED_BELOW {

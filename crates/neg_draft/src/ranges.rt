@@ -60,13 +60,6 @@ impl Ranges {
         self.end
     }
 
-    /// Whether there is none.
-    pub fn is_empty(&self) -> bool
-        ensures { IsTrue result ↔ (self.now ≡ []) }
-    {
-        self.list.is_empty()
-    }
-
     /// One range more.
     pub fn push(&mut self, range: Range) -> Result<(), AllocError>
         requires above { place (end_of least self.old) ≤ place (edge_of range.upper) }

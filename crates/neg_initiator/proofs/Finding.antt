@@ -9,9 +9,9 @@ use Rattle.neg_codec.specs.Ranges.{Claim, print, ids, Span}
 use Rattle.neg_print.specs.Print.{print_of}
 use Rattle.item_roll.specs.Parts.{part, ids_of}
 use Rattle.item_roll.specs.Truth.{Says, IsTrueOf}
+use Rattle.neg_draft.specs.Coverage.{begun_at}
 use Rattle.neg_initiator.specs.Notes.{Notes}
 use Rattle.neg_initiator.specs.Settling.{Findings, AccountsFor, Finds}
-use Rattle.neg_initiator.specs.Trusting.{begun_at}
 
 abbrev pub listed_to : Item → List Id → Span
 listed_to upper is = record { upper = upper; claim = ids is }

@@ -7,9 +7,9 @@ use Rattle.neg_codec.specs.Keys.{place, endless, infinity}
 use Rattle.neg_codec.specs.Ranges.{Span, Stretch, stretches_from, Ascends}
 use Rattle.item_roll.specs.Closed.{closed_from}
 use Rattle.item_roll.specs.Truth.{Meet}
-use Rattle.neg_draft.specs.Coverage.{end_of}
+use Rattle.neg_draft.specs.Coverage.{begun_at, end_of}
 use Rattle.neg_draft.proofs.Covering.{closed-append, end-append}
-use Rattle.neg_initiator.specs.Trusting.{begun_at, between, IsSkippedIn}
+use Rattle.neg_initiator.specs.Trusting.{between, IsSkippedIn}
 use Rattle.neg_initiator.proofs.Meeting.{skipped-append, skipped-one, skipped-none, stretches-append, none_beyond}
 
 abbrev pub Iff : Type 0 → Type 0 → Type 0

@@ -2,20 +2,23 @@
 use Rattle.std.proofs.Common.{◌≡◌, ℕ, ◌<◌, ◌≤◌, ◌⊎◌, ◌++◌, inl, inr, Bool, cond, List, [], ◌∷◌, length, refl, sym, ap, subst, ◌∙◌, arith}
 use Rattle.std.specs.Prelude.{Contains, All}
 use Rattle.std.proofs.lemmas.Bool.{le-ltb}
-use Rattle.neg_codec.proofs.Stretches.{one_stretch, some_stretch, key_below}
+use Rattle.std.proofs.lemmas.List.Elements.{All-nil, All-head, All-tail, All-push, All-contains, Contains-append_cases}
+use Rattle.neg_codec.proofs.Stretches.{one_stretch, some_stretch, key_below, contains_head, contains_tail, contains_cases, contains_none}
 use Rattle.neg_codec.specs.declared.Id.{Id}
 use Rattle.neg_codec.specs.declared.Item.{Item}
 use Rattle.neg_codec.specs.Keys.{place, least, infinity, IsKey}
-use Rattle.neg_codec.specs.Ranges.{Claim, skip, print, ids, Span, Stretch, stretches, Lies, IsSkip, Ascends}
+use Rattle.neg_codec.specs.Ranges.{Claim, skip, print, ids, Span, Stretch, stretches, Lies, IsSkip, Ascends, IsSpan}
 use Rattle.neg_codec.specs.Encoding.{text_of}
+use Rattle.item_roll.specs.Closed.{closed_from}
 use Rattle.item_roll.specs.Truth.{IsTrueOf, Meet}
-use Rattle.neg_draft.specs.Coverage.{Written, end_of, passed, IsDraft, Covers, Whole, Cut, Told}
-use Rattle.neg_draft.proofs.Covering.{covers_none, covers_passes, covers_whole, covers_cut, end-append, stretch_of, beyond, told_whole, skipped_left_out, left_out_skipped, passed_place}
+use Rattle.neg_draft.specs.Coverage.{begun_at, Written, end_of, passed, IsDraft, Covers, Whole, Cut, Told, HasKeys, gap, all_left}
+use Rattle.neg_draft.proofs.Covering.{closed-append, edge_low, covers_none, covers_passes, covers_whole, covers_cut, end-append, stretch_of, beyond, told_whole, skipped_left_out, left_out_skipped, passed_place}
 use Rattle.neg_draft.proofs.Walking.{ascends_after}
 use Rattle.neg_initiator.specs.Session.{IsAnswered, NotAskedAgain}
 use Rattle.neg_initiator.specs.Settling.{Findings, AccountsFor, Finds, Settles}
-use Rattle.neg_initiator.specs.Trusting.{begun_at, bounds_of, below, TrustsSkipped}
-use Rattle.neg_initiator.specs.Walked.{IsBelow, MayDrop, MustDrop, Found, IsRead}
+use Rattle.neg_initiator.specs.Settling as settling
+use Rattle.neg_initiator.specs.Trusting.{bounds_of, below, TrustsSkipped}
+use Rattle.neg_initiator.specs.Walked.{IsBelow, MayDrop, MustDrop, Found, IsOver, Remains, IsRead}
 use Rattle.neg_initiator.proofs.Trusts.{earlier_above}
 use Rattle.neg_initiator.proofs.Step.{Accounts, Accounted}
 
@@ -25,13 +28,15 @@ pub record Progress (limit : ℕ) (a : List Item) (answered front : List Span) (
   pub found : Found a answered old f
   pub covers : Covers (IsTrueOf a) (MayDrop a answered (end_of least front) f) (MustDrop a answered) d
   pub reached : place d.end ≡ place (end_of least front)
+  pub left : Remains a answered front d
 
 -- and once one more was read, with which it may have come to its end
-pub record Stepped (limit : ℕ) (a : List Item) (answered : List Span) (until : Item) (old f : Findings) (d : Written) : Type 0 where
+pub record Stepped (limit : ℕ) (a : List Item) (answered read : List Span) (until : Item) (old f : Findings) (d : Written) : Type 0 where
   pub bytes : d.limit ≡ limit
   pub found : Found a answered old f
   pub covers : Covers (IsTrueOf a) (MayDrop a answered until f) (MustDrop a answered) d
   pub reached : (place d.end ≡ place until) ⊎ (place infinity ≤ place d.end)
+  pub left : Remains a answered read d
 
 pub progress_none : (limit : ℕ) (a : List Item) (answered : List Span) (f : Findings) → Progress limit a answered [] f f (record { limit = limit; spans = []; end = least })
 progress_none limit a answered f = record {
@@ -39,6 +44,7 @@ progress_none limit a answered f = record {
   found = record { need_kept = λ i h. h; have_kept = λ i h. h; trusted_kept = λ x h. h; need_new = λ i h. inl h; have_new = λ i h. inl h; trusted_new = λ x h. inl h };
   covers = covers_none (IsTrueOf a) (MayDrop a answered least f) (MustDrop a answered) limit;
   reached = refl;
+  left = inl (refl, refl, All-nil (IsOver a));
 }
 
 -- what accounts for a stretch still does when more is found
@@ -78,11 +84,49 @@ grown a answered l u f g lower r d le one c = record {
   must = c.must;
 }
 
+-- what accounts for a stretch shows that it was answered
+answered_of : (a : List Item) (f : Findings) (l u : Item) (c : Claim) → AccountsFor a f l u c → IsAnswered a (record { lower = l; upper = u; claim = c })
+answered_of a f l u skip acc = inl (inl refl)
+answered_of a f l u (print p) acc = inr (p, refl, acc.0)
+answered_of a f l u (ids is) acc = inl (inr (is, refl))
+
+-- a range among those of a message
+closed_at : (lower : Item) (front : List Span) (r : Span) (back : List Span) → Contains (closed_from lower (front ++ (r ∷ back))) (begun_at (end_of lower front) r)
+closed_at lower [] r back = contains_head (begun_at lower r) (closed_from r.upper back)
+closed_at lower (f ∷ front) r back = contains_tail (begun_at lower f) (closed_from f.upper (front ++ (r ∷ back))) (begun_at (end_of f.upper front) r) (closed_at f.upper front r back)
+
+none_left : {X : Type 0} → (xs ys : List X) → ((ys ≡ []) → ⊥) → (xs ++ ys ≡ []) → ⊥
+none_left [] ys some e = some e
+none_left (x ∷ xs) ys some e = cc
+
+told_some : (a : List Item) (d : Written) (upper : Item) (new : Written) → Told a d upper new → (new.spans ≡ []) → ⊥
+told_some a d upper new (inl w) e = none_left d.spans _ (none_left (gap (end_of least d.spans) d.end) w.spans w.tells.some) (sym (ap (λ (x : Written). x.spans) w.now) ∙ e)
+told_some a d upper new (inr c) e = none_left d.spans _ (none_left (gap (end_of least d.spans) d.end) (c.front ++ all_left c.left) c.tells.some) (sym (ap (λ (x : Written). x.spans) c.now) ∙ e)
+
+-- what is left once a range was passed over
+passes_left : (a : List Item) (front : List Span) (r : Span) (back : List Span) (f : Findings) (d new : Written) → place d.end ≤ place r.upper
+    → Remains a (front ++ (r ∷ back)) front d → settling.Accounts a (end_of least front) r f d new → Remains a (front ++ (r ∷ back)) (front ++ (r ∷ [])) new
+passes_left a front r back f d new le (inl h) p = inl (
+  ap (λ (w : Written). w.spans) p.now ∙ h.0,
+  ap (λ (w : Written). place w.end) p.now ∙ passed_place d r.upper le ∙ ap place (sym (end-append least front (r ∷ []))),
+  subst (λ (ss : List Stretch). All (IsOver a) ss) (sym (closed-append least front (r ∷ [])))
+  (All-push (IsOver a) (closed_from least front) (begun_at (end_of least front) r) h.2 (λ keys. answered_of a f (end_of least front) r.upper r.claim (p.accounts (end_of least front) (omega arith, keys)))),
+)
+passes_left a front r back f d new le (inr h) p = inr ((λ e. h.0 (sym (ap (λ (w : Written). w.spans) p.now) ∙ e)), h.1)
+
+-- nothing has keys beyond infinity
+none_beyond : (lower : Item) (rs : List Span) → Ascends lower rs → All IsSpan rs → place infinity ≤ place lower → (s : Stretch) → Contains (closed_from lower rs) s → HasKeys s → ⊥
+none_beyond lower [] up fits over s h keys = absurd (contains_none s h)
+none_beyond lower (r ∷ rs) up fits over s h keys = elim (contains_cases (begun_at lower r) (closed_from r.upper rs) s h) [
+  | inl e ↦ omega (arith, keys, over, edge_low r.upper (All-head IsSpan r rs fits).upper, ap (λ (x : Stretch). place x.lower) e, ap (λ (x : Stretch). place x.upper) e)
+  | inr rest ↦ none_beyond r.upper rs up.2 (All-tail IsSpan r rs fits) (omega (arith, over, up.1)) s rest keys
+]
+
 -- one range of the reply more
 pub progress_more : (limit : ℕ) (a : List Item) (front : List Span) (r : Span) (back : List Span) (old f g : Findings) (d new : Written)
     → Ascends least (front ++ (r ∷ back)) → IsDraft d
     → Progress limit a (front ++ (r ∷ back)) front old f d → Finds a (end_of least front) r f g → Settles a (end_of least front) r g d new
-    → Stepped limit a (front ++ (r ∷ back)) r.upper old g new
+    → Stepped limit a (front ++ (r ∷ back)) (front ++ (r ∷ [])) r.upper old g new
 progress_more limit a front r back old f g d new up draft was one (inl p) =
     let ahead : place (end_of least front) ≤ place r.upper = ascends_after least front r back up in
     let le : place d.end ≤ place r.upper = omega (arith, was.reached, ahead) in
@@ -97,6 +141,7 @@ progress_more limit a front r back old f g d new up draft was one (inl p) =
       found = found_more a (front ++ (r ∷ back)) (end_of least front) r old f g here was.found one;
       covers = subst (λ (n : Written). Covers (IsTrueOf a) (MayDrop a (front ++ (r ∷ back)) r.upper g) (MustDrop a (front ++ (r ∷ back))) n) (sym p.now) covers;
       reached = inl (ap (λ (w : Written). place w.end) p.now ∙ passed_place d r.upper le);
+      left = passes_left a front r back g d new le was.left p;
     }
 progress_more limit a front r back old f g d new up draft was one (inr t) =
     let ahead : place (end_of least front) ≤ place r.upper = ascends_after least front r back up in
@@ -105,25 +150,29 @@ progress_more limit a front r back old f g d new up draft was one (inr t) =
     let now = grown a (front ++ (r ∷ back)) (end_of least front) r.upper f g (end_of least front) r d ahead one was.covers in
     let found = found_more a (front ++ (r ∷ back)) (end_of least front) r old f g here was.found one in
     told t.0 le found now
+    (inr (told_some a d r.upper new t.0, (begun_at (end_of least front) r, closed_at least front r back, t.2, t.1)))
     (λ k key ge lt q. t.1 (subst (IsAnswered a) (one_stretch (front ++ (r ∷ back)) up k q.0 (begun_at (end_of least front) r) q.1 here q.2 (omega (arith, was.reached, ge), lt)) q.3))
   where
     told : Told a d r.upper new → place d.end ≤ place r.upper → Found a (front ++ (r ∷ back)) old g → Covers (IsTrueOf a) (MayDrop a (front ++ (r ∷ back)) r.upper g) (MustDrop a (front ++ (r ∷ back))) d
-        → ((k : Item) → IsKey k → place d.end ≤ place k → place k < place r.upper → MustDrop a (front ++ (r ∷ back)) k → ⊥) → Stepped limit a (front ++ (r ∷ back)) r.upper old g new
-    told (inl w) le found now none = record {
+        → Remains a (front ++ (r ∷ back)) (front ++ (r ∷ [])) new
+        → ((k : Item) → IsKey k → place d.end ≤ place k → place k < place r.upper → MustDrop a (front ++ (r ∷ back)) k → ⊥) → Stepped limit a (front ++ (r ∷ back)) (front ++ (r ∷ [])) r.upper old g new
+    told (inl w) le found now left none = record {
       bytes = ap (λ (x : Written). x.limit) w.now ∙ was.bytes;
       found = found;
       covers = covers_whole (MayDrop a (front ++ (r ∷ back)) r.upper g) (MustDrop a (front ++ (r ∷ back))) a d new r.upper draft le w now (true_skip a) none;
       reached = inl (ap (λ (x : Written). place x.end) w.now);
+      left = left;
     }
-    told (inr c) le found now none = record {
+    told (inr c) le found now left none = record {
       bytes = ap (λ (x : Written). x.limit) c.now ∙ was.bytes;
       found = found;
       covers = covers_cut (MayDrop a (front ++ (r ∷ back)) r.upper g) (MustDrop a (front ++ (r ∷ back))) a d new r.upper draft c now (true_skip a) none;
       reached = inr (omega (arith, ap (λ (x : Written). place x.end) c.now));
+      left = left;
     }
 
 -- where keys are left, the next range follows
-pub step_on : (limit : ℕ) (a : List Item) (answered front : List Span) (r : Span) (old f : Findings) (d : Written) → Stepped limit a answered r.upper old f d → (place infinity ≤ place d.end → ⊥) → Progress limit a answered (front ++ (r ∷ [])) old f d
+pub step_on : (limit : ℕ) (a : List Item) (answered front : List Span) (r : Span) (old f : Findings) (d : Written) → Stepped limit a answered (front ++ (r ∷ [])) r.upper old f d → (place infinity ≤ place d.end → ⊥) → Progress limit a answered (front ++ (r ∷ [])) old f d
 step_on limit a answered front r old f d s fin =
     let e : end_of least (front ++ (r ∷ [])) ≡ r.upper = end-append least front (r ∷ []) in
     record {
@@ -131,6 +180,7 @@ step_on limit a answered front r old f d s fin =
       found = s.found;
       covers = subst (λ (x : Item). Covers (IsTrueOf a) (MayDrop a answered x f) (MustDrop a answered) d) (sym e) s.covers;
       reached = elim s.reached [ inl here ↦ here ∙ ap place (sym e) | inr over ↦ absurd (fin over) ];
+      left = s.left;
     }
 
 -- a draft that has come to infinity goes no further
@@ -138,12 +188,28 @@ stays : (d : Written) → place infinity ≤ place d.end → d ≡ passed d infi
 stays d le = ap (λ (b : Bool). record { limit = d.limit; spans = d.spans; end = cond b infinity d.end }) (sym (le-ltb (place d.end) (place infinity) le))
 
 -- the reply was read up to where the next ask came to its end
-pub read_until : (limit : ℕ) (a : List Item) (answered : List Span) (until : Item) (old f : Findings) (d : Written) → Stepped limit a answered until old f d → place infinity ≤ place d.end → IsRead limit a answered old f until d
-read_until limit a answered until old f d s over = record {
+pub read_until : (limit : ℕ) (a : List Item) (front back : List Span) (until : Item) (old f : Findings) (d : Written) → Ascends least (front ++ back) → All IsSpan (front ++ back) → Stepped limit a (front ++ back) front until old f d
+    → place infinity ≤ place d.end → IsRead limit a (front ++ back) old f until d
+read_until limit a front back until old f d up fits s over = record {
   bytes = s.bytes;
   found = s.found;
-  covers = subst (λ (w : Written). Covers (IsTrueOf a) (MayDrop a answered until f) (MustDrop a answered) w) (stays d over) s.covers;
+  covers = subst (λ (w : Written). Covers (IsTrueOf a) (MayDrop a (front ++ back) until f) (MustDrop a (front ++ back)) w) (stays d over) s.covers;
+  leaves = elim s.left [
+    | inl h ↦ inl (h.0, λ o. elim (Contains-append_cases (closed_from least front) (closed_from (end_of least front) back) o.0 (subst (λ (ss : List Stretch). Contains ss o.0) (closed-append least front back) o.1)) [
+      | inl was ↦ o.3 (All-contains (IsOver a) (closed_from least front) o.0 h.2 was o.2)
+      | inr behind ↦ none_beyond (end_of least front) back (ascends_back least front back up) (all_back IsSpan front back fits) (omega (arith, over, h.1)) o.0 behind o.2
+    ])
+    | inr h ↦ inr h
+  ];
 }
+  where
+    ascends_back : (lower : Item) (xs ys : List Span) → Ascends lower (xs ++ ys) → Ascends (end_of lower xs) ys
+    ascends_back lower [] ys h = h
+    ascends_back lower (x ∷ xs) ys h = ascends_back x.upper xs ys h.2
+
+    all_back : (P : Span → Type 0) (xs ys : List Span) → All P (xs ++ ys) → All P ys
+    all_back P [] ys h = h
+    all_back P (x ∷ xs) ys h = all_back P xs ys (All-tail P x (xs ++ ys) h)
 
 -- or to its end
 pub read_whole : (limit : ℕ) (a : List Item) (answered : List Span) (old f : Findings) (d : Written) → IsDraft d → Progress limit a answered answered old f d → IsRead limit a answered old f infinity d
@@ -165,6 +231,10 @@ read_whole limit a answered old f d draft was =
             (λ j jkey jlies. key_below j jkey),
             subst (λ (c : Claim). AccountsFor a f s.0.lower s.0.upper c) (sym s.2) tt,
           ));
+      leaves = elim was.left [
+        | inl h ↦ inl (h.0, λ o. o.3 (All-contains (IsOver a) (closed_from least answered) o.0 h.2 o.1 o.2))
+        | inr h ↦ inr h
+      ];
     }
 
 -- what is owed to a stretch that was read, with what the Skips owe to the last ask

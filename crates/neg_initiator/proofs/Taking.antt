@@ -1,32 +1,35 @@
 -- What a session is after a reply that was walked.
 use Rattle.std.proofs.Common.{◌≡◌, ℕ, suc, ◌+◌, ◌<◌, ◌≤◌, ◌⊎◌, ◌++◌, inl, inr, List, [], ◌∷◌, length, map, take, drop, get_or, refl, sym, ap, subst, ◌∙◌, arith}
-use Rattle.std.specs.Prelude.{Contains, All}
+use Rattle.std.specs.Prelude.{Contains, All, Result, Ok}
 use Rattle.std.proofs.lemmas.List.Elements.{All-contains, All-weaker, All-contains_itself}
 use Rattle.neg_codec.proofs.Stretches.{contains_head, contains_tail, contains_cases, contains_none}
+use Rattle.neg_codec.specs.declared.CodecFault.{CodecFault}
 use Rattle.neg_codec.specs.declared.Id.{Id}
+use Rattle.neg_codec.specs.Reading.{message_at}
 use Rattle.neg_codec.specs.declared.Item.{Item}
 use Rattle.neg_codec.specs.declared.Range.{Range}
 use Rattle.neg_codec.specs.Keys.{place, least, infinity}
-use Rattle.neg_codec.specs.Ranges.{Claim, print, Span, Stretch, stretches, stretches_from, IsSkip, Ascends, edge_of, span_of}
+use Rattle.neg_codec.specs.Ranges.{Claim, print, Span, Stretch, stretches, stretches_from, IsSkip, Ascends, IsSpan, edge_of, span_of}
 use Rattle.neg_print.specs.Print.{print_of}
 use Rattle.item_roll.specs.Closed.{closed_from}
 use Rattle.item_roll.specs.Parts.{IsRoll, part, ids_of}
 use Rattle.item_roll.specs.Truth.{Says, IsTrueOf, Follows}
-use Rattle.neg_draft.specs.Coverage.{Written, end_of, gap, all_left, IsDraft, Tells, Told}
+use Rattle.std.proofs.lemmas.List.{take-append-drop, map-append}
+use Rattle.neg_draft.specs.Coverage.{begun_at, HasKeys, NoneEmpty, Written, end_of, gap, all_left, IsDraft, Tells, Told}
 use Rattle.neg_draft.proofs.Covering.{stretch_of}
 use Rattle.neg_draft.proofs.Walking.{ranges_at, ranges_upto}
 use Rattle.neg_initiator.specs.Listed.{PassesMost}
 use Rattle.neg_initiator.specs.declared.phase.Phase.{Phase}
 use Rattle.std.proofs.lemmas.Bool.{le-ltb}
 use Rattle.neg_initiator.specs.Made.{asking}
-use Rattle.neg_initiator.specs.Session.{Session, Taken, HasOpen}
+use Rattle.neg_initiator.specs.Session.{Session, Taken, HasOpen, LeavesOpen, IsAskDue}
 use Rattle.neg_initiator.specs.Settled.{HasOnePrint}
 use Rattle.neg_initiator.specs.Settling.{Findings, Finds, Settles, ListsTooMany}
-use Rattle.neg_initiator.specs.Trusting.{begun_at, bounds_of, TrustsSkipped, IsSkippedPrint, IsOwnPrint}
+use Rattle.neg_initiator.specs.Trusting.{bounds_of, TrustsSkipped, IsSkippedPrint, IsOwnPrint}
 use Rattle.neg_initiator.proofs.Meeting.{stretches-append}
 use Rattle.neg_initiator.proofs.Step.{settled_after}
-use Rattle.neg_initiator.specs.Walked.{Found}
-use Rattle.neg_initiator.proofs.Stepping.{Progress, Stepped, Walked, progress_more, step_on}
+use Rattle.neg_initiator.specs.Walked.{Found, IsRead}
+use Rattle.neg_initiator.proofs.Stepping.{Progress, Stepped, Walked, progress_more, step_on, read_until}
 
 says_print : (items : List Item) (s : Stretch) (p : List ℕ) → s.claim ≡ print p → IsTrueOf items s → p ≡ print_of (ids_of (part items s.lower s.upper))
 says_print items s p e h = subst (λ (c : Claim). Says c (part items s.lower s.upper)) e h
@@ -46,13 +49,13 @@ from_each : {X : Type 0} (P : X → Type 0) (xs : List X) → ((x : X) → Conta
 from_each P xs h = All-weaker (Contains xs) P h xs (All-contains_itself xs)
 
 pub taken_from : (limit : ℕ) (a : List Item) (asked answered next : List Span) (until : Item) (old mid new : Findings) (most : ℕ) → 4096 ≤ limit → IsRoll a → Ascends least asked → All (IsTrueOf a) (stretches asked)
-    → Found a answered old mid → TrustsSkipped asked answered until (stretches asked) mid.trusted new.trusted → new.need ≡ mid.need → new.have ≡ mid.have → Ascends least next → Walked limit a asked answered next new
+    → Found a answered old mid → TrustsSkipped asked answered until (stretches asked) mid.trusted new.trusted → new.need ≡ mid.need → new.have ≡ mid.have → Ascends least next → NoneEmpty next → Walked limit a asked answered next new
     → Taken answered (asking limit a asked old most) (asking limit a next new most)
-taken_from limit a asked answered next until old mid new most enough roll up truth found trusts need have ascends w = record {
+taken_from limit a asked answered next until old mid new most enough roll up truth found trusts need have ascends full w = record {
   roll = refl;
   limit_is = refl;
   most = refl;
-  sound = record { roll = roll; ascends = ascends; truth = w.truth; enough = enough };
+  sound = record { roll = roll; ascends = ascends; none_empty = full; truth = w.truth; enough = enough };
   not_again = w.not_again;
   need_from = λ i h. found.need_new i (subst (λ (xs : List Id). Contains xs i) need h);
   trusted_kept = λ x h. trusts.kept x (found.trusted_kept x h);
@@ -93,17 +96,29 @@ too_many a front r back need old f most found e l = record {
 
 pub stepped_at : (limit : ℕ) (a : List Item) (ranges : List Range) (i : ℕ) (r : Range) (old f g : Findings) (d new : Written) → i < length ranges → r ≡ get_or ranges i r → Ascends least (map span_of ranges) → IsDraft d
     → Progress limit a (map span_of ranges) (map span_of (take i ranges)) old f d → Finds a (end_of least (map span_of (take i ranges))) (span_of r) f g
-    → Settles a (end_of least (map span_of (take i ranges))) (span_of r) g d new → Stepped limit a (map span_of ranges) (edge_of r.upper) old g new
+    → Settles a (end_of least (map span_of (take i ranges))) (span_of r) g d new → Stepped limit a (map span_of ranges) (map span_of (take (i + 1) ranges)) (edge_of r.upper) old g new
 stepped_at limit a ranges i r old f g d new lt is up draft was finds settles =
     let e = ranges_at ranges i r lt is in
-    subst (λ (x : List Span). Stepped limit a x (edge_of r.upper) old g new) (sym e)
+    subst (λ (y : List Span). Stepped limit a (map span_of ranges) y (edge_of r.upper) old g new) (sym (ranges_upto ranges i r lt is))
+    (subst (λ (x : List Span). Stepped limit a x (map span_of (take i ranges) ++ (span_of r ∷ [])) (edge_of r.upper) old g new) (sym e)
     (progress_more limit a (map span_of (take i ranges)) (span_of r) (map span_of (drop (suc i) ranges)) old f g d new (subst (λ (x : List Span). Ascends least x) e up) draft
-    (subst (λ (x : List Span). Progress limit a x (map span_of (take i ranges)) old f d) e was) finds settles)
+    (subst (λ (x : List Span). Progress limit a x (map span_of (take i ranges)) old f d) e was) finds settles))
 
 pub progress_at : (limit : ℕ) (a : List Item) (ranges : List Range) (i : ℕ) (r : Range) (old f : Findings) (d : Written) → i < length ranges → r ≡ get_or ranges i r
-    → Stepped limit a (map span_of ranges) (edge_of r.upper) old f d → (place infinity ≤ place d.end → ⊥) → Progress limit a (map span_of ranges) (map span_of (take (i + 1) ranges)) old f d
+    → Stepped limit a (map span_of ranges) (map span_of (take (i + 1) ranges)) (edge_of r.upper) old f d → (place infinity ≤ place d.end → ⊥) → Progress limit a (map span_of ranges) (map span_of (take (i + 1) ranges)) old f d
 progress_at limit a ranges i r old f d lt is s fin =
-    subst (λ (x : List Span). Progress limit a (map span_of ranges) x old f d) (sym (ranges_upto ranges i r lt is)) (step_on limit a (map span_of ranges) (map span_of (take i ranges)) (span_of r) old f d s fin)
+    subst (λ (x : List Span). Progress limit a (map span_of ranges) x old f d) (sym (ranges_upto ranges i r lt is)) 
+    (step_on limit a (map span_of ranges) (map span_of (take i ranges)) (span_of r) old f d (subst (λ (x : List Span). Stepped limit a (map span_of ranges) x (edge_of r.upper) old f d) (ranges_upto ranges i r lt is) s) fin)
+
+-- the reply was read up to a range with which the next ask came to its end
+pub read_at : (limit : ℕ) (a : List Item) (ranges : List Range) (i : ℕ) (r : Range) (old f : Findings) (d : Written) → Ascends least (map span_of ranges) → All IsSpan (map span_of ranges)
+    → Stepped limit a (map span_of ranges) (map span_of (take (i + 1) ranges)) (edge_of r.upper) old f d → place infinity ≤ place d.end → IsRead limit a (map span_of ranges) old f (edge_of r.upper) d
+read_at limit a ranges i r old f d up fits s over =
+    let e : map span_of ranges ≡ map span_of (take (i + 1) ranges) ++ map span_of (drop (i + 1) ranges) =
+    ap (map span_of) (sym (take-append-drop (i + 1) ranges)) ∙ map-append span_of (take (i + 1) ranges) (drop (i + 1) ranges) in
+    subst (λ (x : List Span). IsRead limit a x old f (edge_of r.upper) d) (sym e)
+    (read_until limit a (map span_of (take (i + 1) ranges)) (map span_of (drop (i + 1) ranges)) (edge_of r.upper) old f d (subst (λ (x : List Span). Ascends least x) e up) (subst (λ (x : List Span). All IsSpan x) e fits)
+    (subst (λ (x : List Span). Stepped limit a x (map span_of (take (i + 1) ranges)) (edge_of r.upper) old f d) e s) over)
 
 pub too_many_at : (a : List Item) (ranges : List Range) (i : ℕ) (r : Range) (need : List Id) (old f : Findings) (most : ℕ) → i < length ranges → r ≡ get_or ranges i r → Found a (map span_of ranges) old f → old.need ≡ need
     → ListsTooMany a (end_of least (map span_of (take i ranges))) (span_of r) f.need most → PassesMost a (map span_of ranges) need most
@@ -125,7 +140,22 @@ in_closed spans s h = go least spans h
     ]
 
 pub open_of : (d : Written) → IsDraft d → (d.spans ≡ []) ⊎ HasOpen d.spans
-open_of d draft = elim draft.open_unless_blank [ inl e ↦ inl e | inr o ↦ inr (o.0, in_closed d.spans o.0 o.1, o.2) ]
+open_of d draft = elim draft.open_unless_blank [ inl e ↦ inl e | inr o ↦ inr (o.0, in_closed d.spans o.0 o.1, o.2, All-contains HasKeys (closed_from least d.spans) o.0 draft.none_empty o.1) ]
+
+-- just where the reply left something open
+pub left_of : (limit : ℕ) (a : List Item) (answered : List Span) (old new : Findings) (until : Item) (d : Written) → IsRead limit a answered old new until d
+    → (d.spans ≡ [] → LeavesOpen a answered → ⊥) × ((d.spans ≡ [] → ⊥) → LeavesOpen a answered)
+left_of limit a answered old new until d was = elim was.leaves [
+  | inl none ↦ ((λ e. none.1), (λ some. absurd (some none.0)))
+  | inr some ↦ ((λ e. absurd (some.0 e)), (λ s. some.1))
+]
+
+-- a next ask is due just where the reply left something open
+same_message : (a b : List Span) → ◌≡◌ {A = Result (List Span) CodecFault} (Ok a) (Ok b) → a ≡ b
+same_message a b e = cc
+
+pub not_due : (a : List Item) (reply : List ℕ) (answered : List Span) → message_at reply ≡ Ok answered → (LeavesOpen a answered → ⊥) → IsAskDue a reply → ⊥
+not_due a reply answered read none due = none (subst (LeavesOpen a) (same_message due.0 answered (sym due.1 ∙ read)) due.2)
 
 -- whether a session asks has no part in what a reply does
 pub taken_any : (answered : List Span) (o n : Session) (p q : Phase) → Taken answered o n → Taken answered (record o { phase = p }) (record n { phase = q })
@@ -133,7 +163,7 @@ taken_any answered o n p q t = record {
   roll = t.roll;
   limit_is = t.limit_is;
   most = t.most;
-  sound = record { roll = t.sound.roll; ascends = t.sound.ascends; truth = t.sound.truth; enough = t.sound.enough };
+  sound = record { roll = t.sound.roll; ascends = t.sound.ascends; none_empty = t.sound.none_empty; truth = t.sound.truth; enough = t.sound.enough };
   not_again = t.not_again;
   need_from = t.need_from;
   trusted_kept = t.trusted_kept;

@@ -9,10 +9,10 @@ use Rattle.neg_codec.specs.Keys.{place, least, endless, infinity}
 use Rattle.neg_codec.specs.Ranges.{Claim, skip, print, Span, Stretch, stretches, stretches_from, IsSkip, Ascends, span_of}
 use Rattle.item_roll.specs.Closed.{closed_from}
 use Rattle.neg_codec.specs.declared.Range.{Range}
-use Rattle.neg_draft.specs.Coverage.{end_of}
+use Rattle.neg_draft.specs.Coverage.{begun_at, end_of}
 use Rattle.neg_draft.proofs.Walking.{ranges_at}
 use Rattle.neg_draft.proofs.Covering.{closed-append, end-append, stretch_of}
-use Rattle.neg_initiator.specs.Trusting.{begun_at, between, below, earlier, bounds_of, IsSkippedIn, TrustsOne, TrustsSkipped}
+use Rattle.neg_initiator.specs.Trusting.{between, below, earlier, bounds_of, IsSkippedIn, TrustsOne, TrustsSkipped}
 use Rattle.neg_initiator.proofs.Meeting.{meet_bounds, skipped-append, stretches-append, none_before}
 use Rattle.neg_initiator.proofs.Passing.{Iff}
 

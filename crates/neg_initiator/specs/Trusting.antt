@@ -41,10 +41,6 @@ earlier a b = if nat_lt (place a) (place b) then a else b
 abbrev pub below : Item → Stretch → Stretch
 below until t = between t.lower (earlier until t.upper)
 
--- the stretch of a range that begins at a bound
-abbrev pub begun_at : Item → Span → Stretch
-begun_at lower r = record { lower = lower; upper = r.upper; claim = r.claim }
-
 -- one of the stretches is a Skip that has a key in common with it
 abbrev pub IsSkippedIn : List Stretch → Stretch → Type 0
 IsSkippedIn ss t = (s : Stretch) × Contains ss s × IsSkip s × Meet s t

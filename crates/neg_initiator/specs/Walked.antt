@@ -1,13 +1,14 @@
 -- How far a reply was read for the next ask, what was found there, and what that ask owes to it.
-use Rattle.std.specs.Prelude.{◌≡◌, ◌<◌, ◌⊎◌, ℕ, List, Contains}
+use Rattle.std.specs.Prelude.{◌≡◌, ◌<◌, ◌⊎◌, ℕ, List, [], All, Contains}
 use Rattle.neg_codec.specs.declared.Id.{Id}
 use Rattle.neg_codec.specs.declared.Item.{Item}
-use Rattle.neg_codec.specs.Keys.{place, infinity, IsKey}
+use Rattle.neg_codec.specs.Keys.{place, least, infinity, IsKey}
 use Rattle.neg_codec.specs.Ranges.{Span, Stretch, stretches, Lies}
 use Rattle.item_roll.specs.Truth.{IsTrueOf}
-use Rattle.neg_draft.specs.Coverage.{Written, passed, Covers}
+use Rattle.item_roll.specs.Closed.{closed_from}
+use Rattle.neg_draft.specs.Coverage.{Written, HasKeys, end_of, passed, Covers}
 use Rattle.neg_initiator.specs.Listed.{IsListed, IsUnlisted}
-use Rattle.neg_initiator.specs.Session.{IsAnswered}
+use Rattle.neg_initiator.specs.Session.{IsAnswered, LeavesOpen}
 use Rattle.neg_initiator.specs.Settling.{Findings, AccountsFor}
 use Rattle.neg_initiator.specs.Trusting.{bounds_of, IsOwnPrint}
 
@@ -32,8 +33,19 @@ pub record Found (a : List Item) (answered : List Span) (old new : Findings) : T
   pub have_new : (i : Id) → Contains new.have i → Contains old.have i ⊎ IsUnlisted a answered i
   pub trusted_new : (x : Item × Item) → Contains new.trusted x → Contains old.trusted x ⊎ ((s : Stretch) × (bounds_of s ≡ x) × IsOwnPrint a answered s)
 
+-- the stretch is empty, or was answered
+abbrev pub IsOver : List Item → Stretch → Type 0
+IsOver a s = HasKeys s → IsAnswered a s
+
+-- Nothing is asked, and all ranges read so far are over; or the reply left something open.
+abbrev pub Remains : List Item → List Span → List Span → Written → Type 0
+Remains a answered front d =
+    ((d.spans ≡ []) × (place d.end ≡ place (end_of least front)) × All (IsOver a) (closed_from least front))
+    ⊎ (((d.spans ≡ []) → ⊥) × LeavesOpen a answered)
+
 -- The reply was read up to a bound: to its end, or up to where the next ask was cut.
 pub record IsRead (limit : ℕ) (a : List Item) (answered : List Span) (old new : Findings) (until : Item) (d : Written) : Type 0 where
   pub bytes : d.limit ≡ limit
   pub found : Found a answered old new
   pub covers : Covers (IsTrueOf a) (MayDrop a answered until new) (MustDrop a answered) (passed d infinity)
+  pub leaves : ((d.spans ≡ []) × (LeavesOpen a answered → ⊥)) ⊎ (((d.spans ≡ []) → ⊥) × LeavesOpen a answered)

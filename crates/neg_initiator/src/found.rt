@@ -1,12 +1,12 @@
 //! What a session has found out.
 
-ghost use Rattle.std.specs.Prelude.{◌≡◌, ◌<◌, ◌≤◌, ◌⊎◌, ◌^◌, [], ◌∷◌, OnOk, IfErr, Err, length};
+ghost use Rattle.std.specs.Prelude.{◌≡◌, ◌≤◌, ◌⊎◌, [], ◌∷◌, OnOk, IfErr, Err, length};
 ghost use Rattle.neg_initiator.specs.Notes.{NotesOne, Notes, Passes};
 
 use crate::InitFault;
 use crate::ids::{has, put, set_of};
 use neg_codec::{Bound, Id, Key};
-use std::alloc::Global;
+use std::alloc::{AllocError, Global};
 use std::collections::BTreeSet;
 
 /// What a session has found out so far.
@@ -31,7 +31,7 @@ fn note(
 ) -> Result<(), InitFault>
     ensures ok { OnOk result (NotesOne others.now.keys id.now into.old.keys into.new.keys) }
     ensures within { OnOk result (length into.old.keys ≤ most → length into.new.keys ≤ most) }
-    ensures full { result ≡ Err InitFault.NeedFull → (most < 2 ^ 63) × Passes others.now.keys (id.now ∷ []) into.old.keys most }
+    ensures full { result ≡ Err InitFault.NeedFull → Passes others.now.keys (id.now ∷ []) into.old.keys most }
     ensures fault { IfErr result (λ e. (e ≡ InitFault.NeedFull) ⊎ (e ≡ InitFault.Memory)) }
 {
     if has(others, id) {
@@ -56,7 +56,7 @@ fn note_all(
 ) -> Result<(), InitFault>
     ensures ok { OnOk result (Notes others.now.keys listed.now into.old.keys into.new.keys) }
     ensures within { OnOk result (length into.old.keys ≤ most → length into.new.keys ≤ most) }
-    ensures full { result ≡ Err InitFault.NeedFull → (most < 2 ^ 63) × Passes others.now.keys listed.now into.old.keys most }
+    ensures full { result ≡ Err InitFault.NeedFull → Passes others.now.keys listed.now into.old.keys most }
     ensures fault { IfErr result (λ e. (e ≡ InitFault.NeedFull) ⊎ (e ≡ InitFault.Memory)) }
 {
     for id in listed {
@@ -64,6 +64,30 @@ fn note_all(
             Ok(()) => {}
             Err(fault) => return Err(fault),
         }
+    }
+    Ok(())
+}
+
+/// Puts an id in where the others lack it.
+fn note_new(into: &mut BTreeSet<Id>, id: &Id, others: &BTreeSet<Id>) -> Result<(), AllocError>
+    ensures { OnOk result (NotesOne others.now.keys id.now into.old.keys into.new.keys) }
+{
+    if has(others, id) {
+        return Ok(());
+    }
+    put(into, *id)
+}
+
+/// Puts the ids of a list in that the others lack, however many there are.
+fn note_own(
+    into: &mut BTreeSet<Id>,
+    own: &[Id],
+    others: &BTreeSet<Id>,
+) -> Result<(), AllocError>
+    ensures { OnOk result (Notes others.now.keys own.now into.old.keys into.new.keys) }
+{
+    for id in own {
+        note_new(into, id, others)?;
     }
     Ok(())
 }
@@ -83,8 +107,6 @@ pub fn compare(alloc: Global, found: &mut Found, own: &[Id], listed: &[Id]) -> R
         Ok(()) => {}
         Err(fault) => return Err(fault),
     }
-    match note_all(&mut found.have, own, &listed_set, usize::MAX) {
-        Ok(()) => Ok(()),
-        Err(_) => Err(InitFault::Memory),
-    }
+    note_own(&mut found.have, own, &listed_set)?;
+    Ok(())
 }

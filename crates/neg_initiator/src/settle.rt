@@ -9,7 +9,7 @@ ghost use Rattle.neg_draft.specs.Coverage.{IsDraft};
 ghost use Rattle.neg_initiator.specs.Notes.{Passes};
 ghost use Rattle.neg_initiator.specs.Listed.{PassesMost};
 ghost use Rattle.neg_initiator.specs.Made.{asking};
-ghost use Rattle.neg_initiator.specs.Session.{IsSound, Taken, HasOpen};
+ghost use Rattle.neg_initiator.specs.Session.{IsSound, Taken, HasOpen, LeavesOpen};
 ghost use Rattle.neg_initiator.specs.Settling.{AccountsFor, Finds, Settles, ListsTooMany};
 ghost use Rattle.neg_initiator.specs.Findings.{findings_of};
 ghost use Rattle.neg_initiator.specs.Walked.{IsRead};
@@ -136,6 +136,7 @@ pub fn settle(
     ensures taken { IfOk result (λ next. Taken answered.now (asking limit roll.now asked.now (findings_of found.old) found.old.most) (asking limit roll.now next (findings_of found.new) found.new.most)) }
     ensures short { IfOk result (λ next. length (text_of next) ≤ limit) }
     ensures leaves_open { IfOk result (λ next. (next ≡ []) ⊎ HasOpen next) }
+    ensures due { IfOk result (λ next. (next ≡ [] → LeavesOpen roll.now answered.now → ⊥) × ((next ≡ [] → ⊥) → LeavesOpen roll.now answered.now)) }
     ensures within { OnOk result (length found.old.need.keys ≤ found.old.most → length found.new.need.keys ≤ found.new.most) }
     ensures full { result ≡ Err InitFault.NeedFull → PassesMost roll.now answered.now found.old.need.keys found.old.most }
     ensures fault { IfErr result (λ e. (e ≡ InitFault.NeedFull) ⊎ (e ≡ InitFault.Memory)) }

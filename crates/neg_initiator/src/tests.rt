@@ -113,6 +113,19 @@ fn too_many_needed(rt: HostRuntime) -> Result<(), Fail> {
 }
 
 #[test]
+fn ids_to_offer_have_no_limit(rt: HostRuntime) -> Result<(), Fail> {
+    let roll = Roll::from_items(rt.alloc(), &line(rt.alloc(), 5)?)?;
+    let (mut session, _) = Initiator::start(rt.alloc(), &roll, 60_000, 0)?;
+    assert!(rt; matches!(session.take(b"\x61\x00\x00\x02\x00")?, Next::Done));
+    if !session.is_done() {
+        return Err(Fail::from("not done"));
+    }
+    let outcome = session.outcome();
+    assert!(rt; outcome.have.len() == 5 && outcome.need.is_empty());
+    Ok(())
+}
+
+#[test]
 fn first_asks(rt: HostRuntime) -> Result<(), Fail> {
     let few = Roll::from_items(rt.alloc(), &line(rt.alloc(), 31)?)?;
     let (_, ask) = Initiator::start(rt.alloc(), &few, 60_000, 10)?;

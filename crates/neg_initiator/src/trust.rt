@@ -5,9 +5,9 @@ ghost use Rattle.neg_codec.specs.declared.Item.{Item};
 ghost use Rattle.neg_codec.specs.Keys.{place};
 ghost use Rattle.neg_codec.specs.Ranges.{Ascends, stretches, stretches_from, edge_of, span_of};
 ghost use Rattle.item_roll.specs.Truth.{Meet};
-ghost use Rattle.neg_draft.specs.Coverage.{end_of};
+ghost use Rattle.neg_draft.specs.Coverage.{begun_at, end_of};
 ghost use Rattle.neg_initiator.specs.Pairs.{pair_of};
-ghost use Rattle.neg_initiator.specs.Trusting.{begun_at, between, earlier, IsSkippedIn, TrustsOne, TrustsSkipped};
+ghost use Rattle.neg_initiator.specs.Trusting.{between, earlier, IsSkippedIn, TrustsOne, TrustsSkipped};
 
 use neg_codec::{Bound, Key, Message, Payload, Range};
 use std::alloc::AllocError;

@@ -1,8 +1,8 @@
 -- A reply, range by range of the question.
-use Rattle.std.proofs.Common.{◌≡◌, ℕ, zero, suc, ◌+◌, map, get_or, ◌<◌, ◌≤◌, ◌⊎◌, inl, inr, Bool, cond, ltb, leb, ◌&&◌, List, [], ◌∷◌, ◌++◌, length, take, drop, refl, sym, ap, subst, ◌∙◌, arith}
+use Rattle.std.proofs.Common.{◌≡◌, ℕ, suc, ◌+◌, map, get_or, ◌<◌, ◌≤◌, ◌⊎◌, inl, inr, Bool, cond, ltb, leb, ◌&&◌, List, [], ◌∷◌, ◌++◌, length, take, drop, refl, sym, ap, subst, ◌∙◌, arith}
 use Rattle.std.specs.Prelude.{Contains, All, filter}
 use Rattle.std.proofs.lemmas.Bool.{le-ltb}
-use Rattle.std.proofs.lemmas.List.{take_all, take_more, map-append}
+use Rattle.std.proofs.lemmas.List.{take_all}
 use Rattle.neg_codec.specs.declared.Range.{Range}
 use Rattle.neg_codec.proofs.Stretches.{one_stretch, key_below}
 use Rattle.neg_codec.specs.declared.Item.{Item}
@@ -13,10 +13,10 @@ use Rattle.neg_codec.proofs.Placing.{span_at}
 use Rattle.item_roll.specs.Truth.{Says, IsTrueOf, Follows}
 use Rattle.item_roll.specs.Parts.{part}
 use Rattle.item_roll.proofs.Follow.{follows_from}
-use Rattle.neg_draft.specs.Coverage.{Written, end_of, passed, IsDraft, Covers, Whole, Cut, Told}
+use Rattle.neg_draft.specs.Coverage.{Written, begun_at, end_of, passed, IsDraft, Covers, Told}
 use Rattle.neg_draft.proofs.Covering.{covers_none, covers_passes, covers_whole, covers_cut, edge_low, end-append, stretch_of, beyond, told_whole, skipped_left_out, left_out_skipped, passed_place}
 use Rattle.neg_draft.proofs.Walking.{ranges_at, ranges_upto, ascends_after}
-use Rattle.neg_responder.specs.Reply.{IsSame, SkipsSame, begun_at, Responds}
+use Rattle.neg_responder.specs.Reply.{IsSame, SkipsSame, Responds}
 
 -- a key of which the reply may say nothing: what the question says of it is true of the roll
 abbrev pub MaySkip : List Item → List Span → Item → Type 0

@@ -6,34 +6,26 @@ use Rattle.neg_codec.specs.Ranges.{print, Span, Stretch, stretches, Lies, IsSkip
 use Rattle.neg_codec.specs.declared.CodecFault.{CodecFault}
 use Rattle.neg_codec.specs.declared.CodecFault.TheVariants as codec
 use Rattle.item_roll.specs.Truth.{IsTrueOf}
-use Rattle.neg_draft.specs.Coverage.{Written, passed, Told, IsCutAt}
+use Rattle.neg_draft.specs.Coverage.{Written, begun_at, passed, Told, IsSkippedAt, IsCutAt}
 
 -- the stretch is a Skip, or a fingerprint that is the roll's own
 abbrev pub IsSame : List Item → Stretch → Type 0
 IsSame roll t = IsSkip t ⊎ ((p : List ℕ) × (t.claim ≡ print p) × IsTrueOf roll t)
-
--- a Skip has the key
-abbrev pub IsSkippedAt : List Span → Item → Type 0
-IsSkippedAt answered k = (s : Stretch) × Contains (stretches answered) s × IsSkip s × Lies k s
 
 -- each key of such a stretch lies in a Skip of the reply, which has so many bytes, or where it was cut
 abbrev pub SkipsSame : ℕ → ℕ → List Item → List Span → List Span → Type 0
 SkipsSame limit size roll asked answered =
     (t : Stretch) (k : Item) → Contains (stretches asked) t → IsSame roll t → IsKey k → Lies k t → IsSkippedAt answered k ⊎ IsCutAt limit size answered k
 
--- the range, begun at a bound
-abbrev pub begun_at : Item → Span → Stretch
-begun_at lower r = record { lower = lower; upper = r.upper; claim = r.claim }
-
 -- the draft goes past the range, which is true of the roll (one that is empty speaks of no key)
-pub record Passes (roll : List Item) (old : Written) (r : Span) (new : Written) : Type 0 where
+pub record PassesOver (roll : List Item) (old : Written) (r : Span) (new : Written) : Type 0 where
   pub holds : (k : Item) → Lies k (begun_at old.end r) → IsTrueOf roll (begun_at old.end r)
   pub now : new ≡ passed old r.upper
 
 -- The draft after a range of the question: it goes past what is true of the roll, or it tells what the
 -- roll has there, as far as it fits, unless that is a Skip or an own fingerprint.
 abbrev pub Responds : List Item → Written → Span → Written → Type 0
-Responds roll old r new = Passes roll old r new ⊎ (Told roll old r.upper new × (IsSame roll (begun_at old.end r) → ⊥))
+Responds roll old r new = PassesOver roll old r new ⊎ (Told roll old r.upper new × (IsSame roll (begun_at old.end r) → ⊥))
 
 -- The reader's fault refuses the query. Another version is answered, and want of memory is no fault of
 -- the query.

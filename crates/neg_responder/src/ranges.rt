@@ -4,7 +4,7 @@ ghost use Rattle.std.specs.Prelude.{◌≤◌, IfOk, length};
 ghost use Rattle.neg_codec.specs.Ranges.{span_of};
 ghost use Rattle.neg_codec.specs.Encoding.{text_of};
 ghost use Rattle.item_roll.specs.Truth.{Follows};
-ghost use Rattle.neg_draft.specs.Coverage.{IsDraft};
+ghost use Rattle.neg_draft.specs.Coverage.{IsDraft, NoneEmpty};
 ghost use Rattle.neg_responder.specs.Reply.{SkipsSame, Responds};
 
 use item_roll::Roll;
@@ -44,6 +44,7 @@ pub fn reply(
 ) -> Result<Message, AllocError>
     requires { 4096 ≤ limit }
     ensures follows { IfOk result (λ m. Follows roll.now asked.now m × SkipsSame limit (length (text_of m)) roll.now asked.now m) }
+    ensures none_empty { IfOk result NoneEmpty }
     ensures short { IfOk result (λ m. length (text_of m) ≤ limit) }
 {
     let mut draft = Draft::new(alloc, limit);

@@ -8,18 +8,19 @@ use Rattle.neg_codec.specs.Ranges.{Span}
 use Rattle.neg_codec.specs.Reading.{longest, versioned_at, message_at}
 use Rattle.neg_codec.specs.Text.{Spells}
 use Rattle.item_roll.specs.Truth.{Follows}
+use Rattle.neg_draft.specs.Coverage.{NoneEmpty}
 use Rattle.neg_responder.specs.Reply.{SkipsSame}
 use Rattle.neg_session.specs.Exchange.{Exchange, exchange, gained}
 use Rattle.neg_session.specs.Explaining.{IsExplained, AnswersBy}
 use Rattle.neg_session.specs.Asking.{Linked, Chained}
-use Rattle.neg_session.specs.Local.{Local, Keeps, RollExplains}
+use Rattle.neg_session.specs.Local.{Local, IsAnswered, Keeps, RollExplains}
 
 too_long : (query : List ℕ) → nat_lt longest (length query) ≡ true → message_at query ≡ Err fault.TooLong
 unfolding message_at
 too_long query e = ap (λ t. if t then Err fault.TooLong else versioned_at query) e
 
 pub answered_by : (limit : ℕ) (b : List Item) (query reply : List ℕ)
-    → ((q : List Span) → length query ≤ longest → Spells query q → (r : List Span) × Spells reply r × Follows b q r × SkipsSame limit (length reply) b q r)
+    → ((q : List Span) → length query ≤ longest → Spells query q → (r : List Span) × Spells reply r × Follows b q r × SkipsSame limit (length reply) b q r × NoneEmpty r)
     → (message_at query ≡ Err fault.TooLong → ⊥) → AnswersBy b (exchange query reply)
 answered_by limit b query reply follows short q spells = go (nat_lt longest (length query)) refl
   where
@@ -28,17 +29,22 @@ answered_by limit b query reply follows short q spells = go (nat_lt longest (len
     go false e = let r = follows q (ltb-false longest (length query) e) spells in
         record { asked = q; answered = r.0; asks = spells; answers = r.1; follows = r.2 }
 
-pub keeps_none : (p q : Local) → q.roll ≡ p.roll → q.log ≡ p.log → Keeps p q
-keeps_none p q roll log = record {
+pub keeps_none : (p q : Local) → q.roll ≡ p.roll → q.limit ≡ p.limit → q.log ≡ p.log → Keeps p q
+keeps_none p q roll limit log = record {
   roll = roll;
+  limit_is = limit;
   answers = λ h. subst (λ (b : List Item). All (AnswersBy b) q.log) (sym roll) (subst (λ (es : List Exchange). All (AnswersBy p.roll) es) (sym log) h);
+  pairs = λ h. subst (λ (n : ℕ). All (IsAnswered n) q.log) (sym limit) (subst (λ (es : List Exchange). All (IsAnswered p.limit) es) (sym log) h);
 }
 
-pub keeps_one : (p q : Local) (e : Exchange) → q.roll ≡ p.roll → q.log ≡ p.log ++ e ∷ [] → AnswersBy p.roll e → Keeps p q
-keeps_one p q e roll log new = record {
+pub keeps_one : (p q : Local) (e : Exchange) → q.roll ≡ p.roll → q.limit ≡ p.limit → q.log ≡ p.log ++ e ∷ [] → AnswersBy p.roll e → IsAnswered p.limit e → Keeps p q
+keeps_one p q e roll limit log new answered = record {
   roll = roll;
+  limit_is = limit;
   answers = λ h. subst (λ (b : List Item). All (AnswersBy b) q.log) (sym roll)
       (subst (λ (es : List Exchange). All (AnswersBy p.roll) es) (sym log) (All-push (AnswersBy p.roll) p.log e h new));
+  pairs = λ h. subst (λ (n : ℕ). All (IsAnswered n) q.log) (sym limit)
+      (subst (λ (es : List Exchange). All (IsAnswered p.limit) es) (sym log) (All-push (IsAnswered p.limit) p.log e h answered));
 }
 
 IsAsked : Exchange → Type 0

@@ -16,13 +16,13 @@ use Rattle.item_roll.specs.Parts.{IsRoll, part}
 use Rattle.item_roll.specs.Truth.{IsTrueOf, Follows}
 use Rattle.neg_initiator.specs.declared.initiator.Outcome.{Outcome}
 use Rattle.neg_initiator.specs.Listed.{IsListed, PassesMost}
-use Rattle.neg_initiator.specs.Session.{Session, Starts, Taken, GoesOn, IsDone, NotAskedAgain, Refuses}
+use Rattle.neg_initiator.specs.Session.{Session, Starts, Taken, GoesOn, IsDone, NotAskedAgain, Refuses, IsAskDue}
 use Rattle.neg_initiator.specs.Settled.{HasOnePrint, ToldApart, OneTime, Settled, Needs, Has}
 use Rattle.neg_initiator.proofs.Ends.{settled_first, settled_last}
 use Rattle.neg_session.specs.Exchange.{Exchange, exchange, gained, answered_bytes}
 use Rattle.neg_session.specs.Explaining.{IsExplained, Explains}
 use Rattle.neg_session.specs.Asking.{Resumes, Linked, Chained, MayResume, MayAsk}
-use Rattle.neg_session.specs.Ran.{trusted_of, IsRight, LastAnswer, IsRefused, IsOffered, OffersMore, Ran}
+use Rattle.neg_session.specs.Ran.{trusted_of, IsRight, LastAnswer, IsRefused, IsOffered, OffersMore, IsDue, Ran}
 use Rattle.neg_session.specs.Going.{Knows, IsRead, Going}
 use Rattle.neg_session.specs.Faults.{fault_of}
 use Rattle.neg_session.specs.declared.peer.PeerFault.{PeerFault}
@@ -98,6 +98,30 @@ no_refusal c (e ∷ f ∷ es) h l = no_refusal c (f ∷ es) (All-tail IsRead e (
 bytes_more : (es : List Exchange) (q r : List ℕ) → answered_bytes (es ++ exchange q r ∷ []) ≡ answered_bytes es + length r
 bytes_more es q r = sum_by-append (λ e. length e.answered) es (exchange q r ∷ []) ∙ ap (λ n. answered_bytes es + n) (zero-add (length r))
 
+push_front : (xs ys : List Exchange) (x y : Exchange) → xs ++ x ∷ [] ≡ ys ++ y ∷ [] → xs ≡ ys
+push_front [] [] x y e = refl
+push_front [] (z ∷ []) x y e = absurd cc
+push_front [] (z ∷ w ∷ zs) x y e = absurd cc
+push_front (z ∷ []) [] x y e = absurd cc
+push_front (z ∷ w ∷ zs) [] x y e = absurd cc
+push_front (z ∷ zs) (w ∷ ws) x y e =
+    let head : z ≡ w = cc in
+    let tail : zs ++ x ∷ [] ≡ ws ++ y ∷ [] = cc in
+    ap (λ (v : Exchange). v ∷ zs) head ∙ ap (λ (v : List Exchange). w ∷ v) (push_front zs ws x y tail)
+
+none_pushed : (front : List Exchange) (e : Exchange) → [] ≡ front ++ e ∷ [] → ⊥
+none_pushed [] e h = cc
+none_pushed (x ∷ xs) e h = cc
+
+-- the answers before the last have no more bytes than all of them
+front_less : (log front : List Exchange) (e : Exchange) → log ≡ front ++ e ∷ [] → answered_bytes front ≤ answered_bytes log
+front_less log front e h = omega (arith, ap answered_bytes h, bytes_more front e.asked e.answered)
+
+-- a next question is due just where the last answer left something open
+due_last : (own : List Item) (es : List Exchange) (e : Exchange) → IsDue own (es ++ e ∷ []) → IsAskDue own e.answered
+due_last own es e (inl none) = absurd (none_pushed es e (sym none))
+due_last own es e (inr due) = last_gives (IsAskDue own) es e due
+
 -- ids that are offered
 
 offered_more : (own : List Item) (es fs : List Exchange) (i : Id) → IsOffered own es i → IsOffered own (es ++ fs) i
@@ -159,7 +183,8 @@ pub going_first : (own : List Item) (limits : SessionLimits) (old : List Exchang
 going_first own limits old before text s h = record {
   appended = rw gained_none (sym (append-nil old));
   chained = rw gained_none tt;
-  may = rw gained_none (record { asked = s.asked; spelled = h.spelled; short = h.short; truth = subst (λ (w : List Item). All (IsTrueOf w) (stretches s.asked)) h.roll h.sound.truth; skips_nothing = h.skips_nothing });
+  due = inl (gained_none old);
+  may = rw gained_none (record { asked = s.asked; spelled = h.spelled; short = h.short; none_empty = h.sound.none_empty; truth = subst (λ (w : List Item). All (IsTrueOf w) (stretches s.asked)) h.roll h.sound.truth; skips_nothing = h.skips_nothing });
   count = rw gained_none refl;
   bytes = rw gained_none (omega arith);
   read = rw gained_none (All-nil IsRead);
@@ -185,7 +210,9 @@ ran_none own limits old before = record {
   chained = rw gained_none tt;
   within = rw gained_none (omega arith);
   exact = tt;
-  unfailed = tt;
+  gathered = λ front e h. absurd (none_pushed front e (sym (gained_none old) ∙ h));
+  done = tt;
+  unfailed = λ no. refl;
   failed = λ e. cc;
   bad = λ c e. cc;
   rounds = λ e. cc;
@@ -199,17 +226,19 @@ ran_none own limits old before = record {
 -- it ends without another pair
 module _ (own : List Item) (limits : SessionLimits) (asked : ℕ) (old now new : List Exchange) (before after last : ℕ) (question : List ℕ) (left : ℕ) (s : Session)
     (going : Going own limits asked old now before after question left s) (same : new ≡ now) where
-  pub ran_quiet : asked ≤ limits.rounds → (e : SessionFault) → (e ≡ PeerFailed → after < last) → ((c : CodecFault) → e ≡ Bad c → ⊥)
+  pub ran_quiet : asked ≤ limits.rounds → (e : SessionFault) → (e ≡ PeerFailed → after < last) → ((e ≡ PeerFailed → ⊥) → last ≡ after) → ((c : CodecFault) → e ≡ Bad c → ⊥)
       → (e ≡ Rounds → asked ≡ limits.rounds) → (e ≡ NeedFull → ⊥) → (e ≡ LogFull → ⊥) → Ran own limits old new before last (Err e)
-  ran_quiet room e failed bad rounds need_full log_full = record {
+  ran_quiet room e failed unfailed bad rounds need_full log_full = record {
     appended = rw same going.appended;
     chained = rw same going.chained;
     within = rw same (omega (arith, going.count));
+    gathered = λ front e h. omega (arith, going.bytes, front_less (gained old now) front e (ap (gained old) (sym same) ∙ h));
     exact = tt;
-    unfailed = tt;
+    done = tt;
+    unfailed = λ no. unfailed (λ x. no (ap Err x)) ∙ going.unfailed;
     failed = λ h. omega (arith, failed (is h), going.unfailed);
     bad = λ c h. absurd (bad c (is h));
-    rounds = λ h. rw same (going.count ∙ rounds (is h));
+    rounds = λ h. rw same (going.count ∙ rounds (is h), going.due);
     need_full = λ h. absurd (need_full (is h));
     log_full = λ h. absurd (log_full (is h));
     within_log = tt;
@@ -221,9 +250,9 @@ module _ (own : List Item) (limits : SessionLimits) (asked : ℕ) (old now new :
       is h = cc
 
   -- the peer gave no answer
-  pub ran_unanswered : asked ≤ limits.rounds → (f : PeerFault) → (f ≡ peer.Failed → after < last) → Ran own limits old new before last (Err (fault_of f))
-  ran_unanswered room peer.Failed rose = ran_quiet room PeerFailed (λ e. rose refl) (λ c e. cc) (λ e. cc) (λ e. cc) (λ e. cc)
-  ran_unanswered room peer.Memory rose = ran_quiet room Memory (λ e. cc) (λ c e. cc) (λ e. cc) (λ e. cc) (λ e. cc)
+  pub ran_unanswered : asked ≤ limits.rounds → (f : PeerFault) → (f ≡ peer.Failed → after < last) → (f ≡ peer.Memory → last ≡ after) → Ran own limits old new before last (Err (fault_of f))
+  ran_unanswered room peer.Failed rose same_count = ran_quiet room PeerFailed (λ e. rose refl) (λ no. absurd (no refl)) (λ c e. cc) (λ e. cc) (λ e. cc) (λ e. cc)
+  ran_unanswered room peer.Memory rose same_count = ran_quiet room Memory (λ e. cc) (λ no. same_count refl) (λ c e. cc) (λ e. cc) (λ e. cc) (λ e. cc)
 
 -- it goes on, or ends, after another pair
 module _ (own : List Item) (limits : SessionLimits) (asked : ℕ) (old now new : List Exchange) (before after last : ℕ) (question : List ℕ) (left : ℕ) (s : Session)
@@ -243,6 +272,12 @@ module _ (own : List Item) (limits : SessionLimits) (asked : ℕ) (old now new :
   next_bytes : answered_bytes (gained old new) ≡ answered_bytes (gained old now) + length reply
   next_bytes = rw pairs (bytes_more (gained old now) question reply)
 
+  next_gathered : (front : List Exchange) (e : Exchange) → gained old new ≡ front ++ e ∷ [] → answered_bytes front ≤ limits.log
+  next_gathered front e h = omega (arith, going.bytes, ap answered_bytes (push_front (gained old now) front (exchange question reply) e (sym pairs ∙ h)))
+
+  next_due : IsDue own (gained old new) → IsAskDue own reply
+  next_due due = due_last own (gained old now) (exchange question reply) (subst (IsDue own) pairs due)
+
   next_knows : OneMessage → (next : Session) (answered : List Span) → Spells reply answered → Taken answered s next → (b : List Item) → Explains b (gained old new) → Knows own b next
   next_knows one next answered spells taken b h =
       let all : Explains b (gained old now ++ exchange question reply ∷ []) = subst (Explains b) pairs h in
@@ -250,9 +285,10 @@ module _ (own : List Item) (limits : SessionLimits) (asked : ℕ) (old now new :
       let was : Knows s.roll b s = subst (λ (w : List Item). Knows w b s) (sym going.roll) (going.knows b (explains_front b (gained old now) _ all)) in
       subst (λ (w : List Item). Knows w b next) going.roll (knows_more b s next answered h.roll follows taken was)
 
-  pub going_more : OneMessage → (next : Session) (answered : List Span) (text : List ℕ) → length reply ≤ left → Spells reply answered → message_at reply ≡ Ok answered → Taken answered s next → (length s.need ≤ s.most → length next.need ≤ next.most) → GoesOn text next
+  pub going_more : OneMessage → (next : Session) (answered : List Span) (text : List ℕ) → length reply ≤ left → Spells reply answered → message_at reply ≡ Ok answered → Taken answered s next → (length s.need ≤ s.most → length next.need ≤ next.most) → GoesOn text next → IsAskDue s.roll reply
       → Going own limits (asked + 1) old new before last text (left - length reply) next
-  going_more one next answered text room spells read taken few goes = record {
+  going_more one next answered text room spells read taken few goes due = record {
+    due = inr (rw pairs (last_is (IsAskDue own) (gained old now) (exchange question reply) (subst (λ (w : List Item). IsAskDue w reply) going.roll due)));
     appended = next_appended;
     chained = next_chained;
     may = rw pairs (may_more limits.limit own (gained old now) (exchange question reply) text (record {
@@ -261,6 +297,7 @@ module _ (own : List Item) (limits : SessionLimits) (asked : ℕ) (old now new :
       answers = spells;
       spelled = goes.spelled;
       truth = subst (λ (w : List Item). All (IsTrueOf w) (stretches next.asked)) (taken.roll ∙ going.roll) taken.sound.truth;
+      none_empty = taken.sound.none_empty;
       asks = goes.asks;
       short = omega (arith, goes.short, taken.limit_is, going.limit_is);
       not_again = subst (λ (n : ℕ). NotAskedAgain limits.limit n own answered next.asked) (ap length (sym goes.exact))
@@ -285,14 +322,16 @@ module _ (own : List Item) (limits : SessionLimits) (asked : ℕ) (old now new :
     knows = next_knows one next answered spells taken;
   }
 
-  pub ran_done : OneMessage → (next : Session) (answered : List Span) → asked < limits.rounds → length reply ≤ left → Spells reply answered → message_at reply ≡ Ok answered → Taken answered s next → (length s.need ≤ s.most → length next.need ≤ next.most) → IsDone next
+  pub ran_done : OneMessage → (next : Session) (answered : List Span) → asked < limits.rounds → length reply ≤ left → Spells reply answered → message_at reply ≡ Ok answered → Taken answered s next → (length s.need ≤ s.most → length next.need ≤ next.most) → IsDone next → (IsAskDue s.roll reply → ⊥)
       → (o : Outcome) → o.need.keys ≡ next.need → o.have.keys ≡ next.have → trusted_of o ≡ next.trusted → Ran own limits old new before last (Ok o)
-  ran_done one next answered round room spells read taken few done o is_need is_have is_trusted = record {
+  ran_done one next answered round room spells read taken few done over o is_need is_have is_trusted = record {
+    gathered = next_gathered;
+    done = λ due. over (subst (λ (w : List Item). IsAskDue w reply) (sym going.roll) (next_due due));
     appended = next_appended;
     chained = next_chained;
     within = omega (arith, next_count);
     exact = λ b h. right_of own b next o (next_knows one next answered spells taken b h) done is_need is_have is_trusted;
-    unfailed = same ∙ going.unfailed;
+    unfailed = λ no. same ∙ going.unfailed;
     failed = λ e. cc;
     bad = λ c e. cc;
     rounds = λ e. cc;
@@ -303,22 +342,27 @@ module _ (own : List Item) (limits : SessionLimits) (asked : ℕ) (old now new :
     refused = λ c r l. absurd (read_or_refused (exchange question reply) c (answered, read) (last_gives (IsRefused c) (gained old now) (exchange question reply) (subst (LastAnswer (IsRefused c)) pairs l)));
   }
 
-  pub ran_fault : asked < limits.rounds → (e : SessionFault) → (e ≡ PeerFailed → ⊥) → ((c : CodecFault) → e ≡ Bad c → IsRefused c reply) → (e ≡ Rounds → asked + 1 ≡ limits.rounds)
-      → (e ≡ NeedFull → (answered : List Span) × (message_at reply ≡ Ok answered) × PassesMost s.roll answered s.need s.most) → (e ≡ LogFull → left < length reply)
+  pub ran_fault : asked < limits.rounds → (e : SessionFault) → (e ≡ PeerFailed → ⊥) → ((c : CodecFault) → e ≡ Bad c → IsRefused c reply) → (e ≡ Rounds → (asked + 1 ≡ limits.rounds) × IsAskDue own reply)
+      → (e ≡ NeedFull → (answered : List Span) × (message_at reply ≡ Ok answered) × PassesMost s.roll answered s.need s.most) → (e ≡ LogFull → (left < length reply) × ((asked + 1 < limits.rounds) ⊎ (IsAskDue own reply → ⊥)))
       → ((c : CodecFault) → Refuses c → IsRefused c reply → e ≡ Bad c) → Ran own limits old new before last (Err e)
   ran_fault round e failed bad rounds need_full log_full refused = record {
     appended = next_appended;
     chained = next_chained;
     within = omega (arith, next_count);
+    gathered = next_gathered;
     exact = tt;
-    unfailed = tt;
+    done = tt;
+    unfailed = λ no. same ∙ going.unfailed;
     failed = λ h. absurd (failed (is h));
     bad = λ c h. rw pairs (last_is (IsRefused c) (gained old now) (exchange question reply) (bad c (is h)));
-    rounds = λ h. next_count ∙ rounds (is h);
+    rounds = λ h. let r = rounds (is h) in (next_count ∙ r.0, inr (rw pairs (last_is (IsAskDue own) (gained old now) (exchange question reply) r.1)));
     need_full = λ h. let f = need_full (is h) in
         let passes : PassesMost own f.0 s.need limits.need = subst (λ (w : List Item). PassesMost w f.0 s.need limits.need) going.roll (subst (λ n. PassesMost s.roll f.0 s.need n) going.most f.2) in
         rw pairs (offers_more own (gained old now) (exchange question reply) f.0 s.need limits.need f.1 going.offered passes);
-    log_full = λ h. let more : left < length reply = log_full (is h) in omega (arith, next_bytes, going.bytes);
+    log_full = λ h. let f = log_full (is h) in (
+      let more : left < length reply = f.0 in omega (arith, more, next_bytes, going.bytes),
+      elim f.1 [ inl fewer ↦ inl (omega (arith, fewer, next_count)) | inr over ↦ inr (λ due. over (next_due due)) ],
+    );
     within_log = tt;
     few = tt;
     refused = λ c r l. ap Err (refused c r (last_gives (IsRefused c) (gained old now) (exchange question reply) (subst (LastAnswer (IsRefused c)) pairs l)));
@@ -331,9 +375,9 @@ module _ (own : List Item) (limits : SessionLimits) (asked : ℕ) (old now new :
   not_refused m read c refused = let r = read in cc
 
   -- no question may follow
-  pub ran_rounds : asked < limits.rounds → asked + 1 ≡ limits.rounds → (m : List Span) → message_at reply ≡ Ok m → Ran own limits old new before last (Err Rounds)
-  ran_rounds round end m read = ran_fault round Rounds (λ e. cc) (λ c e. cc) (λ e. end) (λ e. cc) (λ e. cc) (λ c r l. absurd (not_refused m read c l))
+  pub ran_rounds : asked < limits.rounds → asked + 1 ≡ limits.rounds → IsAskDue own reply → (m : List Span) → message_at reply ≡ Ok m → Ran own limits old new before last (Err Rounds)
+  ran_rounds round end due m read = ran_fault round Rounds (λ e. cc) (λ c e. cc) (λ e. (end, due)) (λ e. cc) (λ e. cc) (λ c r l. absurd (not_refused m read c l))
 
   -- the answers have too many bytes
-  pub ran_log_full : asked < limits.rounds → left < length reply → (m : List Span) → message_at reply ≡ Ok m → Ran own limits old new before last (Err LogFull)
-  ran_log_full round more m read = ran_fault round LogFull (λ e. cc) (λ c e. cc) (λ e. cc) (λ e. cc) (λ e. more) (λ c r l. absurd (not_refused m read c l))
+  pub ran_log_full : asked < limits.rounds → left < length reply → (asked + 1 < limits.rounds) ⊎ (IsAskDue own reply → ⊥) → (m : List Span) → message_at reply ≡ Ok m → Ran own limits old new before last (Err LogFull)
+  ran_log_full round more lowest m read = ran_fault round LogFull (λ e. cc) (λ c e. cc) (λ e. cc) (λ e. cc) (λ e. (more, lowest)) (λ c r l. absurd (not_refused m read c l))

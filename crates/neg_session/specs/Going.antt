@@ -11,7 +11,7 @@ use Rattle.neg_initiator.specs.Settled.{HasOnePrint, ToldApart, OneTime, Settled
 use Rattle.neg_session.specs.Exchange.{Exchange, gained, answered_bytes}
 use Rattle.neg_session.specs.Explaining.{Explains}
 use Rattle.neg_session.specs.Asking.{Chained, MayAsk}
-use Rattle.neg_session.specs.Ran.{IsOffered}
+use Rattle.neg_session.specs.Ran.{IsOffered, IsDue}
 use Rattle.neg_session.specs.declared.limits.SessionLimits.{SessionLimits}
 
 -- what the session knows of a list of the other side
@@ -32,6 +32,7 @@ pub record Going (own : List Item) (limits : SessionLimits) (asked : ℕ) (old n
   pub count : length (gained old now) ≡ asked
   pub bytes : left + answered_bytes (gained old now) ≡ limits.log
   pub read : All IsRead (gained old now)
+  pub due : IsDue own (gained old now)
   pub unfailed : after ≡ before
   pub roll : s.roll ≡ own
   pub limit_is : s.limit ≡ limits.limit

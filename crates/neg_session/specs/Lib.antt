@@ -2,6 +2,7 @@ pub mod Exchange
 pub mod Explaining
 pub mod Asking
 pub mod Limits
+pub mod Most
 pub mod Faults
 pub mod Ran
 pub mod Going

@@ -1,5 +1,5 @@
 -- What one session did to its peer's log, and what it found.
-use Rattle.std.specs.Prelude.{◌≡◌, ◌↔◌, ◌<◌, ◌≤◌, ◌++◌, ℕ, List, [], ◌∷◌, length, map, All, Contains, Result, Ok, Err, IfOk, OnOk}
+use Rattle.std.specs.Prelude.{◌≡◌, ◌↔◌, ◌<◌, ◌≤◌, ◌⊎◌, ◌++◌, ℕ, List, [], ◌∷◌, length, map, All, Contains, Result, Ok, Err, IfOk, OnOk}
 use Rattle.neg_codec.specs.declared.CodecFault.{CodecFault}
 use Rattle.neg_codec.specs.declared.Id.{Id}
 use Rattle.neg_codec.specs.declared.Item.{Item}
@@ -7,7 +7,7 @@ use Rattle.neg_codec.specs.Ranges.{Span}
 use Rattle.neg_codec.specs.Reading.{message_at}
 use Rattle.neg_initiator.specs.declared.initiator.Outcome.{Outcome}
 use Rattle.neg_initiator.specs.Listed.{IsListed, Distinct}
-use Rattle.neg_initiator.specs.Session.{Refuses}
+use Rattle.neg_initiator.specs.Session.{Refuses, IsAskDue}
 use Rattle.neg_initiator.specs.Settled.{Needs, Has, HasOnePrint, ToldApart, OneTime}
 use Rattle.neg_initiator.specs.Pairs.{pair_of}
 use Rattle.neg_session.specs.Exchange.{Exchange, gained, answered_bytes}
@@ -54,6 +54,10 @@ pub record OffersMore (own : List Item) (log : List Exchange) (most : ℕ) : Typ
   pub more : most < length ids
   pub each : All (IsOffered own log) ids
 
+-- a next question is due: none was asked yet, or the last answer left something open
+abbrev pub IsDue : List Item → List Exchange → Type 0
+IsDue own log = (log ≡ []) ⊎ LastAnswer (IsAskDue own) log
+
 -- How a session with the own roll ended that found its peer's log at old and left it at new, and the
 -- peer's count of failures at before and after.
 pub record Ran (own : List Item) (limits : SessionLimits) (old new : List Exchange) (before after : ℕ) (result : Result Outcome SessionFault) : Type 0 where
@@ -61,16 +65,19 @@ pub record Ran (own : List Item) (limits : SessionLimits) (old new : List Exchan
   pub appended : new ≡ old ++ gained old new
   pub chained : Chained limits.limit own (gained old new)
   pub within : length (gained old new) ≤ limits.rounds
+  -- whatever the end, the answers but the last have no more bytes than they may have
+  pub gathered : (front : List Exchange) (e : Exchange) → gained old new ≡ front ++ e ∷ [] → answered_bytes front ≤ limits.log
   -- what was found is right for each list that explains the pairs
   pub exact : IfOk result (λ o. (b : List Item) → Explains b (gained old new) → IsRight own b o)
-  pub unfailed : OnOk result (after ≡ before)
+  pub done : OnOk result (IsDue own (gained old new) → ⊥)
   pub within_log : OnOk result (answered_bytes (gained old new) ≤ limits.log)
   pub few : IfOk result (λ o. length o.need.keys ≤ limits.need)
-  -- each fault has its cause
+  -- each fault has its cause, and no other cause stands for a lower one of rounds, ids and bytes
   pub failed : result ≡ Err PeerFailed → before < after
+  pub unfailed : (result ≡ Err PeerFailed → ⊥) → after ≡ before
   pub bad : (c : CodecFault) → result ≡ Err (Bad c) → LastAnswer (IsRefused c) (gained old new)
-  pub rounds : result ≡ Err Rounds → length (gained old new) ≡ limits.rounds
+  pub rounds : result ≡ Err Rounds → (length (gained old new) ≡ limits.rounds) × IsDue own (gained old new)
   pub need_full : result ≡ Err NeedFull → OffersMore own (gained old new) limits.need
-  pub log_full : result ≡ Err LogFull → limits.log < answered_bytes (gained old new)
+  pub log_full : result ≡ Err LogFull → (limits.log < answered_bytes (gained old new)) × ((length (gained old new) < limits.rounds) ⊎ (IsDue own (gained old new) → ⊥))
   -- and an answer that is no message is refused
   pub refused : (c : CodecFault) → Refuses c → LastAnswer (IsRefused c) (gained old new) → result ≡ Err (Bad c)

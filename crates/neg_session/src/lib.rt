@@ -8,7 +8,7 @@ mod peer;
 mod session;
 
 pub use fault::SessionFault;
-pub use limits::SessionLimits;
+pub use limits::{DEFAULT_LIMIT, LEAST_LIMIT, MOST_LIMIT, SessionLimits};
 pub use local::{LocalPeer, roll_explains};
 pub use neg_initiator::Outcome;
 pub use peer::{Pair, Peer, PeerFault};

@@ -4,7 +4,7 @@ ghost use Rattle.std.specs.Prelude.{◌≡◌, ◌≤◌, ◌<◌, ◌^◌, ◌-
 ghost use Rattle.item_roll.specs.Parts.{IsRoll};
 ghost use Rattle.neg_session.specs.Exchange.{exchange};
 ghost use Rattle.neg_session.specs.Explaining.{AnswersBy};
-ghost use Rattle.neg_session.specs.Local.{RollExplains};
+ghost use Rattle.neg_session.specs.Local.{IsAnswered, RollExplains};
 
 use crate::peer::{Pair, Peer, PeerFault};
 use item_roll::Roll;
@@ -29,7 +29,7 @@ impl Model for LocalPeer {
 
     ghost Value = { Local };
 
-    ghost view = { λ p. record { roll = p.roll; log = p.pairs.items; faults = p.failures } };
+    ghost view = { λ p. record { roll = p.roll; limit = p.limit; log = p.pairs.items; faults = p.failures } };
 
     ghost invariant = { λ p. 4096 ≤ p.limit };
 }
@@ -39,12 +39,14 @@ impl LocalPeer {
     pub fn new(alloc: Global, roll: Roll, limit: usize) -> LocalPeer
         requires { 4096 ≤ limit }
         ensures keeps { result.roll ≡ roll }
+        ensures limit { result.limit ≡ limit }
         ensures log { result.log ≡ [] }
         ensures faults { result.faults ≡ 0 }
         // What is true of each roll.
         ensures roll { IsRoll result.roll }
-        // The roll explains each pair whose question is a message: there is none yet.
+        // The roll explains each pair whose question is a message, and each answer keeps the limit: there is none yet.
         ensures answers { All (AnswersBy result.roll) result.log }
+        ensures pairs { All (IsAnswered limit) result.log }
     {
         let _ = roll.len();
         LocalPeer {
@@ -75,13 +77,15 @@ pub fn roll_explains()
 
 impl Peer for LocalPeer {
     ghost use Rattle.std.specs.Prelude.{◌≡◌};
-    ghost use Rattle.neg_session.specs.Local.{Keeps, keeps_itself, keeps_on};
+    ghost use Rattle.neg_session.specs.Local.{IsRefused, Keeps, keeps_itself, keeps_on};
 
     ghost log = { λ p. p.log };
 
     ghost faults = { λ p. p.faults };
 
     ghost becomes = { Keeps };
+
+    ghost fails = { IsRefused };
 
     ghost stays = { keeps_itself };
 

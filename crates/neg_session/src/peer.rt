@@ -66,12 +66,17 @@ pub trait Peer {
     /// What calls may make of a peer.
     ghost becomes: { Self → Self → Type 0 };
 
-    /// Asks a question, and gives the answer. An answer adds its pair to the log, and a fault adds none.
+    /// The questions at which it may fail.
+    ghost fails: { List ℕ → Type 0 };
+
+    /// Asks a question, and gives the answer. An answer adds its pair to the log, and a fault adds none. The count of
+    /// failures rises where the peer failed, and not for want of memory.
     fn ask(&mut self, question: &[u8]) -> Result<Vec<u8>, PeerFault>
         requires { faults self.old < 2 ^ 64 - 1 }
         ensures ok { IfOk result (λ answer. (log self.new ≡ log self.old ++ exchange question.now answer.items ∷ []) × (faults self.new ≡ faults self.old)) }
         ensures err { OnErr result (log self.new ≡ log self.old) }
-        ensures failed { result ≡ Err PeerFault.Failed → faults self.old < faults self.new }
+        ensures failed { result ≡ Err PeerFault.Failed → (faults self.old < faults self.new) × fails question.now }
+        ensures memory { result ≡ Err PeerFault.Memory → faults self.new ≡ faults self.old }
         ensures becomes { becomes self.old self.new };
 
     /// The pairs of questions and answers, the first first.

@@ -1,6 +1,8 @@
 //! A whole session.
 
-ghost use Rattle.std.specs.Prelude.{◌≡◌, ◌<◌, ◌^◌, ◌-◌};
+ghost use Rattle.std.specs.Prelude.{◌≡◌, ◌<◌, ◌^◌, ◌-◌, ℕ, List, Err};
+ghost use Rattle.neg_session.specs.Exchange.{gained};
+ghost use Rattle.neg_session.specs.Asking.{MayAsk};
 ghost use Rattle.neg_session.specs.Ran.{Ran};
 
 use crate::fault::SessionFault;
@@ -22,6 +24,8 @@ pub fn reconcile_with<P: Peer>(
 ) -> Result<Outcome, SessionFault>
     requires { P.faults peer.old < 2 ^ 64 - 1 }
     ensures ran { Ran roll.now limits.now (P.log peer.old) (P.log peer.new) (P.faults peer.old) (P.faults peer.new) result }
+    // The peer fails only at a question that may come next, and at which it may fail.
+    ensures failed { result ≡ Err SessionFault.PeerFailed → (question : List ℕ) × MayAsk limits.now.limit roll.now (gained (P.log peer.old) (P.log peer.new)) question × P.fails question }
     ensures becomes { P.becomes peer.old peer.new }
 {
     one_message();

@@ -4,3 +4,4 @@ pub mod Injective
 pub mod Laws
 pub mod ReadsBack
 pub mod Utf8
+pub mod Bytes

@@ -1,5 +1,5 @@
 -- Events as JSON objects (NIP-01).
-use Rattle.std.specs.Prelude.{◌≡◌, ◌^◌, ℕ, List, [], ◌∷◌, map, Bool, true, false, ◌&&◌, if◌then◌else◌, nat_lt, Option, Some, None, is_some, option_map, option_and_then, unwrap_or, codes, ⊤}
+use Rattle.std.specs.Prelude.{◌≡◌, ◌^◌, ℕ, List, [], ◌∷◌, ◌++◌, map, Bool, true, false, ◌&&◌, if◌then◌else◌, nat_lt, Option, Some, None, is_some, option_map, option_and_then, unwrap_or, codes}
 use Rattle.hex.specs.Hex.{encode_lower}
 use Rattle.serde_json.specs.Data.{unsigned, Data, number, string, array, object, Items, no_items, item, no_members, member}
 use Rattle.serde_json.specs.Find.{get, as_str, as_number, as_array, as_object, as_u64}
@@ -37,7 +37,8 @@ Reads d e = HasFields d e × IsIdOf e.id e.draft
 
 -- ---- the tests of the fields, in their order
 
-abbrev pub first_failing : List (EventField × Bool) → Option EventField
+-- the name of the first test that fails
+abbrev pub first_failing : {X : Type 0} → List (X × Bool) → Option X
 first_failing [] = None
 first_failing (t ∷ ts) = if t.1 then first_failing ts else Some t.0
 
@@ -61,11 +62,16 @@ are_tags (item d ds) = is_tag d && are_tags ds
 abbrev pub is_tags_at : List ℕ → Data → Bool
 is_tags_at name d = unwrap_or (option_map are_tags (option_and_then as_array (get name d))) false
 
+-- what is looked at before memory is asked for
+abbrev pub early_tests : Data → List (EventField × Bool)
+early_tests d =
+    (Object, is_some (as_object d)) ∷ (Id, is_text_at (codes "id") d) ∷ (Pubkey, is_text_at (codes "pubkey") d)
+    ∷ (CreatedAt, is_number_at (codes "created_at") d) ∷ (Kind, is_number_at (codes "kind") d) ∷ []
+
 abbrev pub shape_tests : Data → List (EventField × Bool)
 shape_tests d =
-    (Object, is_some (as_object d)) ∷ (Id, is_text_at (codes "id") d) ∷ (Pubkey, is_text_at (codes "pubkey") d)
-    ∷ (CreatedAt, is_number_at (codes "created_at") d) ∷ (Kind, is_number_at (codes "kind") d) ∷ (Tags, is_tags_at (codes "tags") d)
-    ∷ (Content, is_text_at (codes "content") d) ∷ (Sig, is_text_at (codes "sig") d) ∷ []
+    early_tests d
+    ++ (Tags, is_tags_at (codes "tags") d) ∷ (Content, is_text_at (codes "content") d) ∷ (Sig, is_text_at (codes "sig") d) ∷ []
 
 -- ---- what each refusal says
 
@@ -103,13 +109,13 @@ IsFirstNotHex d Sig = IsHexAt (codes "id") 32 d × IsHexAt (codes "pubkey") 32 d
 abbrev pub AreHex : Data → Type 0
 AreHex d = IsHexAt (codes "id") 32 d × IsHexAt (codes "pubkey") 32 d × IsHexAt (codes "sig") 64 d
 
--- the fault f is the first that d has
+-- the fault f is the first that d has; want of memory is told only where no fault was found before it was asked for
 abbrev pub Refuses : Data → EventFault → Type 0
 Refuses d (Shape f) = first_failing (shape_tests d) ≡ Some f
 Refuses d (Hex f) = (first_failing (shape_tests d) ≡ None) × IsFirstNotHex d f
 Refuses d (Range f) = (first_failing (shape_tests d) ≡ None) × AreHex d × (first_failing (range_tests d) ≡ Some f)
 Refuses d WrongId = (e : EventView) × HasFields d e × ¬ IsIdOf e.id e.draft
-Refuses d Memory = ⊤
+Refuses d Memory = first_failing (early_tests d) ≡ None
 
 -- ---- what is written
 

@@ -5,20 +5,15 @@ ghost use Rattle.nostr_event.specs.EventView.{IsBytesOf};
 
 use crate::fault::{EventFault, EventField};
 use hex::FromHex;
+use id_text::parse_id;
 
 /// The 32 bytes that the text spells in 64 lower-case hexadecimal digits, if it does.
 pub fn bytes32_of(text: &str) -> Option<[u8; 32]>
     ensures found { IfSome result (λ b. IsBytesOf 32 b × (text.now ≡ encode_lower b)) }
     ensures missing { result ≡ None → (b : List ℕ) → IsBytesOf 32 b → ¬ (text.now ≡ encode_lower b) }
 {
-    let bytes = <[u8; 32] as FromHex>::from_hex(text).ok()?;
-    let mut again = [0u8; 64];
-    hex::encode_to_slice(bytes.as_slice(), &mut again).ok()?;
-    if text.as_bytes() == again.as_slice() {
-        Some(bytes)
-    } else {
-        None
-    }
+    let id = parse_id(text.as_bytes())?;
+    Some(id.0)
 }
 
 /// The 64 bytes that the text spells in 128 lower-case hexadecimal digits, if it does.

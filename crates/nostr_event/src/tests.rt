@@ -1,7 +1,7 @@
 // Tests against values from outside: Python's json and hashlib.
 mod vectors;
 
-use crate::tests::vectors::VECTORS;
+use crate::tests::vectors::{VECTORS, Vector};
 use crate::{
     Draft, Event, EventFault, EventField, Spelling, Tag, Tags, Text, bytes32_of, id_of, id_text,
 };
@@ -9,7 +9,6 @@ use neg_codec::{Id, Item};
 use serde_json::Value;
 use sha2::{Digest, Sha256};
 use std::alloc::Global;
-use std::process::Abort;
 use std::test::Fail;
 
 const SIG: &str =
@@ -24,7 +23,7 @@ const CONTROL_PLAIN: &str = "b605b1b0cf3fe0d2fae20e93f2d1793d353a69b4b7200eb8335
 const CONTROL_ESCAPED: &str = "a8a0f9c47f7408e0300857ef761bfebc607877f2eb0b7b91eb85e7d7ca514fa7";
 
 // What stands in place of the first match in CONTROL, and the fault that the event then has.
-static FAULTS: [(&str, &str, EventFault); 25] = [
+static FAULTS: [(&str, &str, EventFault); 28] = [
     (CONTROL, "[]", EventFault::Shape(EventField::Object)),
     (CONTROL, "{}", EventFault::Shape(EventField::Id)),
     (
@@ -122,6 +121,29 @@ static FAULTS: [(&str, &str, EventFault); 25] = [
     ("\"kind\":1", "\"kind\":2", EventFault::WrongId),
     ("\\u0001", "", EventFault::WrongId),
     ("\"tags\":[]", "\"tags\":[[]]", EventFault::WrongId),
+    // all shapes come before all digits, and these before all ranges
+    (
+        CONTROL,
+        r#"{"id":"B605b1b0cf3fe0d2fae20e93f2d1793d353a69b4b7200eb8335f9d39ec0e07fe","pubkey":"1111111111111111111111111111111111111111111111111111111111111111","created_at":1,"kind":65536,"tags":[],"content":"\u0001","sig":"5a5a5a5a5a5a5a5a5a5a5a5a5a5a5a5a5a5a5a5a5a5a5a5a5a5a5a5a5a5a5a5a5a5a5a5a5a5a5a5a5a5a5a5a5a5a5a5a5a5a5a5a5a5a5a5a5a5a5a5a5a5a5a5a"}"#,
+        EventFault::Hex(EventField::Id),
+    ),
+    (
+        CONTROL,
+        r#"{"id":"B605b1b0cf3fe0d2fae20e93f2d1793d353a69b4b7200eb8335f9d39ec0e07fe","pubkey":"1111111111111111111111111111111111111111111111111111111111111111","created_at":1,"kind":65536,"tags":[],"content":"\u0001","gis":"5a5a5a5a5a5a5a5a5a5a5a5a5a5a5a5a5a5a5a5a5a5a5a5a5a5a5a5a5a5a5a5a5a5a5a5a5a5a5a5a5a5a5a5a5a5a5a5a5a5a5a5a5a5a5a5a5a5a5a5a5a5a5a5a"}"#,
+        EventFault::Shape(EventField::Sig),
+    ),
+    // of a key that comes twice the last value stays
+    ("\"kind\":1", "\"kind\":1,\"kind\":2", EventFault::WrongId),
+];
+
+// What stands in place of the first match in CONTROL, so that the same event is read: unknown fields are passed over, of a key
+// that comes twice the last value stays, and an escape spells its character.
+static SAME: [(&str, &str); 2] = [
+    (
+        "\"kind\":1",
+        "\"kind\":{\"a\":[1.5,-3]},\"ok\":null,\"kind\":1",
+    ),
+    ("\"id\"", "\"\\u0069d\""),
 ];
 
 // What stands in place of the first match in CONTROL, and whether that is JSON.
@@ -174,35 +196,35 @@ fn whole(alloc: Global, members: &str, id: &str) -> Result<String, Fail> {
     Ok(format!(in alloc; "{{{members},\"id\":\"{id}\",\"sig\":\"{SIG}\"}}")?)
 }
 
-// An event with that id of its draft is read, and the id's text has that length.
-fn check_id(
-    rt: &(impl AllocGlobal + Abort),
+// Whether these are the draft's id and the length of its text.
+fn is_id(
+    alloc: Global,
+    draft: &Draft,
+    hex: &str,
+    spelling: Spelling,
+    len: usize,
+) -> Result<bool, Fail> {
+    let id = id_of(alloc, draft, spelling)?;
+    let text = id_text(alloc, draft, spelling)?;
+    Ok(bytes32_of(hex) == Some(id.0) && text.len() == len)
+}
+
+// Whether an event with that id of its draft is read, its id's text has that length, and what is written of it reads as an
+// event of its time and id.
+fn is_read(
+    alloc: Global,
     members: &str,
     hex: &str,
     spelling: Spelling,
     len: usize,
-) -> Result<(), Fail> {
-    let alloc = rt.alloc();
-    let event = read(alloc, whole(alloc, members, hex)?.as_str())?;
-    let id = id_of(alloc, event.draft(), spelling)?;
-    assert!(rt; event.id() == id);
-    assert!(rt; bytes32_of(hex) == Some(id.0));
-    assert_eq!(rt; id_text(alloc, event.draft(), spelling)?.len(), len);
-    Ok(())
-}
-
-// What is written of the event reads as an event of its time and id.
-fn check_written(rt: &(impl AllocGlobal + Abort), members: &str, hex: &str) -> Result<(), Fail> {
-    let alloc = rt.alloc();
+) -> Result<bool, Fail> {
     let event = read(alloc, whole(alloc, members, hex)?.as_str())?;
     let again = read(alloc, written(alloc, &event)?.as_str())?;
-    assert!(rt; again.item() == event.item());
-    Ok(())
+    Ok(again.item() == event.item() && is_id(alloc, event.draft(), hex, spelling, len)?)
 }
 
-// With another last digit the id is wrong.
-fn check_wrong(rt: &(impl AllocGlobal + Abort), members: &str, hex: &str) -> Result<(), Fail> {
-    let alloc = rt.alloc();
+// Whether the id is wrong with another last digit.
+fn is_wrong(alloc: Global, members: &str, hex: &str) -> Result<bool, Fail> {
     let last = if hex.as_bytes().ends_with(b"0") {
         "1"
     } else {
@@ -211,44 +233,43 @@ fn check_wrong(rt: &(impl AllocGlobal + Abort), members: &str, hex: &str) -> Res
     let front = hex.get(..63).ok_or("too short")?;
     let wrong = format!(in alloc; "{front}{last}")?;
     let text = whole(alloc, members, wrong.as_str())?;
-    assert_eq!(rt; fault_of(alloc, text.as_str())?, Some(EventFault::WrongId));
-    Ok(())
+    Ok(fault_of(alloc, text.as_str())? == Some(EventFault::WrongId))
 }
 
-fn check_event(
-    rt: &(impl AllocGlobal + Abort),
+fn is_event(
+    alloc: Global,
     members: &str,
     plain: &str,
     escaped: &str,
     lengths: (usize, usize),
-) -> Result<(), Fail> {
-    check_id(rt, members, plain, Spelling::Plain, lengths.0)?;
-    check_id(rt, members, escaped, Spelling::Escaped, lengths.1)?;
-    check_written(rt, members, plain)?;
-    check_wrong(rt, members, plain)
+) -> Result<bool, Fail> {
+    Ok(
+        is_read(alloc, members, plain, Spelling::Plain, lengths.0)?
+            && is_read(alloc, members, escaped, Spelling::Escaped, lengths.1)?
+            && is_wrong(alloc, members, plain)?,
+    )
+}
+
+// Whether the event is written as Python writes it.
+fn is_written(alloc: Global, vector: &Vector) -> Result<bool, Fail> {
+    let event = read(alloc, whole(alloc, vector.draft, vector.plain)?.as_str())?;
+    let digest = Sha256::digest(written(alloc, &event)?.as_bytes());
+    Ok(bytes32_of(vector.written) == Some(digest))
 }
 
 #[test]
 fn events_from_outside(rt: HostRuntime) -> Result<(), Fail> {
+    let alloc = rt.alloc();
     for vector in &VECTORS {
-        check_event(
-            &rt,
+        let is_good = is_event(
+            alloc,
             vector.draft,
             vector.plain,
             vector.escaped,
             vector.lengths,
         )?;
-    }
-    Ok(())
-}
-
-#[test]
-fn texts_as_python_writes_them(rt: HostRuntime) -> Result<(), Fail> {
-    let alloc = rt.alloc();
-    for vector in &VECTORS {
-        let event = read(alloc, whole(alloc, vector.draft, vector.plain)?.as_str())?;
-        let digest = Sha256::digest(written(alloc, &event)?.as_bytes());
-        assert!(rt; bytes32_of(vector.written) == Some(digest));
+        let is_same = is_written(alloc, vector)?;
+        assert!(rt; is_good && is_same);
     }
     Ok(())
 }
@@ -261,13 +282,15 @@ fn a_large_event(rt: HostRuntime) -> Result<(), Fail> {
         "\"pubkey\":\"2bd806c97f0e00af1a1fc3328fa763a9269723c8db8fac4f93af71db186d6e90\",\"created_at\":1700000009,\"kind\":1,\"tags\":[[\"e\",\"d35c416a85b807e9b5384915d6ebb4a9f7352713efd89857b45a242f473728a9\"]],\"content\":\"{}\"",
         content.as_str()
     )?;
-    check_event(
-        &rt,
+    let is_good = is_event(
+        alloc,
         members.as_str(),
         "e7b3c7c09a576379cbb80ad3f04511a06956591403841821df25f1b2c250f6f0",
         "66c3221996b1c1b2e314380aa1870e98c848a637b5f64780d08c0ebf1131ad89",
         (152161, 172161),
-    )
+    )?;
+    assert!(rt; is_good);
+    Ok(())
 }
 
 // The worked draft: 64 digits 1, time 1, kind 1, no tags, the content U+0001.
@@ -281,19 +304,37 @@ fn control_draft(alloc: Global, tags: Tags) -> Result<Draft, Fail> {
     })
 }
 
+// Whether the text of the draft's id ends so.
+fn ends_so(alloc: Global, draft: &Draft, spelling: Spelling, end: &str) -> Result<bool, Fail> {
+    let text = id_text(alloc, draft, spelling)?;
+    Ok(text.as_str().ends_with(end))
+}
+
 #[test]
 fn a_control_character(rt: HostRuntime) -> Result<(), Fail> {
     let alloc = rt.alloc();
     let draft = control_draft(alloc, Tags::new(Vec::new(alloc)))?;
-    let plain = id_text(alloc, &draft, Spelling::Plain)?;
-    let escaped = id_text(alloc, &draft, Spelling::Escaped)?;
-    assert_eq!(rt; plain.len(), 81);
-    assert_eq!(rt; escaped.len(), 86);
-    assert!(rt; plain.as_str().ends_with("1\",1,1,[],\"\u{1}\"]"));
-    assert!(rt; escaped.as_str().ends_with("1\",1,1,[],\"\\u0001\"]"));
-    assert!(rt; bytes32_of(CONTROL_PLAIN) == Some(id_of(alloc, &draft, Spelling::Plain)?.0));
-    assert!(rt; bytes32_of(CONTROL_ESCAPED) == Some(id_of(alloc, &draft, Spelling::Escaped)?.0));
+    for (spelling, hex, len, end) in [
+        (Spelling::Plain, CONTROL_PLAIN, 81, "1\",1,1,[],\"\u{1}\"]"),
+        (
+            Spelling::Escaped,
+            CONTROL_ESCAPED,
+            86,
+            "1\",1,1,[],\"\\u0001\"]",
+        ),
+    ] {
+        let is_good = is_id(alloc, &draft, hex, spelling, len)?;
+        let is_spelled = ends_so(alloc, &draft, spelling, end)?;
+        assert!(rt; is_good && is_spelled, "{len}");
+    }
     Ok(())
+}
+
+// The one text of the one tag.
+fn only_text(tags: Tags) -> Option<String> {
+    let tag = tags.into_vec().pop()?;
+    let text = tag.into_vec().pop()?;
+    Some(text.into_string())
 }
 
 #[test]
@@ -304,30 +345,33 @@ fn tags_of_a_draft(rt: HostRuntime) -> Result<(), Fail> {
     let mut tags = Vec::new(alloc);
     tags.push(Tag::new(texts))?;
     let draft = control_draft(alloc, Tags::new(tags))?;
-    assert!(rt;
-        id_text(alloc, &draft, Spelling::Plain)?
-            .as_str()
-            .ends_with(",[[\"t\"]],\"\u{1}\"]")
-    );
-    for tag in draft.tags.into_vec() {
-        for text in tag.into_vec() {
-            assert_eq!(rt; text.into_string().as_str(), "t");
-        }
-    }
+    let is_spelled = ends_so(alloc, &draft, Spelling::Plain, ",[[\"t\"]],\"\u{1}\"]")?;
+    let text = only_text(draft.tags).ok_or("no text")?;
+    assert!(rt; is_spelled && text.as_str() == "t");
     Ok(())
 }
 
+// Whether the event is that of CONTROL.
+fn is_control(event: &Event, id: Id) -> bool {
+    let draft = event.draft();
+    event.id() == id
+        && event.item() == Item { time: 1, id }
+        && *event.sig() == [0x5a; 64]
+        && draft.pubkey == [0x11; 32]
+        && draft.kind == 1
+        && draft.tags.as_slice().is_empty()
+        && draft.content.as_str() == "\u{1}"
+}
+
 #[test]
-fn parts_of_an_event(rt: HostRuntime) -> Result<(), Fail> {
-    let event = read(rt.alloc(), CONTROL)?;
+fn the_same_event(rt: HostRuntime) -> Result<(), Fail> {
+    let alloc = rt.alloc();
     let id = Id(bytes32_of(CONTROL_PLAIN).ok_or("no id")?);
-    assert!(rt; event.id() == id);
-    assert!(rt; event.item() == Item { time: 1, id });
-    assert!(rt; *event.sig() == [0x5a; 64]);
-    assert!(rt; event.draft().pubkey == [0x11; 32]);
-    assert_eq!(rt; event.draft().kind, 1);
-    assert!(rt; event.draft().tags.as_slice().is_empty());
-    assert_eq!(rt; event.draft().content.as_str(), "\u{1}");
+    for (from, to) in &SAME {
+        let text = CONTROL.replacen(alloc, *from, *to, 1)?;
+        let event = read(alloc, text.as_str())?;
+        assert!(rt; is_control(&event, id), "{to}");
+    }
     Ok(())
 }
 
@@ -338,53 +382,11 @@ fn fault_after(alloc: Global, from: &str, to: &str) -> Result<Option<EventFault>
 }
 
 #[test]
-fn one_fault(rt: HostRuntime) -> Result<(), Fail> {
-    for (from, to, fault) in &FAULTS {
-        assert_eq!(rt;
-            fault_after(rt.alloc(), *from, *to)?,
-            Some(*fault),
-            "{from} {to}"
-        );
-    }
-    Ok(())
-}
-
-// All shapes come before all digits, and these before all ranges.
-#[test]
 fn the_first_fault(rt: HostRuntime) -> Result<(), Fail> {
-    let alloc = rt.alloc();
-    let digits = CONTROL.replacen(alloc, "b605", "B605", 1)?;
-    let both = digits.replacen(alloc, "\"kind\":1", "\"kind\":65536", 1)?;
-    assert_eq!(rt;
-        fault_of(alloc, both.as_str())?,
-        Some(EventFault::Hex(EventField::Id))
-    );
-    let all = both.replacen(alloc, "\"sig\"", "\"gis\"", 1)?;
-    assert_eq!(rt;
-        fault_of(alloc, all.as_str())?,
-        Some(EventFault::Shape(EventField::Sig))
-    );
-    Ok(())
-}
-
-// Unknown fields are passed over, of a key that comes twice the last value stays, and an escape spells its character.
-#[test]
-fn other_members(rt: HostRuntime) -> Result<(), Fail> {
-    let alloc = rt.alloc();
-    let kind = "\"kind\":1";
-    assert_eq!(rt;
-        fault_after(
-            alloc,
-            kind,
-            "\"kind\":{\"a\":[1.5,-3]},\"ok\":null,\"kind\":1"
-        )?,
-        None
-    );
-    assert_eq!(rt;
-        fault_after(alloc, kind, "\"kind\":1,\"kind\":2")?,
-        Some(EventFault::WrongId)
-    );
-    assert_eq!(rt; fault_after(alloc, "\"id\"", "\"\\u0069d\"")?, None);
+    for (from, to, fault) in &FAULTS {
+        let found = fault_after(rt.alloc(), *from, *to)?;
+        assert_eq!(rt; found, Some(*fault), "{from} {to}");
+    }
     Ok(())
 }
 
@@ -393,11 +395,8 @@ fn what_is_json(rt: HostRuntime) -> Result<(), Fail> {
     let alloc = rt.alloc();
     for (from, to, good) in &TEXTS {
         let text = CONTROL.replacen(alloc, *from, *to, 1)?;
-        assert_eq!(rt;
-            Value::from_str(alloc, text.as_str()).is_ok(),
-            *good,
-            "{from} {to}"
-        );
+        let is_json = Value::from_str(alloc, text.as_str()).is_ok();
+        assert_eq!(rt; is_json, *good, "{from} {to}");
     }
     Ok(())
 }

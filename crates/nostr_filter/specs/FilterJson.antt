@@ -1,5 +1,5 @@
 -- Filters as JSON objects (NIP-01).
-use Rattle.std.specs.Prelude.{◌≡◌, ◌<◌, ◌^◌, ◌++◌, ℕ, List, [], ◌∷◌, map, Bool, true, if◌then◌else◌, nat_lt, Option, Some, None, is_some, option_map, option_and_then, codes, ⊤, All, IfSome}
+use Rattle.std.specs.Prelude.{◌≡◌, ◌<◌, ◌^◌, ◌++◌, ℕ, List, [], ◌∷◌, map, Bool, true, if◌then◌else◌, nat_lt, Option, Some, None, is_some, option_map, option_and_then, codes, All, IfSome}
 use Rattle.hex.specs.Hex.{encode_lower}
 use Rattle.serde_json.specs.Data.{unsigned, Data, number, string, array, object, Items, no_items, item, Members, no_members, put}
 use Rattle.serde_json.specs.Find.{get, as_str, as_number, as_array, as_object, as_u64}
@@ -13,6 +13,7 @@ use Rattle.nostr_filter.specs.declared.fault.FilterField.TheVariants.{Object, Ta
 use Rattle.nostr_filter.specs.declared.fault.FilterFault.{FilterFault}
 use Rattle.nostr_filter.specs.declared.fault.FilterFault.TheVariants.{Shape, Hex, Memory}
 use Rattle.nostr_filter.specs.Tags.{letters, tag_name}
+pub use Rattle.nostr_event.specs.EventJson.{first_failing}
 
 -- ---- what a field's value reads as
 
@@ -90,10 +91,6 @@ pub record HasShapes (d : Data) (s : Shapes) : Type 0 where
   pub since : field whole_of (codes "since") d ≡ Some s.since
   pub until : field whole_of (codes "until") d ≡ Some s.until
 
-abbrev pub first_failing : List (FilterField × Bool) → Option FilterField
-first_failing [] = None
-first_failing (t ∷ ts) = if t.1 then first_failing ts else Some t.0
-
 -- the tests of the conditions of the letters xs
 abbrev pub tag_tests : List ℕ → Data → List (FilterField × Bool)
 tag_tests xs d = map (λ x. (Tag x, is_some (field texts_of (tag_name x) d))) xs
@@ -123,11 +120,11 @@ IsFirstNotHex d Limit = ⊥
 IsFirstNotHex d Since = ⊥
 IsFirstNotHex d Until = ⊥
 
--- the fault f is the first that d has
+-- the fault f is the first that d has; want of memory is told of an object alone
 abbrev pub Refuses : Data → FilterFault → Type 0
 Refuses d (Shape f) = first_failing (shape_tests d) ≡ Some f
 Refuses d (Hex f) = (first_failing (shape_tests d) ≡ None) × IsFirstNotHex d f
-Refuses d Memory = ⊤
+Refuses d Memory = is_some (as_object d) ≡ true
 
 -- ---- what is written
 

@@ -20,8 +20,9 @@ pub struct Rank {
 // The greatest number of events that a filter chooses.
 const GREATEST_LIMIT: usize = 5000;
 
+/// What orders an event at a place.
 #[tactic(auto, unfolding(crate::specs::Choice::rank_of))]
-fn rank_at(place: usize, event: &Event) -> Rank
+pub fn rank_at(place: usize, event: &Event) -> Rank
     ensures { result ≡ rank_of place event.now }
 {
     Rank {
@@ -31,7 +32,8 @@ fn rank_at(place: usize, event: &Event) -> Rank
     }
 }
 
-fn cut(filter: &Filter) -> usize
+/// How many events a filter chooses at most.
+pub fn cut(filter: &Filter) -> usize
     ensures { result ≡ cut_of filter.now }
 {
     match filter.limit {
@@ -40,8 +42,8 @@ fn cut(filter: &Filter) -> usize
     }
 }
 
-// Puts the ranks in order, each once.
-fn put_in_order(ranks: &mut Vec<Rank>)
+/// Puts the ranks in order, each once.
+pub fn put_in_order(ranks: &mut Vec<Rank>)
     ensures { ranks.new.items ≡ in_order newest_first ranks.old.items }
 {
     ranks.sort_unstable();
@@ -72,7 +74,8 @@ fn pick(alloc: Global, filter: &Filter, events: &[Arc<Event>]) -> Result<Vec<Ran
 }
 
 /// The places of the events that the filters choose, in the order in which they are sent: each filter chooses the newest that it
-/// matches, as many as the lesser of its limit and 5,000, and each event comes once.
+/// matches, as many as the lesser of its limit and 5,000, and each place comes once. The events' ids are to be distinct; then each
+/// event comes once.
 pub fn choose(
     alloc: Global,
     filters: &[Filter],

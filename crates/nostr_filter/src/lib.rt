@@ -10,7 +10,7 @@ mod letters;
 mod reading;
 mod writing;
 
-pub use choice::choose;
+pub use choice::{Rank, choose, cut, put_in_order, rank_at};
 pub use conditions::{Bytes32List, Kinds, TagCondition, TagConditions, Texts};
 pub use fault::{FilterFault, FilterField};
 pub use filter::Filter;

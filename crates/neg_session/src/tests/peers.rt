@@ -48,6 +48,8 @@ impl<'a> Peer for Scripted<'a> {
 
     ghost becomes = { λ p q. Unit {0} };
 
+    ghost fails = { λ q. Unit {0} };
+
     ghost stays = { λ p. tt };
 
     ghost goes_on = { λ p q r h k. tt };

@@ -5,12 +5,10 @@ use Rattle.neg_initiator.proofs.found.note.Goals as goal
 
 pub returns-then-len-most-clause-full : goal.returns-then-len-most-clause-full
 returns-then-len-most-clause-full c = λ e.
-    let le : c.args.most ≤ length c.args.into.now.keys = omega (arith, c.len.ensures.len) in (
-      omega (arith, c.len.ensures.len, c.len.ensures.small, le),
-      passes_one c.args.others.now.keys c.args.id.now c.args.into.now.keys c.args.most c.len.ensures.ordered
-          (not_there c.has-2.result (Contains c.args.into.now.keys c.args.id.now) c.has-2.ensures c.if-has-2.false)
-          (not_there c.has.result (Contains c.args.others.now.keys c.args.id.now) c.has.ensures c.if-has.false) le,
-    )
+    let le : c.args.most ≤ length c.args.into.now.keys = omega (arith, c.len.ensures.len) in
+    passes_one c.args.others.now.keys c.args.id.now c.args.into.now.keys c.args.most c.len.ensures.ordered
+    (not_there c.has-2.result (Contains c.args.into.now.keys c.args.id.now) c.has-2.ensures c.if-has-2.false)
+    (not_there c.has.result (Contains c.args.others.now.keys c.args.id.now) c.has.ensures c.if-has.false) le
 
 pub returns-clause-ok : goal.returns-clause-ok
 returns-clause-ok c =

@@ -18,8 +18,7 @@ loop-id-preserved c = record {
 
 pub returns-in-Err-clause-full : goal.returns-in-Err-clause-full
 returns-in-Err-clause-full c = λ e.
-    let p = c.in-Err.ensures.full e in
-    (p.0, passes_at c.args.others.now.keys c.args.listed.now c.loop-id.id-index no_id c.args.into.now.keys c.loop-id.into.keys c.args.most c.loop-id-test.true c.loop-id.invariant.notes p.1)
+    passes_at c.args.others.now.keys c.args.listed.now c.loop-id.id-index no_id c.args.into.now.keys c.loop-id.into.keys c.args.most c.loop-id-test.true c.loop-id.invariant.notes (c.in-Err.ensures.full e)
 
 pub returns-clause-ok : goal.returns-clause-ok
 returns-clause-ok c =

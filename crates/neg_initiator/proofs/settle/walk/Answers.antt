@@ -10,8 +10,8 @@ use Rattle.neg_initiator.specs.Findings.{findings_of}
 use Rattle.neg_initiator.specs.Walked.{IsRead}
 use Rattle.neg_initiator.specs.declared.fault.InitFault.{InitFault}
 use Rattle.neg_initiator.specs.declared.fault.InitFault.TheVariants as fault
-use Rattle.neg_initiator.proofs.Stepping.{Stepped, progress_none, read_until, read_whole}
-use Rattle.neg_initiator.proofs.Taking.{stepped_at, progress_at, too_many_at}
+use Rattle.neg_initiator.proofs.Stepping.{Stepped, progress_none, read_whole}
+use Rattle.neg_initiator.proofs.Taking.{stepped_at, progress_at, read_at, too_many_at}
 use Rattle.neg_initiator.proofs.Trusts.{reaches_upper}
 use Rattle.neg_initiator.proofs.settle.walk.Goals as goal
 
@@ -54,7 +54,8 @@ returns-then-is_over-clause-read c =
     let step = stepped_at c.args.limit c.args.roll.now c.ranges-range-items.result.now c.loop-range.range-index c.range-item.result (findings_of c.args.found.now) (findings_of c.loop-range.found) (findings_of c.settle_range.new.found)
     c.loop-range.draft c.in-Ok.next lt c.range-item.is up c.in-Ok.ensures.draft c.loop-range.invariant.progress (rw c.loop-range.invariant.lower at c.in-Ok.ensures.finds) (rw c.loop-range.invariant.lower at c.in-Ok.ensures.settles) in
     rw (← c.ranges-range-items.ensures.value)
-    (read_until c.args.limit c.args.roll.now (map span_of c.ranges-range-items.result.now) (edge_of c.range-item.result.upper) (findings_of c.args.found.now) (findings_of c.settle_range.new.found) c.in-Ok.next step
+    (read_at c.args.limit c.args.roll.now c.ranges-range-items.result.now c.loop-range.range-index c.range-item.result (findings_of c.args.found.now) (findings_of c.settle_range.new.found) c.in-Ok.next up
+    (rw c.ranges-range-items.ensures.value c.ranges-range-items.ensures.ordered.fits) step
     (c.is_over.ensures.over.0 c.if-is_over.true))
 
 pub returns-then-is_over-clause-most : goal.returns-then-is_over-clause-most

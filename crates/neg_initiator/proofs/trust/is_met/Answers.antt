@@ -1,6 +1,7 @@
 use Rattle.std.proofs.Common.{refl, ap}
 use Rattle.neg_codec.specs.Ranges.{Stretch, edge_of, span_of, claim_of}
-use Rattle.neg_initiator.specs.Trusting.{begun_at, between}
+use Rattle.neg_draft.specs.Coverage.{begun_at}
+use Rattle.neg_initiator.specs.Trusting.{between}
 use Rattle.neg_initiator.proofs.Meeting.{meet_bounds, skipped-one}
 use Rattle.neg_initiator.proofs.trust.is_met.Goals as goal
 

@@ -1,8 +1,8 @@
-use Rattle.std.proofs.Common.{◌≡◌, ◌≤◌, List, refl, map, length, ap, ◌∙◌, arith}
+use Rattle.std.proofs.Common.{◌≤◌, List, refl, sym, subst, map, length, ap, arith}
 use Rattle.neg_codec.specs.Ranges.{Span, span_of}
 use Rattle.neg_codec.specs.Encoding.{text_of}
 use Rattle.neg_codec.specs.Keys.{infinity}
-use Rattle.neg_draft.specs.Coverage.{passed}
+use Rattle.neg_draft.specs.Coverage.{passed, NoneEmpty}
 use Rattle.neg_responder.proofs.Replying.{replied_none, replied_at, replied_whole}
 use Rattle.neg_responder.proofs.ranges.reply.Goals as goal
 
@@ -24,3 +24,6 @@ returns-clause-follows c =
 pub returns-clause-short : goal.returns-clause-short
 returns-clause-short c =
     omega (arith, c.into_message.ensures.draft.fits, c.loop-range.invariant.bytes, ap (λ (m : List Span). length (text_of m)) c.into_message.ensures.value)
+
+pub returns-clause-none_empty : goal.returns-clause-none_empty
+returns-clause-none_empty c = subst NoneEmpty (sym c.into_message.ensures.value) c.into_message.ensures.draft.none_empty

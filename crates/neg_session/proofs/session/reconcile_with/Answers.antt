@@ -1,9 +1,11 @@
-use Rattle.std.proofs.Common.{rules, ◌≡◌, ◌<◌, ◌≤◌, ◌+◌, length, Result, Err, arith, refl, sym, ap, subst}
+use Rattle.std.proofs.Common.{rules, ◌≡◌, ◌<◌, ◌≤◌, ◌+◌, ◌∙◌, List, inl, inr, length, Result, Err, arith, refl, sym, ap, subst}
 use Rattle.std.proofs.lemmas.Result.{err_from_is_err_and}
 use Rattle.neg_codec.specs.declared.CodecFault.{CodecFault}
 use Rattle.neg_initiator.specs.declared.fault.InitFault.{InitFault}
 use Rattle.neg_initiator.specs.declared.fault.InitFault.TheVariants as initiator
 use Rattle.neg_initiator.specs.declared.initiator.Next.{Next}
+use Rattle.neg_codec.specs.declared.Item.{Item}
+use Rattle.neg_initiator.specs.Session.{IsAskDue}
 use Rattle.neg_session.specs.Ran.{Ran}
 use Rattle.neg_session.specs.declared.fault.SessionFault.TheVariants.{Bad}
 use Rattle.neg_session.proofs.Driver.{going_first, going_more, ran_rounds, ran_log_full, ran_unanswered, ran_quiet, ran_done, ran_fault}
@@ -25,7 +27,7 @@ pub returns-in_err-answer-clause-ran : goal.returns-in_err-answer-clause-ran
 returns-in_err-answer-clause-ran g c =
     let p = err_from_is_err_and c.from_residual.result c.from_residual.ensures.1 in
     let room : c.loop-round.round ≤ c.args.limits.now.rounds = omega (arith, c.loop-round-test.true) in
-    rw (p.1, p.2) (ran_unanswered _ _ _ _ _ _ _ _ _ _ _ _ c.loop-round.invariant.going c.in_err-answer.ensures.err room c.in_err-answer.field-0.0 (λ e. c.in_err-answer.ensures.failed (ap Err e)))
+    rw (p.1, p.2) (ran_unanswered _ _ _ _ _ _ _ _ _ _ _ _ c.loop-round.invariant.going c.in_err-answer.ensures.err room c.in_err-answer.field-0.0 (λ e. (c.in_err-answer.ensures.failed (ap Err e)).0) (λ e. c.in_err-answer.ensures.memory (ap Err e)))
 
 pub returns-in-Ok-Done-clause-ran : goal.returns-in-Ok-Done-clause-ran
 returns-in-Ok-Done-clause-ran g c =
@@ -34,7 +36,8 @@ returns-in-Ok-Done-clause-ran g c =
     let taken = rw c.deref-in-loop-round.ensures.value at c.in-Ok-Done.ensures.taken in
     let few = c.in-Ok-Done.ensures.within in
     let done = rw c.in-Ok-Done.field-0-is at c.in-Ok-Done.ensures.leaves in
-    ran_done _ _ _ _ _ _ _ _ _ _ _ _ c.loop-round.invariant.going _ asked.0 asked.1 c.one_message.ensures c.take.new.self taken.0 c.loop-round-test.true room taken.1 taken.2 taken.3 few done c.outcome.result
+    let over = rw (c.deref-in-loop-round.ensures.value, c.in-Ok-Done.field-0-is) at c.in-Ok-Done.ensures.due in
+    ran_done _ _ _ _ _ _ _ _ _ _ _ _ c.loop-round.invariant.going _ asked.0 asked.1 c.one_message.ensures c.take.new.self taken.0 c.loop-round-test.true room taken.1 taken.2 taken.3 few done over c.outcome.result
     c.outcome.ensures.need c.outcome.ensures.have c.outcome.ensures.trusted
 
 pub returns-in-Err-Bad-clause-ran : goal.returns-in-Err-Bad-clause-ran
@@ -72,34 +75,40 @@ loop-round-preserved g c =
     let taken = rw c.deref-in-loop-round.ensures.value at c.in-Ok-Ask.ensures.taken in
     let few = c.in-Ok-Ask.ensures.within in
     let goes = rw c.in-Ok-Ask.field-0-is at c.in-Ok-Ask.ensures.leaves in
+    let due = rw (c.deref-in-loop-round.ensures.value, c.in-Ok-Ask.field-0-is) at c.in-Ok-Ask.ensures.due in
     let size : c.len-left.result ≡ length c.in_ok-answer.answer.items = search rules in
     record {
-      going = rw size (going_more _ _ _ _ _ _ _ _ _ _ _ _ c.loop-round.invariant.going _ asked.0 asked.1 c.one_message.ensures c.take.new.self taken.0 _ room taken.1 taken.2 taken.3 few goes);
+      going = rw size (going_more _ _ _ _ _ _ _ _ _ _ _ _ c.loop-round.invariant.going _ asked.0 asked.1 c.one_message.ensures c.take.new.self taken.0 _ room taken.1 taken.2 taken.3 few goes due);
       becomes = search rules;
     }
 
 pub returns-clause-ran : goal.returns-clause-ran
 returns-clause-ran g c =
     let end : c.loop-round.round ≡ c.args.limits.now.rounds = omega arith in
-    ran_quiet _ _ _ _ _ _ _ _ _ _ _ _ c.loop-round.invariant.going refl (omega (arith, end)) _ (λ e. cc) (λ f e. cc) (λ e. end) (λ e. cc) (λ e. cc)
+    ran_quiet _ _ _ _ _ _ _ _ _ _ _ _ c.loop-round.invariant.going refl (omega (arith, end)) _ (λ e. cc) (λ no. refl) (λ f e. cc) (λ e. end) (λ e. cc) (λ e. cc)
 
 pub returns-then-round-limits-clause-ran : goal.returns-then-round-limits-clause-ran
 returns-then-round-limits-clause-ran g c =
     let asked = rw c.deref.ensures.value at c.in_ok-answer.ensures.ok in
     let taken = rw c.deref-in-loop-round.ensures.value at c.in-Ok-Ask.ensures.taken in
     let end : c.loop-round.round + 1 ≡ c.args.limits.now.rounds = omega arith in
-    ran_rounds _ _ _ _ _ _ _ _ _ _ _ _ c.loop-round.invariant.going _ asked.0 asked.1 c.loop-round-test.true end taken.0 taken.2
+    let asks = rw (c.deref-in-loop-round.ensures.value, c.in-Ok-Ask.field-0-is) at c.in-Ok-Ask.ensures.due in
+    let due : IsAskDue c.args.roll.now c.in_ok-answer.answer.items = subst (λ (w : List Item). IsAskDue w c.in_ok-answer.answer.items) c.loop-round.invariant.going.roll asks in
+    ran_rounds _ _ _ _ _ _ _ _ _ _ _ _ c.loop-round.invariant.going _ asked.0 asked.1 c.loop-round-test.true end due taken.0 taken.2
 
 pub returns-then-len-left-clause-ran : goal.returns-then-len-left-clause-ran
 returns-then-len-left-clause-ran g c =
     let asked = rw c.deref.ensures.value at c.in_ok-answer.ensures.ok in
     let taken = rw c.deref-in-loop-round.ensures.value at c.in-Ok-Ask.ensures.taken in
     let more : c.loop-round.left < length c.in_ok-answer.answer.items = omega arith in
-    ran_log_full _ _ _ _ _ _ _ _ _ _ _ _ c.loop-round.invariant.going _ asked.0 asked.1 c.loop-round-test.true more taken.0 taken.2
+    let fewer : c.loop-round.round + 1 < c.args.limits.now.rounds = omega arith in
+    ran_log_full _ _ _ _ _ _ _ _ _ _ _ _ c.loop-round.invariant.going _ asked.0 asked.1 c.loop-round-test.true more (inl fewer) taken.0 taken.2
 
 pub returns-then-len-left-2-clause-ran : goal.returns-then-len-left-2-clause-ran
 returns-then-len-left-2-clause-ran g c =
     let asked = rw c.deref.ensures.value at c.in_ok-answer.ensures.ok in
     let taken = rw c.deref-in-loop-round.ensures.value at c.in-Ok-Done.ensures.taken in
     let more : c.loop-round.left < length c.in_ok-answer.answer.items = omega arith in
-    ran_log_full _ _ _ _ _ _ _ _ _ _ _ _ c.loop-round.invariant.going _ asked.0 asked.1 c.loop-round-test.true more taken.0 taken.2
+    let none = rw (c.deref-in-loop-round.ensures.value, c.in-Ok-Done.field-0-is) at c.in-Ok-Done.ensures.due in
+    let over : IsAskDue c.args.roll.now c.in_ok-answer.answer.items → ⊥ = subst (λ (w : List Item). IsAskDue w c.in_ok-answer.answer.items → ⊥) c.loop-round.invariant.going.roll none in
+    ran_log_full _ _ _ _ _ _ _ _ _ _ _ _ c.loop-round.invariant.going _ asked.0 asked.1 c.loop-round-test.true more (inr over) taken.0 taken.2

@@ -20,7 +20,7 @@ pub returns-then-hi-lo-lt-LISTED_BELOW-clause-holds : goal.returns-then-hi-lo-lt
 returns-then-hi-lo-lt-LISTED_BELOW-clause-holds c =
     IfOk-weaker c.told_by_ids.result _ _
     (λ v e lower key low le. subst (λ (ranges : List Span). TrueFrom c.args.self.now lower ranges) (sym e)
-    (ids_told c.args.self.now c.args.lo c.args.hi lower (edge_of c.args.upper.now) c.is_in_order.ensures c.requires.upper key low le))
+    (ids_told c.args.self.now c.args.lo c.args.hi lower (edge_of c.args.upper.now) c.items_rise.ensures c.requires.upper key low le))
     c.told_by_ids.ensures
 
 pub returns-then-hi-lo-lt-LISTED_BELOW-clause-last : goal.returns-then-hi-lo-lt-LISTED_BELOW-clause-last
@@ -35,7 +35,7 @@ pub returns-else-hi-lo-lt-LISTED_BELOW-clause-holds : goal.returns-else-hi-lo-lt
 returns-else-hi-lo-lt-LISTED_BELOW-clause-holds c =
     IfOk-weaker c.told_by_prints.result _ _
     (λ v e lower key low le. subst (λ (ranges : List Span). TrueFrom c.args.self.now lower ranges) (sym e)
-    (prints_told 15 c.args.self.now c.args.lo c.args.hi lower (edge_of c.args.upper.now) c.is_in_order.ensures c.requires.piece.1 (omega (arith, c.requires.piece.0)) c.requires.upper key low le))
+    (prints_told 15 c.args.self.now c.args.lo c.args.hi lower (edge_of c.args.upper.now) c.items_rise.ensures c.requires.piece.1 (omega (arith, c.requires.piece.0)) c.requires.upper key low le))
     c.told_by_prints.ensures
 
 pub returns-else-hi-lo-lt-LISTED_BELOW-clause-last : goal.returns-else-hi-lo-lt-LISTED_BELOW-clause-last

@@ -1,7 +1,6 @@
-use Rattle.std.proofs.Common.{rules, ◌≡◌, ap, ◌∙◌, sym, arith, length}
+use Rattle.std.proofs.Common.{rules, ap, arith}
 use Rattle.neg_codec.specs.Keys.{place, infinity}
 use Rattle.neg_codec.specs.Ranges.{edge_of}
-use Rattle.neg_draft.specs.Coverage.{Written}
 use Rattle.neg_draft.proofs.Owning.{count_up}
 use Rattle.neg_draft.proofs.Telling.{last_fits}
 use Rattle.neg_draft.proofs.draft.Draft.close.Goals as goal

@@ -1,6 +1,5 @@
-use Rattle.std.proofs.Common.{◌≡◌, ◌+◌, ◌-◌, ◌<◌, ◌≤◌, ℕ, ap, refl, subst, ◌∙◌, arith, length}
+use Rattle.std.proofs.Common.{◌≡◌, ◌+◌, ◌<◌, ◌≤◌, ap, refl, subst, ◌∙◌, arith, length}
 use Rattle.std.proofs.lemmas.Result.{IfOk-weaker}
-use Rattle.neg_codec.specs.declared.Item.{Item}
 use Rattle.neg_codec.specs.Keys.{place, infinity}
 use Rattle.neg_codec.specs.Ranges.{IsEdge, edge_of}
 use Rattle.neg_print.specs.Print.{print_of}
@@ -8,7 +7,6 @@ use Rattle.item_roll.specs.Parts.{part, ids_of, count_below}
 use Rattle.item_roll.proofs.Truths.{piece_is}
 use Rattle.neg_draft.specs.Coverage.{Written, told_more, all_left, Cut}
 use Rattle.neg_draft.proofs.Covering.{edge_low}
-use Rattle.neg_draft.proofs.Owning.{edge_key}
 use Rattle.neg_draft.proofs.Telling.{before_most, may_be_cut, neighbours, bound_behind, ids_count, listed_cut}
 use Rattle.neg_draft.proofs.draft.Draft.cut_ids.Goals as goal
 

@@ -1,15 +1,12 @@
-use Rattle.std.proofs.Common.{◌≡◌, ◌+◌, ◌-◌, ◌<◌, ◌≤◌, ℕ, List, ap, sym, subst, ◌∙◌, arith, length, [], ◌∷◌}
-use Rattle.std.proofs.lemmas.Result.{IfOk-weaker}
+use Rattle.std.proofs.Common.{◌≡◌, ◌+◌, ◌-◌, ◌<◌, ◌≤◌, List, ap, sym, subst, ◌∙◌, arith, length, [], ◌∷◌}
 use Rattle.neg_codec.specs.declared.Id.{Id}
-use Rattle.neg_codec.specs.declared.Item.{Item}
-use Rattle.neg_codec.specs.Keys.{place, infinity}
+use Rattle.neg_codec.specs.Keys.{place}
 use Rattle.neg_codec.specs.Ranges.{IsEdge, edge_of}
 use Rattle.neg_codec.specs.Encoding.{text_of}
 use Rattle.item_roll.specs.Parts.{part, ids_of, count_below}
 use Rattle.neg_draft.specs.Coverage.{told_more}
-use Rattle.neg_draft.proofs.Covering.{edge_low}
 use Rattle.neg_draft.proofs.Owning.{count_up, edge_key, listed, tells_ids, ids_between}
-use Rattle.neg_draft.proofs.Telling.{ids_count, listed_part, listed_fits}
+use Rattle.neg_draft.proofs.Telling.{ids_count, listed_fits}
 use Rattle.neg_draft.proofs.draft.Draft.list_ids.Goals as goal
 
 pub ids-requires : goal.ids-requires
@@ -28,7 +25,7 @@ pub tell-requires-clause-tells : goal.tell-requires-clause-tells
 tell-requires-clause-tells c =
     let lt : place (edge_of c.end-lower.result) < place (edge_of c.args.upper) = omega (arith, ap place c.end-lower.ensures.end, c.requires.ahead) in
     let key = edge_key (edge_of c.end-lower.result) (edge_of c.args.upper) c.edge.ensures.edge c.edge-2.ensures.edge lt in
-    rw c.end-lower.ensures.end at (tells_ids (edge_of c.end-lower.result) (edge_of c.args.upper) c.in_ok-ids.ids.items key (omega (arith, lt)))
+    rw c.end-lower.ensures.end at (tells_ids (edge_of c.end-lower.result) (edge_of c.args.upper) c.in_ok-ids.ids.items key lt)
 
 room : (c : goal.In_ok-ids) → length (text_of (told_more c.args.self (edge_of c.args.upper) (listed (edge_of c.args.upper) c.in_ok-ids.ids.items ∷ [])).spans) + 64 ≤ c.args.self.limit
 room c =

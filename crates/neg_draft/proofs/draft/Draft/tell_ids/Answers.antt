@@ -1,12 +1,11 @@
-use Rattle.std.proofs.Common.{rules, ◌≡◌, ◌+◌, ◌-◌, ◌*◌, ◌<◌, ◌≤◌, ℕ, inl, inr, ap, subst, ◌∙◌, arith, [], ◌∷◌}
+use Rattle.std.proofs.Common.{◌≡◌, ◌<◌, inl, inr, ap, subst, arith, [], ◌∷◌}
 use Rattle.std.specs.Prelude.{IfOk}
 use Rattle.std.proofs.lemmas.Result.{IfOk-weaker}
 use Rattle.neg_codec.specs.Keys.{place, infinity}
 use Rattle.neg_codec.specs.Ranges.{IsEdge, edge_of}
-use Rattle.item_roll.specs.Parts.{count_below}
-use Rattle.neg_draft.specs.Coverage.{Written, told_more, Cut, Told}
+use Rattle.neg_draft.specs.Coverage.{told_more, Cut, Told}
 use Rattle.neg_draft.proofs.Covering.{edge_low}
-use Rattle.neg_draft.proofs.Owning.{count_up, edge_key}
+use Rattle.neg_draft.proofs.Owning.{count_up}
 use Rattle.neg_draft.proofs.Telling.{before_most, end_key, may_be_cut, listed_part, listed_whole}
 use Rattle.neg_draft.proofs.draft.Draft.tell_ids.Goals as goal
 
@@ -38,4 +37,4 @@ returns-clause-told c =
     let fin : place c.args.self.end < place infinity = omega (arith, c.requires, edge_low (edge_of c.args.upper) c.edge-2.ensures.edge) in
     let key = end_key c.args.self (subst IsEdge c.end-lower.ensures.end c.edge.ensures.edge) fin in
     IfOk-weaker c.list_ids.result (λ d. d ≡ told_more c.args.self (edge_of c.args.upper) (listed_part c.args.roll.now c.args.self.end (edge_of c.args.upper) ∷ [])) (Told c.args.roll.now c.args.self (edge_of c.args.upper))
-    (λ d e. inl (listed_whole c.args.roll.now c.args.self d (edge_of c.args.upper) fin (omega (arith, c.requires)) key e)) c.list_ids.ensures
+    (λ d e. inl (listed_whole c.args.roll.now c.args.self d (edge_of c.args.upper) fin c.requires key e)) c.list_ids.ensures

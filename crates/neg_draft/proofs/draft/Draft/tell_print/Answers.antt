@@ -1,6 +1,5 @@
-use Rattle.std.proofs.Common.{rules, ◌≡◌, ◌+◌, ◌<◌, ◌≤◌, ℕ, inr, subst, arith, length, [], ◌∷◌}
+use Rattle.std.proofs.Common.{rules, ◌≡◌, ◌+◌, ◌≤◌, inr, subst, arith, length, [], ◌∷◌}
 use Rattle.std.proofs.lemmas.Result.{IfOk-weaker}
-use Rattle.neg_codec.specs.Keys.{place, infinity}
 use Rattle.neg_codec.specs.Ranges.{print, IsEdge, edge_of}
 use Rattle.neg_codec.specs.Encoding.{text_of}
 use Rattle.neg_codec.proofs.Lengths.{print_len}
@@ -11,13 +10,13 @@ use Rattle.neg_draft.proofs.draft.Draft.tell_print.Goals as goal
 pub returns-in_default : goal.returns-in_default
 returns-in_default c =
     IfOk-weaker c.close.result (Cut c.args.roll.now c.args.self (edge_of c.args.upper)) _ (λ d h. inr h)
-    (may_be_cut c.args.roll.now c.args.self (edge_of c.args.upper) c.close.result (subst IsEdge c.end-lower.ensures.end c.edge.ensures.edge) c.requires.finite c.requires.ahead
+    (may_be_cut c.args.roll.now c.args.self (edge_of c.args.upper) c.close.result (subst IsEdge c.end-lower.ensures.end c.edge.ensures.edge) c.requires.finite (omega (arith, c.requires.ahead))
     (omega (arith, c.in_default.ensures.none, before_most c.args.self)) c.close.ensures)
 
 pub returns-then-room-lt-PRINT_BYTES : goal.returns-then-room-lt-PRINT_BYTES
 returns-then-room-lt-PRINT_BYTES c =
     IfOk-weaker c.close-then-room-lt-PRINT_BYTES.result (Cut c.args.roll.now c.args.self (edge_of c.args.upper)) _ (λ d h. inr h)
-    (may_be_cut c.args.roll.now c.args.self (edge_of c.args.upper) c.close-then-room-lt-PRINT_BYTES.result (subst IsEdge c.end-lower.ensures.end c.edge.ensures.edge) c.requires.finite c.requires.ahead
+    (may_be_cut c.args.roll.now c.args.self (edge_of c.args.upper) c.close-then-room-lt-PRINT_BYTES.result (subst IsEdge c.end-lower.ensures.end c.edge.ensures.edge) c.requires.finite (omega (arith, c.requires.ahead))
     (omega (arith, c.in-Some.ensures.some, c.if-room-lt-PRINT_BYTES.true, before_most c.args.self)) c.close-then-room-lt-PRINT_BYTES.ensures)
 
 room : (c : goal.Else-room-lt-PRINT_BYTES) → length (text_of (told_more c.args.self (edge_of c.args.upper) (record { upper = edge_of c.args.upper; claim = print c.args.print } ∷ [])).spans) + 64 ≤ c.args.self.limit

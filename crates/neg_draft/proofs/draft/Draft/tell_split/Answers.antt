@@ -1,18 +1,17 @@
-use Rattle.std.proofs.Common.{◌≡◌, ◌⊎◌, ◌<◌, ◌≤◌, ◌-◌, ℕ, List, inl, inr, map, ap, sym, subst, ◌∙◌, arith, [], ◌∷◌}
+use Rattle.std.proofs.Common.{◌≡◌, ◌⊎◌, ◌<◌, ◌-◌, List, inl, inr, map, ap, sym, subst, ◌∙◌, arith}
 use Rattle.std.specs.Prelude.{All}
 use Rattle.std.proofs.lemmas.Result.{IfOk-weaker}
 use Rattle.neg_codec.specs.declared.Range.{Range}
-use Rattle.neg_codec.specs.Keys.{place, infinity}
+use Rattle.neg_codec.specs.Keys.{place}
 use Rattle.neg_codec.specs.Ranges.{Span, edge_of, span_of}
 use Rattle.item_roll.specs.Parts.{count_below}
-use Rattle.item_roll.specs.Splits.{split_of, prints_at}
 use Rattle.item_roll.specs.Truth.{IsTrueOf}
 use Rattle.item_roll.specs.Closed.{closed_from}
 use Rattle.item_roll.proofs.Truths.{split_printed}
 use Rattle.neg_draft.specs.Coverage.{told_more, IsPrint, Cut, Told}
 use Rattle.neg_draft.proofs.Covering.{edge_low}
 use Rattle.neg_draft.proofs.Owning.{count_up, edge_key, tells_split}
-use Rattle.neg_draft.proofs.Telling.{listed_part, split_is_listed, all_prints}
+use Rattle.neg_draft.proofs.Telling.{split_is_listed, all_prints, split_full}
 use Rattle.neg_draft.proofs.draft.Draft.tell_split.Goals as goal
 
 pub overflow_sub-hi : goal.overflow_sub-hi
@@ -35,7 +34,8 @@ tell_prints-requires-clause-tells c =
     let lt : place (edge_of c.end-lower.result) < place (edge_of c.args.upper) = omega (arith, ap place c.end-lower.ensures.end, c.requires) in
     let key = edge_key (edge_of c.end-lower.result) (edge_of c.args.upper) c.edge.ensures.edge c.edge-2.ensures.edge lt in
     let held = rw c.end-lower.ensures.end at (c.in_ok-split.ensures.holds (edge_of c.end-lower.result) key (sym c.find-lo.ensures.value) (omega (arith, lt))) in
-    rw c.deref.ensures.value (tells_split c.args.self.end (edge_of c.args.upper) (map span_of c.in_ok-split.split.items) held.1 c.in_ok-split.ensures.last)
+    rw c.deref.ensures.value (tells_split c.args.self.end (edge_of c.args.upper) (map span_of c.in_ok-split.split.items) held.1 c.in_ok-split.ensures.last (split_full c.args.roll.now c.args.self.end (edge_of c.args.upper) c.find-lo.result c.find-hi.result (map span_of c.in_ok-split.split.items) c.len.ensures.roll c.find-hi.ensures.within c.if-hi-lo-lt-LISTED_BELOW.false
+    c.in_ok-split.ensures.exact c.find-hi.ensures.value (c.find-lo.ensures.value ∙ ap (count_below c.args.roll.now) c.end-lower.ensures.end)))
 
 pub tell_prints-requires-clause-holds : goal.tell_prints-requires-clause-holds
 tell_prints-requires-clause-holds c =
@@ -60,7 +60,8 @@ returns-clause-told c =
       | inl e ↦ inl (record {
         finite = omega (arith, c.requires, edge_low (edge_of c.args.upper) c.edge-2.ensures.edge);
         spans = map span_of c.in_ok-split.split.items;
-        tells = tells_split c.args.self.end (edge_of c.args.upper) (map span_of c.in_ok-split.split.items) held.1 c.in_ok-split.ensures.last;
+        tells = tells_split c.args.self.end (edge_of c.args.upper) (map span_of c.in_ok-split.split.items) held.1 c.in_ok-split.ensures.last (split_full c.args.roll.now c.args.self.end (edge_of c.args.upper) c.find-lo.result c.find-hi.result (map span_of c.in_ok-split.split.items) c.len.ensures.roll c.find-hi.ensures.within c.if-hi-lo-lt-LISTED_BELOW.false
+            c.in_ok-split.ensures.exact c.find-hi.ensures.value (c.find-lo.ensures.value ∙ ap (count_below c.args.roll.now) c.end-lower.ensures.end));
         holds = held.0;
         now = e ∙ ap (λ (rs : List Range). told_more c.args.self (edge_of c.args.upper) (map span_of rs)) c.deref.ensures.value;
       })

@@ -1,8 +1,8 @@
-use Rattle.std.proofs.Common.{List, ap, map, length, refl, arith}
+use Rattle.std.proofs.Common.{List, ap, sym, subst, map, length, refl, arith}
 use Rattle.neg_codec.specs.Keys.{infinity}
 use Rattle.neg_codec.specs.Ranges.{Span}
 use Rattle.neg_codec.specs.Encoding.{text_of}
-use Rattle.neg_draft.specs.Coverage.{Written}
+use Rattle.neg_draft.specs.Coverage.{Written, NoneEmpty}
 use Rattle.neg_initiator.specs.Pairs.{pair_of}
 use Rattle.neg_initiator.proofs.Taking.{least_low, begun, told_limit}
 use Rattle.neg_initiator.proofs.initiator.Initiator.start.Goals as goal
@@ -13,7 +13,7 @@ tell_split-requires c = rw c.new.ensures least_low
 pub invariant_of-initiator : goal.invariant_of-initiator
 invariant_of-initiator c =
     let b = begun c.args.roll.now c.args.limit c.in_ok-draft.draft c.new.result c.new.ensures c.in_ok-draft.ensures.told in
-    record { roll = c.len.ensures.roll; ascends = rw c.into_message-asked.ensures.value c.into_message-asked.ensures.draft.ascends; truth = rw c.into_message-asked.ensures.value b.truth; enough = c.requires }
+    record { roll = c.len.ensures.roll; ascends = rw c.into_message-asked.ensures.value c.into_message-asked.ensures.draft.ascends; none_empty = subst NoneEmpty (sym c.into_message-asked.ensures.value) c.into_message-asked.ensures.draft.none_empty; truth = rw c.into_message-asked.ensures.value b.truth; enough = c.requires }
 
 pub returns : goal.returns
 returns c =
@@ -23,7 +23,7 @@ returns c =
       limit_is = refl;
       most = refl;
       phase = refl;
-      sound = record { roll = c.len.ensures.roll; ascends = rw c.into_message-asked.ensures.value c.into_message-asked.ensures.draft.ascends; truth = rw c.into_message-asked.ensures.value b.truth; enough = c.requires };
+      sound = record { roll = c.len.ensures.roll; ascends = rw c.into_message-asked.ensures.value c.into_message-asked.ensures.draft.ascends; none_empty = subst NoneEmpty (sym c.into_message-asked.ensures.value) c.into_message-asked.ensures.draft.none_empty; truth = rw c.into_message-asked.ensures.value b.truth; enough = c.requires };
       spelled = c.in_ok-text.ensures.spelled;
       short = omega (
         arith,

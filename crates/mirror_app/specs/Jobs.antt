@@ -1,0 +1,64 @@
+-- Which job the words name, what it writes, and how the program ends.
+use Rattle.std.specs.Prelude.{◌≡◌, ◌≢◌, ◌⊎◌, ℕ, List, [], ◌∷◌, ◌++◌, codes, Option, IfSome, string_bytes}
+use Rattle.mirror_run.specs.declared.refusal.Refusal.{Refusal}
+use Rattle.mirror_run.specs.declared.refusal.Refusal.TheVariants.{Write, Memory as NoMemory}
+use Rattle.mirror_run.specs.Reconciled.{IsPrinted, IsReconRefusal}
+use Rattle.mirror_run.specs.RefusalText.{refusal_text}
+use Rattle.plan_run.specs.Jobs.{IsPlanWritten, IsPlanRefusal, IsLeastWritten, IsCheckRefusal}
+use Rattle.clap.specs.Words.{Text, fault_of, subcommand_of}
+use Rattle.mirror_app.specs.declared.words.Words.{Words}
+use Rattle.mirror_app.specs.declared.words.Words.TheVariants.{Recon, Plan, Check}
+use Rattle.mirror_app.specs.declared.usage.WordsFault.{WordsFault}
+use Rattle.mirror_app.specs.declared.usage.WordsFault.TheVariants as fault
+use Rattle.mirror_app.specs.declared.jobs.End.{End}
+use Rattle.mirror_app.specs.declared.jobs.End.TheVariants.{Done, Refused, Usage}
+use Rattle.mirror_app.specs.CommandLine.{nostr_mirror, IsAccepted, IsNamed, IsWithin, TellsLimit}
+
+-- the words name the job
+pub record Names (words : List Text) (job : Words) : Type 0 where
+  pub accepted : IsAccepted words
+  pub named : IsNamed words job
+  pub within : IsWithin job
+  pub limit : TellsLimit (subcommand_of nostr_mirror words) job
+
+-- what the job writes of its input
+abbrev pub IsDoneBy : Words → List ℕ → Option (List ℕ) → Option (List ℕ) → Type 0
+IsDoneBy (Recon limit) input old new = IsPrinted limit input old new
+IsDoneBy Plan input old new = IsPlanWritten input old new
+IsDoneBy Check input old new = IsLeastWritten input old new
+
+-- why the job refuses its input
+abbrev pub IsRefusedBy : Words → List ℕ → Refusal → Type 0
+IsRefusedBy (Recon limit) input e = IsReconRefusal limit input e
+IsRefusedBy Plan input e = IsPlanRefusal input e
+IsRefusedBy Check input e = IsCheckRefusal input e
+
+-- The end of the program: the job that the words name was done, or refused its input, where that is known; or the words
+-- name none.
+abbrev pub EndsAs : List Text → Option (List ℕ) → Option (List ℕ) → Option (List ℕ) → End → Type 0
+EndsAs words input old new Done = (job : Words) × Names words job × IfSome input (λ text. IsDoneBy job text old new)
+EndsAs words input old new (Refused e) =
+    (e ≡ NoMemory) ⊎ ((job : Words) × Names words job × IfSome input (λ text. IsRefusedBy job text e))
+EndsAs words input old new (Usage text) = fault_of nostr_mirror words ≢ []
+
+-- only these ends leave the output other than it was
+abbrev pub MayHaveWritten : End → Type 0
+MayHaveWritten Done = Unit {0}
+MayHaveWritten (Refused e) = e ≡ Write
+MayHaveWritten (Usage text) = ⊥
+
+-- the exit status
+abbrev pub status_of : End → ℕ
+status_of Done = 0
+status_of (Refused e) = 1
+status_of (Usage text) = 2
+
+-- what stands on standard error
+abbrev pub end_text : End → List ℕ
+end_text Done = []
+end_text (Refused e) = codes "refused: " ++ refusal_text e ++ 10 ∷ []
+end_text (Usage text) = string_bytes text
+
+abbrev pub end_of : WordsFault → End
+end_of (fault.Usage text) = Usage text
+end_of fault.Memory = Refused NoMemory

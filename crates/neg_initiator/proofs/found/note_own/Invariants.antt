@@ -1,0 +1,6 @@
+use Rattle.std.proofs.Common.{take}
+use Rattle.neg_initiator.specs.Notes.{Notes}
+use Rattle.neg_initiator.proofs.found.note_own.Given as goal
+
+abbrev pub invariant-loop-id : goal.invariant-loop-id
+invariant-loop-id l = Notes l.others.keys (take l.id-index l.own) l.initial.into.keys l.into.keys

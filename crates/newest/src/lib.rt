@@ -1,0 +1,14 @@
+//! Events in the order in which they are sent, the newest first, and choosing from their newest end.
+#![tactic(auto)]
+
+mod choice;
+mod ends;
+mod growth;
+mod node;
+mod order;
+
+pub use choice::choose;
+pub use order::Newest;
+
+#[cfg(test)]
+mod tests;
