@@ -1,6 +1,6 @@
 //! The bases and the offers of a plan text, read as sets, without a list for each offer.
 
-ghost use Rattle.std.specs.Prelude.{◌≡◌, ◌↔◌, ◌++◌, ◌∷◌, [], ℕ, List, true, map, All, IfOk, IfSome};
+ghost use Rattle.std.specs.Prelude.{◌≡◌, ◌++◌, ◌∷◌, [], ℕ, map, All, IsTrue, IfOk, IfSome};
 ghost use Rattle.sharing.specs.Bases.{base_of, base_in, AreBases};
 ghost use Rattle.sharing.specs.Offers.{AreRelays, IsOffers, Ascend};
 ghost use Rattle.plan_check.specs.File.{AreBasesInOrder, IsBase};
@@ -29,11 +29,11 @@ fn bases_of(pairs: &[(u16, u64)]) -> Option<Bases>
 {
     let mut bases = Bases::none();
     let mut next = 0;
-    for (relay, load) in pairs {
-        if *relay < next || bases.set(*relay, *load).is_err() {
+    for base in pairs {
+        if base.0 < next || bases.set(base.0, base.1).is_err() {
             return None;
         }
-        next = *relay + 1;
+        next = base.0 + 1;
     }
     Some(bases)
 }
@@ -71,7 +71,7 @@ fn parse_offer(line: &[u8]) -> Option<(Id, RelaySet)>
 /// Whether an id comes behind the ids of these offers.
 fn comes_behind(offers: &[(Id, RelaySet)], id: &Id) -> bool
     requires { Ascend (map (λ o. o.0) offers.now) }
-    ensures { (result ≡ true) ↔ Ascend (map (λ o. o.0) offers.now ++ id.now ∷ []) }
+    ensures { IsTrue result → Ascend (map (λ o. o.0) offers.now ++ id.now ∷ []) }
 {
     match offers.split_last() {
         Some((last, _)) => last.0.cmp(id).is_lt(),
