@@ -3,6 +3,7 @@ use Rattle.std.proofs.Common.{◌≡◌, ℕ, ◌+◌, ◌≤◌, List, [], ◌�
 use Rattle.std.specs.Prelude.{OnOk}
 use Rattle.std.specs.Option.{IfSome}
 use Rattle.std.specs.Io.KnownBytes.{Appends}
+use Rattle.std.proofs.lemmas.List.Sums.{sum_by-cons}
 use Rattle.neg_codec.specs.declared.Id.{Id}
 use Rattle.sharing.specs.Bases.{base_of, base_in}
 use Rattle.sharing.specs.Sharing.{load, Shows}
@@ -25,7 +26,7 @@ use Rattle.plan_run.proofs.Written.{Appends-same}
 module _ (a b : ℕ → ℕ) (same : (r : ℕ) → a r ≡ b r) where
   sum_same : (group : List ℕ) → sum_by a group ≡ sum_by b group
   sum_same [] = refl
-  sum_same (r ∷ rs) = ap (λ n. n + sum_by a rs) (same r) ∙ ap (λ n. b r + n) (sum_same rs)
+  sum_same (r ∷ rs) = omega (arith, same r, sum_same rs, sum_by-cons a r rs, sum_by-cons b r rs)
 
   module _ (f : Id → ℕ) (offers : List (Id × List ℕ)) where
     load_same : (r : ℕ) → load a f offers r ≡ load b f offers r

@@ -30,9 +30,12 @@ fn bases_of(pairs: &[(u16, u64)]) -> Option<Bases>
     let mut bases = Bases::none();
     let mut next = 0;
     for base in pairs {
-        if base.0 < next || bases.set(base.0, base.1).is_err() {
+        if base.0 < next {
             return None;
         }
+        let Ok(()) = bases.set(base.0, base.1) else {
+            return None;
+        };
         next = base.0 + 1;
     }
     Some(bases)
