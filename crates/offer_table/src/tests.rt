@@ -147,10 +147,16 @@ fn loads_to_begin_with(rt: HostRuntime) -> Result<(), Fail> {
 
 /// The fault of a merge that hands both tables back as they were.
 fn refused(a: OfferTable, b: OfferTable) -> Option<OfferFault> {
-    let (many, few) = (a.ids().count(), b.ids().count());
+    let (many, few) = (a.list().len(), b.list().len());
     match a.merge(b) {
-        Err((fault, a, b)) if a.ids().count() == many && b.ids().count() == few => Some(fault),
-        _ => None,
+        Ok(_) => None,
+        Err((fault, a, b)) => {
+            if a.list().len() == many && b.list().len() == few {
+                Some(fault)
+            } else {
+                None
+            }
+        }
     }
 }
 
@@ -230,31 +236,40 @@ fn strikes_take_single_offers(rt: HostRuntime) -> Result<(), Fail> {
     Ok(())
 }
 
+/// Ids 0 on relay 0, 0 to 3 on 1, 10 on 2, 15 and 16 on 255.
+fn some_offers(alloc: Global) -> Result<OfferTable, OfferFault> {
+    let a = merged(report(alloc, 0, 0, 1)?, report(alloc, 1, 0, 4)?)?;
+    let b = merged(report(alloc, 2, 10, 1)?, report(alloc, 255, 15, 2)?)?;
+    merged(a, b)
+}
+
 #[test]
 fn many_offers_are_left_out_at_once(rt: HostRuntime) -> Result<(), Fail> {
     let mut table = three_groups(rt.alloc())?;
-    let all = set_of(&[0, 1, 2, 255]);
-    table.leave_out(&[
-        (numbered(0), all),
-        (numbered(3), set_of(&[1])),
-        (numbered(10), set_of(&[0, 255])),
-        (numbered(15), set_of(&[255])),
-        (numbered(16), set_of(&[1])),
-        (numbered(99), all),
-    ])?;
+    let gone = some_offers(rt.alloc())?;
+    table.leave_out(gone.list())?;
     assert!(rt;
         are_groups(
             &table,
             &[
-                (&[0], &[3]),
-                (&[1], &[10]),
-                (&[0, 1], &[1, 2, 4, 5, 6, 7, 8, 9]),
-                (&[255], &[16, 17]),
-                (&[1, 255], &[11, 12, 13, 14])
+                (&[0], &[1, 2, 3]),
+                (&[0, 1], &[4, 5, 6, 7, 8, 9]),
+                (&[255], &[17]),
+                (&[1, 255], &[10, 11, 12, 13, 14])
             ]
         )
     );
     Ok(())
+}
+
+/// Whether a set has each relay.
+fn has_all(set: RelaySet) -> bool {
+    for relay in 0..RELAYS {
+        if !set.has(relay) {
+            return false;
+        }
+    }
+    true
 }
 
 #[test]
@@ -263,21 +278,16 @@ fn an_id_on_each_relay(rt: HostRuntime) -> Result<(), Fail> {
     for relay in 0..RELAYS {
         table = merged(table, report(rt.alloc(), relay, 1, 1)?)?;
     }
-    assert!(rt; table.offers(&numbered(1)).iter().count() == 256 && table.groups() == 1);
+    assert!(rt; has_all(table.offers(&numbered(1))) && table.groups() == 1);
     Ok(())
 }
 
 #[test]
 fn known_offers_make_a_table(rt: HostRuntime) -> Result<(), Fail> {
-    let offers = vec![in rt.alloc();
-        (numbered(1), set_of(&[3])),
-        (numbered(2), set_of(&[0, 255])),
-    ]?;
+    let known = three_groups(rt.alloc())?;
+    let offers = known.list().to_vec(rt.alloc())?;
     let table = OfferTable::of_sets(rt.alloc(), offers)?;
-    assert!(rt;
-        is_set(table.reported(), &[0, 3, 255])
-            && are_groups(&table, &[(&[3], &[1]), (&[0, 255], &[2])])
-    );
+    assert!(rt; is_set(table.reported(), &[0, 1, 255]) && are_numbered(&table));
     Ok(())
 }
 
