@@ -127,11 +127,11 @@ fn one_id_on_all_relays(rt: HostRuntime) -> Result<(), Fail> {
         all = merged(all, table_of(rt.alloc(), relay, &one)?)?;
     }
     let made = plan(rt.alloc(), &all, &Bases::none())?;
-    let mut members = 0;
+    let mut whole = true;
     for relay in 0u16..300 {
-        members += u16::from(made.group().has(relay));
+        whole = whole && made.group().has(relay) == (relay < 256);
     }
-    assert_eq!(rt; (made.len(), made.least_max(), members), (1, 1, 256));
+    assert_eq!(rt; (made.len(), made.least_max(), whole), (1, 1, true));
     Ok(())
 }
 
@@ -161,10 +161,11 @@ fn a_plan_tells_its_gives(rt: HostRuntime) -> Result<(), Fail> {
     let offers: [(u8, &[u16]); 3] = [(12, &[1, 2]), (10, &[0]), (11, &[0, 1])];
     let bases = bases_of(&[(2, 5)])?;
     let made = plan(rt.alloc(), &table(rt.alloc(), &offers, 3)?, &bases)?;
+    assert_eq!(rt; made.len(), 3);
     let cells = [made.cell(0), made.cell(1), made.cell(2)];
     assert!(rt; cells == [(Id([10; 32]), 0), (Id([11; 32]), 0), (Id([12; 32]), 1)] || cells == [(Id([10; 32]), 0), (Id([11; 32]), 1), (Id([12; 32]), 1)]);
     assert!(rt; made.relay_of(&Id([12; 32])) == Some(1) && made.relay_of(&Id([13; 32])) == None);
-    assert_eq!(rt; (made.len(), made.least_max(), made.bases().of(2), made.load(300)), (3, 5, 5, 0));
+    assert_eq!(rt; (made.least_max(), made.bases().of(2), made.load(300)), (5, 5, 0));
     Ok(())
 }
 
