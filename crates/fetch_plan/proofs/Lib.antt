@@ -1,13 +1,5 @@
-pub mod Halves
-pub mod Trails
-pub mod Moves
+pub mod Readers
+pub mod Reached
 pub mod Walks
-pub mod Settling
-pub mod Members
-pub mod Gives
-pub mod Shared
+pub mod Moves
 pub mod Planned
-pub mod Searched
-pub mod Counted
-pub mod Hands
-pub mod Decks

@@ -3,7 +3,7 @@ use Rattle.std.proofs.Common.{◌≡◌, ◌≢◌, ℕ, ◌+◌, ◌-◌, ◌*�
 use Rattle.std.proofs.Math.Nat.{mul-le-mul_left}
 use Rattle.std.proofs.lemmas.List.{get_or-set_other, length-set}
 use Rattle.std.proofs.lemmas.List.Sums.{sum_by-set}
-use Rattle.fetch_plan.specs.Trail.{squares}
+use Rattle.fetch_plan.specs.Chains.{squares}
 
 square_move : (x y d : ℕ) → 0 < d → y + 2 * d ≤ x → (x - d) * (x - d) + (y + d) * (y + d) < x * x + y * y
 square_move x y d some le =

@@ -1,185 +1,152 @@
--- From the settled shares to the promises on offers.
-use Rattle.std.proofs.Common.{◌≡◌, ℕ, ◌<◌, ◌≤◌, ◌==◌, Bool, true, cond, List, [], ◌∷◌, length, get_or, map, refl, sym, ap, ◌∙◌, subst, arith, inl, inr}
-use Rattle.sharing.specs.declared.TheConstants.{RELAYS}
-use Rattle.std.specs.List.{All, list_all}
-use Rattle.std.specs.List.Sorted.{IsStrictlySortedBy}
+-- From settled takers to the promises on offers.
+use Rattle.std.proofs.Common.{◌≡◌, ℕ, ◌+◌, ◌<◌, ◌≤◌, ◌==◌, Bool, true, cond, List, [], ◌∷◌, length, get_or, map, refl, sym, ap, ◌∙◌, subst, arith, inl, inr, ◌⊎◌, Some, zero, suc}
+use Rattle.sharing.specs.declared.TheConstants.{RELAYS, MOST_IDS}
+use Rattle.std.specs.Prelude.{count_by}
+use Rattle.std.specs.List.{All}
 use Rattle.std.proofs.lemmas.Bool.{cases_lt, ne_eqb}
-use Rattle.std.proofs.lemmas.List.{get_or-map, length-map}
-use Rattle.std.proofs.lemmas.List.Elements.{All-map, All-head, All-tail, All-nil}
-use Rattle.sharing.specs.declared.TheConstants.{MOST_IDS}
-use Rattle.sharing.specs.Offers.{Ascend, AreRelays, relay_in}
-use Rattle.sharing.proofs.Looks.{map_twice, gives_agree, load_by_gives}
-use Rattle.sharing.proofs.Orders.{All-unmap, distinct_sorted}
-use Rattle.fetch_plan.specs.Plan.{Planned, IsPlan, IsPlanOf, given_load}
+use Rattle.std.proofs.lemmas.List.{get_or-map, length-map, get_or_past}
 use Rattle.std.proofs.lemmas.List.Sums.{sum_by-cons}
-use Rattle.sharing.specs.Sharing.{is_among, load, IsSharing, IsGreatest, Shows, alone, Distinct}
+use Rattle.std.proofs.lemmas.List.Elements.{All-head, All-tail}
 use Rattle.neg_codec.specs.declared.Id.{Id}
-use Rattle.sharing.proofs.Counting.{shows_from_closed}
-use Rattle.fetch_plan.specs.Shares.{Share, given, held, no_share, is_marked, AreOffered, offers_of, IsClosedTest, IsSettled, gives_of}
+use Rattle.sharing.specs.Bases.{base_of, AreBases}
+use Rattle.sharing.specs.Sharing.{is_among, taken, load, IsSharing, IsGreatest, Shows}
+use Rattle.sharing.specs.Offers.{Ascend, AreRelays, relay_in}
 use Rattle.sharing.specs.Reached.{KeepsTo, IsLeast}
-use Rattle.fetch_plan.proofs.Shared.{offered_is, given_is, none_held}
+use Rattle.sharing.proofs.Counting.{shows_from_closed}
+use Rattle.sharing.proofs.Looks.{gives_agree, taken_by_gives, load_by_gives}
+use Rattle.sharing.proofs.Orders.{distinct_sorted}
+use Rattle.fetch_plan.specs.Plan.{Planned, IsPlan, IsPlanOf, planned_load}
+use Rattle.fetch_plan.specs.Takers.{at, offered, held, AreOffered, no_offer}
+use Rattle.fetch_plan.specs.Chains.{IsSettled}
+use Rattle.offer_table.specs.Table.{IsTable}
+use Rattle.fetch_plan.proofs.Readers.{offered_is, small_in, no_relays}
 
--- each share as the relay it is given to, with those that offer it
-abbrev pub givens : List Share → List (ℕ × List ℕ)
-givens shares = map (λ s. (s.relay, s.relays)) shares
+-- a number that is no relay takes nothing
+pub none_held : (takers : List ℕ) (r : ℕ) → ((k : ℕ) → k < length takers → at takers k < RELAYS) → RELAYS ≤ r → held takers r ≡ 0
+none_held [] r small le = refl
+none_held (x ∷ xs) r small le =
+    omega (arith, sum_by-cons (λ (x : ℕ). cond (x == r) 1 0) x xs, ap {B = ℕ} (λ b. cond b 1 0) (ne_eqb x r (λ e. absurd (omega (arith, small 0 (omega arith))))), none_held xs r (λ k lt. small (suc k) (omega arith)) le)
 
-load_givens : (shares : List Share) (r : ℕ) → load (λ x. x) (givens shares) r ≡ held shares r
-load_givens [] r = refl
-load_givens (s ∷ ss) r =
-    omega (arith, load_givens ss r, sum_by-cons (λ (p : ℕ × List ℕ). cond (p.0 == r) 1 0) (s.relay, s.relays) (givens ss), sum_by-cons (λ (x : Share). cond (x.relay == r) 1 0) s ss)
+pub held_in : (gives : List (Id × ℕ)) (r : ℕ) → held (map (λ g. g.1) gives) r ≡ count_by (λ g. g.1 == r) gives
+held_in [] r = refl
+held_in (g ∷ gs) r = omega (arith, held_in gs r, sum_by-cons (λ (x : ℕ). cond (x == r) 1 0) g.1 (map (λ g. g.1) gs), sum_by-cons (λ (g : Id × ℕ). cond (g.1 == r) 1 0) g gs)
 
-alone_givens : (shares : List Share) (group : List ℕ) → alone group (givens shares) ≡ alone group (offers_of shares)
-alone_givens [] group = refl
-alone_givens (s ∷ ss) group =
-    omega (
-      arith,
-      alone_givens ss group,
-      sum_by-cons (λ (p : ℕ × List ℕ). cond (list_all (is_among group) p.1) 1 0) (s.relay, s.relays) (givens ss),
-      sum_by-cons (λ (p : Id × List ℕ). cond (list_all (is_among group) p.1) 1 0) (s.id, s.relays) (offers_of ss),
+module _ (bases : List ℕ) (offers : List (Id × List ℕ)) (takers : List ℕ) (gives : List (Id × ℕ)) (loads : List ℕ) (group : List ℕ) (bases_ok : AreBases bases) (ordered : Ascend (map (λ p. p.0) offers)) (offered_ok : AreOffered offers takers)
+    (ids : map (λ g. g.0) gives ≡ map (λ o. o.0) offers) (taken_ok : map (λ g. g.1) gives ≡ takers) (loads_ok : (r : ℕ) → r < RELAYS → at loads r ≡ base_of bases r + held takers r) where
+  abbrev pub f : Id → ℕ
+  f = relay_in gives
+
+  ascend : Ascend (map (λ g. g.0) gives)
+  ascend = subst Ascend (sym ids) ordered
+
+  long : length gives ≡ length takers
+  long = sym (length-map gives (λ (g : Id × ℕ). g.1)) ∙ ap (length {A = ℕ}) taken_ok
+
+  -- an offered id is given to its taker
+  agree : (k : ℕ) (d : Id × List ℕ) → k < length offers → f (get_or offers k d).0 ≡ at takers k
+  agree k d lt =
+      let i : Id = (get_or offers k d).0 in
+      let fits : k < length gives = omega (arith, long, offered_ok.long) in
+      let id_o : get_or (map (λ o. o.0) offers) k i ≡ i = get_or-map (λ (o : Id × List ℕ). o.0) offers k d i lt in
+      let id_g : get_or (map (λ g. g.0) gives) k i ≡ (get_or gives k (i, 0)).0 = get_or-map (λ (g : Id × ℕ). g.0) gives k (i, 0) i fits in
+      let same : (get_or gives k (i, 0)).0 ≡ i = sym id_g ∙ ap (λ xs. get_or xs k i) ids ∙ id_o in
+      let to : get_or (map (λ g. g.1) gives) k 0 ≡ (get_or gives k (i, 0)).1 = get_or-map (λ (g : Id × ℕ). g.1) gives k (i, 0) 0 fits in
+      ap f (sym same) ∙ gives_agree gives ascend k (i, 0) fits ∙ sym to ∙ ap (λ xs. at xs k) taken_ok
+
+  pub load_is : (r : ℕ) → load (base_of bases) f offers r ≡ base_of bases r + count_by (λ g. g.1 == r) gives
+  load_is r = load_by_gives (base_of bases) f offers gives r (sym ids) (gives_agree gives ascend)
+
+  held_is : (r : ℕ) → count_by (λ g. g.1 == r) gives ≡ held takers r
+  held_is r = sym (held_in gives r) ∙ ap (λ xs. held xs r) taken_ok
+
+  load_at : (r : ℕ) → r < RELAYS → load (base_of bases) f offers r ≡ at loads r
+  load_at r lt = omega (arith, load_is r, held_is r, loads_ok r lt)
+
+  load_past : (r : ℕ) → RELAYS ≤ r → load (base_of bases) f offers r ≡ 0
+  load_past r le = omega (arith, load_is r, held_is r, none_held takers r offered_ok.small le, get_or_past bases r 0 (omega (arith, bases_ok.long)))
+
+  sharing : IsSharing f offers
+  sharing k d lt = ap (is_among (get_or offers k d).1) (agree k d lt) ∙ ap (λ rs. is_among rs (at takers k)) (sym (offered_is offers k (get_or offers k d) d lt refl)) ∙ offered_ok.offer k (omega (arith, offered_ok.long))
+
+  module _ (most : ℕ) (h : IsSettled offers takers loads most group) where
+    greatest : IsGreatest (load (base_of bases) f offers) most
+    greatest = (
+      λ r. elim (cases_lt r RELAYS) [ inl lt ↦ omega (arith, load_at r lt, h.bound r lt) | inr ge ↦ omega (arith, load_past r ge) ],
+      (h.one.0, load_at h.one.0 h.one.1 ∙ h.one.2),
     )
 
--- what is settled shows its busiest load
-pub shows : (shares : List Share) (most : ℕ) (marked : List Bool) (group : List ℕ) → AreOffered shares → 0 < most → IsSettled shares most marked → Distinct group → ((r : ℕ) → is_among group r ≡ is_marked marked r) → Shows group (offers_of shares) most
-shows shares most marked group offers some h distinct same =
-    let one : ℕ = h.greatest.1.0 in
-    let is : held shares one ≡ most = h.greatest.1.1 in
-    let small : one < RELAYS = elim (cases_lt one RELAYS) [ inl lt ↦ lt | inr ge ↦ absurd (omega (arith, none_held shares one offers.small ge, is)) ] in
-    let keeps : All (λ (p : ℕ × List ℕ). is_among group p.0 ≡ true → (r : ℕ) → is_among p.1 r ≡ true → is_among group r ≡ true) (givens shares) =
-    All-map (λ (p : ℕ × List ℕ). is_among group p.0 ≡ true → (r : ℕ) → is_among p.1 r ≡ true → is_among group r ≡ true) (λ (s : Share). (s.relay, s.relays)) shares
-    (λ k d lt m r among. same r ∙ h.closed k r lt
-    (sym (same (given shares k)) ∙ ap (is_among group) (given_is shares k (get_or shares k d) d lt refl) ∙ m)
-    (ap (λ rs. is_among rs r) (offered_is shares k (get_or shares k d) d lt refl) ∙ among)) in
-    let found : Shows group (givens shares) most =
-    shows_from_closed (λ x. x) (givens shares) group most one distinct keeps (λ r m. omega (arith, h.high r (sym (same r) ∙ m), load_givens shares r)) some (same one ∙ h.busiest one small is) (load_givens shares one ∙ is) in
-    elim found [
-      | inl none ↦ inl none
-      | inr more ↦ inr (more.0, omega (arith, more.1, alone_givens shares group))
-    ]
+    keeps : KeepsTo f offers (is_among group)
+    keeps k d lt m r among =
+        h.closed k r (omega (arith, offered_ok.long)) (ap (is_among group) (sym (agree k d lt)) ∙ m) (ap (λ rs. is_among rs r) (offered_is offers k (get_or offers k d) d lt refl) ∙ among)
 
--- f takes each id to the relay that it is given to
-abbrev pub Agrees : (Id → ℕ) → List Share → Type 0
-Agrees f shares = All (λ s. f s.id ≡ s.relay) shares
+    -- a test that moves by f keep is kept by moves of the takers
+    kept : (test : ℕ → Bool) → KeepsTo f offers test → (k r : ℕ) → k < length takers → test (at takers k) ≡ true → is_among (offered offers k) r ≡ true → test r ≡ true
+    kept test keeps k r lt t among =
+        let fits : k < length offers = omega (arith, offered_ok.long) in
+        keeps k no_offer fits (ap test (agree k no_offer fits) ∙ t) r (ap (λ rs. is_among rs r) (sym (offered_is offers k (get_or offers k no_offer) no_offer fits refl)) ∙ among)
 
-module _ (f : Id → ℕ) where
-  load_agrees : (shares : List Share) → Agrees f shares → (r : ℕ) → load f (offers_of shares) r ≡ held shares r
-  load_agrees [] agrees r = refl
-  load_agrees (s ∷ ss) agrees r =
-      omega (
-        arith,
-        load_agrees ss (All-tail (λ (s : Share). f s.id ≡ s.relay) s ss agrees) r,
-        sum_by-cons (λ (p : Id × List ℕ). cond (f p.0 == r) 1 0) (s.id, s.relays) (offers_of ss),
-        sum_by-cons (λ (x : Share). cond (x.relay == r) 1 0) s ss,
-        ap {B = ℕ} (λ x. cond (x == r) 1 0) (All-head (λ (s : Share). f s.id ≡ s.relay) s ss agrees),
-      )
+    pub least_over : 0 < most → IsLeast (base_of bases) f offers most group
+    least_over some = record {
+      sharing = sharing;
+      greatest = greatest;
+      shows = shows_from_closed (base_of bases) f offers group most h.one.0 (distinct_sorted group h.relays.ascend) keeps (λ r m. omega (arith, h.high r m, load_at r (small_in group r h.relays m))) some (h.busiest h.one.0 h.one.1 h.one.2) (load_at h.one.0 h.one.1 ∙ h.one.2);
+      reached = λ _. record {
+        busiest = λ r e. elim (cases_lt r RELAYS) [ inl lt ↦ h.busiest r lt (sym (load_at r lt) ∙ e) | inr ge ↦ absurd (omega (arith, load_past r ge, e)) ];
+        keeps = keeps;
+        least = λ test begin on r m. h.least test (λ r lt e. begin r (load_at r lt ∙ e)) (kept test on) r m;
+      };
+      none = λ e. absurd (omega arith);
+    }
 
-  sharing_agrees : (shares : List Share) → Agrees f shares → AreOffered shares → IsSharing f (offers_of shares)
-  sharing_agrees shares agrees offers =
-      All-map (λ (p : Id × List ℕ). is_among p.1 (f p.0) ≡ true) (λ (s : Share). (s.id, s.relays)) shares
-      (λ k d lt. ap (is_among (get_or shares k d).relays) (agrees k d lt ∙ sym (given_is shares k (get_or shares k d) d lt refl))
-      ∙ ap (λ rs. is_among rs (given shares k)) (sym (offered_is shares k (get_or shares k d) d lt refl)) ∙ offers.offer k lt)
+    -- a greatest load of 0 needs no group
+    pub least_none : most ≡ 0 → IsLeast (base_of bases) f offers most []
+    least_none none = record {
+      sharing = sharing;
+      greatest = greatest;
+      shows = inl none;
+      reached = λ some. absurd (omega arith);
+      none = λ e. refl;
+    }
 
-  keeps_agrees : (shares : List Share) (test : ℕ → Bool) → Agrees f shares → IsClosedTest shares test → KeepsTo f (offers_of shares) test
-  keeps_agrees shares test agrees closed =
-      All-map (λ (p : Id × List ℕ). test (f p.0) ≡ true → (r : ℕ) → is_among p.1 r ≡ true → test r ≡ true) (λ (s : Share). (s.id, s.relays)) shares
-      (λ k d lt m r among. closed k r lt
-      (ap test (given_is shares k (get_or shares k d) d lt refl ∙ sym (agrees k d lt)) ∙ m)
-      (ap (λ rs. is_among rs r) (offered_is shares k (get_or shares k d) d lt refl) ∙ among))
-
-  -- a test that moves by f keep is kept by moves of the shares
-  closed_agrees : (shares : List Share) (test : ℕ → Bool) → Agrees f shares → KeepsTo f (offers_of shares) test → IsClosedTest shares test
-  closed_agrees shares test agrees keeps k r lt m among =
-      let s : Share = get_or shares k no_share in
-      let pair : get_or (offers_of shares) k (s.id, s.relays) ≡ (s.id, s.relays) = get_or-map (λ (s : Share). (s.id, s.relays)) shares k no_share (s.id, s.relays) lt in
-      let here : test (f s.id) ≡ true → (r : ℕ) → is_among s.relays r ≡ true → test r ≡ true =
-      subst (λ (p : Id × List ℕ). test (f p.0) ≡ true → (r : ℕ) → is_among p.1 r ≡ true → test r ≡ true) pair (keeps k (s.id, s.relays) (omega (arith, length-map {A = Share} {B = Id × List ℕ}))) in
-      here (ap test (agrees k no_share lt ∙ sym (given_is shares k s no_share lt refl)) ∙ m) r (ap (λ rs. is_among rs r) (sym (offered_is shares k s no_share lt refl)) ∙ among)
-
-  pub is_least : (shares : List Share) (most : ℕ) (marked : List Bool) (group : List ℕ) → AreOffered shares → 0 < most → IsSettled shares most marked → Distinct group → ((r : ℕ) → is_among group r ≡ is_marked marked r) → Agrees f shares → IsLeast f (offers_of shares) most group
-  is_least shares most marked group offers some h distinct same agrees =
-      let busy : (r : ℕ) → held shares r ≡ most → r < RELAYS = λ r e. elim (cases_lt r RELAYS) [ inl lt ↦ lt | inr ge ↦ absurd (omega (arith, none_held shares r offers.small ge, e)) ] in
-      record {
-        sharing = sharing_agrees shares agrees offers;
-        greatest = (λ r. omega (arith, load_agrees shares agrees r, h.greatest.0 r), (h.greatest.1.0, load_agrees shares agrees h.greatest.1.0 ∙ h.greatest.1.1));
-        shows = shows shares most marked group offers some h distinct same;
-        none = λ e. absurd (omega arith);
-        reached = λ _. record {
-          busiest = λ r e. (let held_is : held shares r ≡ most = sym (load_agrees shares agrees r) ∙ e in same r ∙ h.busiest r (busy r held_is) held_is);
-          keeps = keeps_agrees shares (is_among group) agrees (λ k r lt m among. same r ∙ h.closed k r lt (sym (same (given shares k)) ∙ m) among);
-          least = λ test begin keeps r m. h.least test (λ r e. begin r (load_agrees shares agrees r ∙ e)) (closed_agrees shares test agrees keeps) r (sym (same r) ∙ m);
-        };
-      }
-
--- two greatest loads are one
-pub one_greatest : (loads : ℕ → ℕ) (a b : ℕ) → IsGreatest loads a → IsGreatest loads b → a ≡ b
-one_greatest loads a b h g = omega (arith, h.0 g.1.0, g.1.1, g.0 h.1.0, h.1.1)
-
--- the ids of shares
-ids_of_shares : (shares : List Share) → map (λ g. g.0) (gives_of shares) ≡ map (λ p. p.0) (offers_of shares)
-ids_of_shares shares = map_twice (λ (g : Id × ℕ). g.0) (λ (s : Share). (s.id, s.relay)) shares ∙ sym (map_twice (λ (p : Id × List ℕ). p.0) (λ (s : Share). (s.id, s.relays)) shares)
-
-relays_small : (shares : List Share) → AreOffered shares → All (λ g. g.1 < RELAYS) (gives_of shares)
-relays_small shares offers =
-    All-map (λ (g : Id × ℕ). g.1 < RELAYS) (λ (s : Share). (s.id, s.relay)) shares
-    (λ k d lt. subst (λ r. r < RELAYS) (given_is shares k (get_or shares k d) d lt refl) (offers.small k lt))
-
-module _ (offers : List (Id × List ℕ)) (shares : List Share) (most : ℕ) (group : List ℕ) (same : offers_of shares ≡ offers) (ordered : Ascend (map (λ p. p.0) offers)) (few : length offers ≤ MOST_IDS) (given_ok : AreOffered shares) (relays : AreRelays group) where
-  abbrev pub made : Planned
-  made = record { gives = gives_of shares; least_max = most; group = group }
-
-  ids_same : map (λ g. g.0) (gives_of shares) ≡ map (λ p. p.0) offers
-  ids_same = ids_of_shares shares ∙ ap (map (λ p. p.0)) same
-
-  pub is_plan : IsPlan made
-  is_plan = record {
-    ascend = subst Ascend (sym ids_same) ordered;
-    few = omega (arith, few, ap length same, length-map {A = Share} {B = Id × List ℕ}, length-map {A = Share} {B = Id × ℕ});
-    relays = relays_small shares given_ok;
-    group_ok = relays;
-  }
-
-  agrees_gives : Agrees (relay_in (gives_of shares)) shares
-  agrees_gives = All-unmap (λ (g : Id × ℕ). relay_in (gives_of shares) g.0 ≡ g.1) (λ (s : Share). (s.id, s.relay)) shares (gives_agree (gives_of shares) is_plan.ascend)
-
-  pub is_plan_of : IsLeast (relay_in (gives_of shares)) offers most group → IsPlanOf offers made
-  is_plan_of least = record {
-    ids = ids_same;
-    loads = λ r. load_by_gives (relay_in (gives_of shares)) offers (gives_of shares) r (sym ids_same) (gives_agree (gives_of shares) is_plan.ascend);
+  pub is_plan_of : (most : ℕ) (of : List ℕ) → length offers ≤ MOST_IDS → AreRelays of → IsLeast (base_of bases) f offers most of → IsPlanOf bases offers (record { bases = bases; gives = gives; least_max = most; group = of })
+  is_plan_of most of few relays least = record {
+    bases_same = refl;
+    ids = ids;
+    loads = load_is;
     least = least;
-    plan_ok = is_plan;
+    plan_ok = record {
+      bases_ok = bases_ok;
+      ascend = ascend;
+      few = omega (arith, long, offered_ok.long, few);
+      relays = λ k d lt. subst (λ r. r < RELAYS) (ap (λ xs. at xs k) (sym taken_ok) ∙ get_or-map (λ (g : Id × ℕ). g.1) gives k d 0 lt) (offered_ok.small k (omega (arith, long)));
+      group_ok = relays;
+    };
   }
 
-  pub settled_plan : (marked : List Bool) → 0 < most → IsSettled shares most marked → ((r : ℕ) → is_among group r ≡ is_marked marked r) → IsPlanOf offers made
-  settled_plan marked some h members =
-      is_plan_of (subst (λ os. IsLeast (relay_in (gives_of shares)) os most group) same
-      (is_least (relay_in (gives_of shares)) shares most marked group given_ok some h (distinct_sorted group relays.ascend) members agrees_gives))
-
--- where nothing is offered
-pub nothing_least : (f : Id → ℕ) → IsLeast f [] 0 []
-nothing_least f = record {
-  sharing = All-nil (λ (p : Id × List ℕ). is_among p.1 (f p.0) ≡ true);
-  greatest = (λ r. omega arith, (0, refl));
-  shows = inl refl;
-  reached = λ lt. absurd (omega arith);
-  none = λ e. refl;
-}
-
-pub no_relays : AreRelays []
-unfolding IsStrictlySortedBy
-no_relays = record { ascend = tt; small = All-nil (λ r. r < RELAYS) }
-
-pub nothing : {X : Type 0} (xs : List X) → length xs ≡ 0 → xs ≡ []
-nothing [] e = refl
-nothing (x ∷ xs) e = absurd (omega arith)
-
-pub nothing_planned : (offers : List (Id × List ℕ)) (shares : List Share) (group : List ℕ) → offers_of shares ≡ offers → Ascend (map (λ p. p.0) offers) → length offers ≤ MOST_IDS → AreOffered shares → length shares ≡ 0 → group ≡ [] → IsPlanOf offers (record { gives = gives_of shares; least_max = 0; group = group })
-nothing_planned offers shares group same ordered few given_ok none e =
-    let empty : offers ≡ [] = sym same ∙ ap offers_of (nothing shares none) in
-    let least : IsLeast (relay_in (gives_of shares)) offers 0 group =
-    subst (λ g. IsLeast (relay_in (gives_of shares)) offers 0 g) (sym e) (subst (λ os. IsLeast (relay_in (gives_of shares)) os 0 []) (sym empty) (nothing_least (relay_in (gives_of shares)))) in
-    is_plan_of offers shares 0 group same ordered few given_ok (subst AreRelays (sym e) no_relays) least
-
-pub none_given : (gives : List (Id × ℕ)) (r : ℕ) → All (λ g. g.1 < RELAYS) gives → RELAYS ≤ r → 0 ≡ given_load gives r
+none_given : (gives : List (Id × ℕ)) (r : ℕ) → All (λ g. g.1 < RELAYS) gives → RELAYS ≤ r → count_by (λ g. g.1 == r) gives ≡ 0
 none_given [] r h le = refl
 none_given (g ∷ gs) r h le =
     let head : g.1 < RELAYS = All-head (λ (g : Id × ℕ). g.1 < RELAYS) g gs h in
     omega (arith, none_given gs r (All-tail (λ (g : Id × ℕ). g.1 < RELAYS) g gs h) le, sum_by-cons (λ (g : Id × ℕ). cond (g.1 == r) 1 0) g gs, ap {B = ℕ} (λ b. cond b 1 0) (ne_eqb g.1 r (λ e. absurd (omega arith))))
+
+-- a number that is no relay has no load
+pub none_planned : (plan : Planned) (r : ℕ) → IsPlan plan → RELAYS ≤ r → 0 ≡ planned_load plan r
+none_planned plan r h le = omega (arith, none_given plan.gives r h.relays le, get_or_past plan.bases r 0 (omega (arith, h.bases_ok.long)))
+
+-- what is settled is a plan
+pub planned : (bases : List ℕ) (offers : List (Id × List ℕ)) (takers : List ℕ) (gives : List (Id × ℕ)) (loads reached group : List ℕ) (least_max : ℕ) → AreBases bases → IsTable (record { reported = []; offers = offers }) → AreOffered offers takers →
+    map (λ g. g.0) gives ≡ map (λ o. o.0) offers → map (λ g. g.1) gives ≡ takers → ((r : ℕ) → r < RELAYS → at loads r ≡ base_of bases r + held takers r) → (most : ℕ) × IsSettled offers takers loads most reached →
+    ((r : ℕ) → r < RELAYS → at loads r ≤ least_max) → (r : ℕ) × (r < RELAYS) × (at loads r ≡ least_max) → ((least_max ≡ 0) × (group ≡ [])) ⊎ ((0 < least_max) × (group ≡ reached)) →
+    IsPlanOf bases offers (record { bases = bases; gives = gives; least_max = least_max; group = group })
+planned bases offers takers gives loads reached group least_max bases_ok table offered_ok ids taken_ok loads_ok found bound one which =
+    let h : IsSettled offers takers loads found.0 reached = found.1 in
+    let e : found.0 ≡ least_max = omega (arith, h.bound one.0 one.1, one.2, bound h.one.0 h.one.1, h.one.2) in
+    let same : IsSettled offers takers loads least_max reached = subst (λ most. IsSettled offers takers loads most reached) e h in
+    elim which [
+      | inl none ↦ subst (λ g. IsPlanOf bases offers (record { bases = bases; gives = gives; least_max = least_max; group = g })) (sym none.1)
+          (is_plan_of bases offers takers gives loads reached bases_ok table.offers_ok.ascend offered_ok ids taken_ok loads_ok least_max [] table.few no_relays
+          (least_none bases offers takers gives loads reached bases_ok table.offers_ok.ascend offered_ok ids taken_ok loads_ok least_max same none.0))
+      | inr some ↦ subst (λ g. IsPlanOf bases offers (record { bases = bases; gives = gives; least_max = least_max; group = g })) (sym some.1)
+          (is_plan_of bases offers takers gives loads reached bases_ok table.offers_ok.ascend offered_ok ids taken_ok loads_ok least_max reached table.few same.relays
+          (least_over bases offers takers gives loads reached bases_ok table.offers_ok.ascend offered_ok ids taken_ok loads_ok least_max same some.0))
+    ]

@@ -1,240 +1,52 @@
-//! Chains of moves: from a busiest relay, along groups that the next relay offers too, to one with so many
-//! fewer that moving as many ids along the whole chain evens the two out. At first many ids move at once,
-//! then half as many, and at last single ones.
+//! Chains of single moves: from a busiest relay, each time to one that offers an id which the one before it is
+//! given, to a relay with at least two fewer. Where no chain leads to such a relay, no sharing has a smaller busiest
+//! load, and the relays that chains reach show it. This holds however the sharing was found.
 
-ghost use Rattle.std.specs.Prelude.{◌≡◌, ◌≢◌, ◌≤◌, ◌<◌, ◌+◌, ◌*◌, ◌^◌, ◌==◌, true, ℕ, List, length, OnOk, IfOk, IfSome, IfNone, slice_index, false, None, cond};
-ghost use Rattle.std.specs.List.{sum, All};
+ghost use Rattle.std.specs.Prelude.{◌≡◌, ◌≤◌, ◌<◌, ◌+◌, ◌==◌, true, false, ℕ, List, length, slice_index_or, cond, IfOk, OnOk, IfSome, IfNone};
 ghost use Rattle.sharing.specs.Sharing.{is_among};
-ghost use Rattle.fetch_plan.specs.declared.groups.Group.{Group};
-ghost use Rattle.fetch_plan.specs.Shares.{is_marked};
-ghost use Rattle.fetch_plan.specs.Groups.{amount, shared_by, AreSets, AreLarge, AreGiven, AreSame, AreLoadsOf, IsMoved};
-ghost use Rattle.fetch_plan.specs.Trail.{relay_at, IsTrail, AreMarked, Extends, StayMarked, IsClosedAt, PassesOn, AreStarts, from_at, squares, AreSettled};
+ghost use Rattle.sharing.specs.Offers.{AreRelays};
+ghost use Rattle.fetch_plan.specs.Takers.{at, offered, AreOffered, IsMoved, KeepPace};
+ghost use Rattle.fetch_plan.specs.Chains.{set_at, LeadsBelow, IsBeyond, AreReached, IsClosed, IsLow, IsSettled, Begins, PassesOn, squares};
 
-use crate::groups::Group;
-use crate::levels::{Level, counts_of, level_of, most_of, sets_of};
+use neg_codec::Id;
 use offer_table::RelaySet;
 use sharing::{RELAYS, SLOTS};
 use std::alloc::{AllocError, Global};
 
-/// How a step was found: from an earlier step, by the group at a place.
-#[derive(Clone, Copy)]
-struct Link {
-    parent: usize,
-    place: usize,
-}
-
-/// A relay that chains of moves reach.
-#[derive(Clone, Copy)]
-struct Step {
-    relay: u16,
-    from: Option<Link>,
-}
-
-/// Adds the relays of one group that are not on the trail yet.
-fn add_steps(
-    enough: u64,
-    groups: &[Group],
-    link: Link,
-    steps: &mut Vec<Step>,
-    marked: &mut [bool; SLOTS],
-) -> Result<(), AllocError>
-    requires placed { link.place < length groups.now }
-    requires parent { link.parent < length steps.old.items }
-    requires giver { enough ≤ amount groups.now link.place (relay_at steps.old.items link.parent) }
-    requires trail { IsTrail enough groups.now steps.old.items }
-    requires marks { AreMarked steps.old.items marked.old }
-    ensures trail { OnOk result (IsTrail enough groups.now steps.new.items) }
-    ensures marks { OnOk result (AreMarked steps.new.items marked.new) }
-    ensures extends { OnOk result (Extends steps.old.items steps.new.items) }
-    ensures stay { OnOk result (StayMarked marked.old marked.new) }
-    ensures reached { OnOk result ((r : ℕ) → is_among (shared_by groups.now link.place) r ≡ true → is_marked marked.new r ≡ true) }
+/// A set for each relay, all of them empty.
+fn no_sets(alloc: Global) -> Result<Vec<RelaySet>, AllocError>
+    ensures none { IfOk result (λ sets. (r s : ℕ) → is_among (set_at sets.items r) s ≡ false) }
+    ensures long { IfOk result (λ sets. length sets.items ≡ SLOTS) }
 {
-    let relays = groups[link.place].relays;
-    for relay in 0..RELAYS {
-        let slot = usize::from(relay);
-        if relays.has(relay) && !marked[slot] {
-            marked[slot] = true;
-            steps.push(Step {
-                relay,
-                from: Some(link),
-            })?;
-        }
+    let mut sets = Vec::with_capacity(alloc, SLOTS)?;
+    'sets: while sets.len() < SLOTS {
+        sets.push(RelaySet::empty())?;
     }
-    Ok(())
+    Ok(sets)
 }
 
-/// The relays that are not marked.
-fn unmarked(marked: &[bool; SLOTS]) -> RelaySet
-    ensures { (r : ℕ) → r < RELAYS → is_marked marked.now r ≡ false → is_among result r ≡ true }
-{
-    let mut relays = RelaySet::empty();
-    for relay in 0..RELAYS {
-        if !marked[usize::from(relay)] {
-            relays = relays.with(relay);
-        }
-    }
-    relays
-}
-
-/// Adds all relays that offer a group of which enough ids are given to the relay of the step at `next`.
-fn add_from(
-    level: &Level,
-    sets: &[RelaySet],
-    groups: &[Group],
-    next: usize,
-    steps: &mut Vec<Step>,
-    marked: &mut [bool; SLOTS],
-) -> Result<(), AllocError>
-    requires some { 0 < level.now.some }
-    requires given { AreGiven groups.now }
-    requires large { AreLarge level.now.some groups.now level.now.places.items }
-    requires sets { AreSets groups.now sets.now }
-    requires next { next < length steps.old.items }
-    requires trail { IsTrail level.now.some groups.now steps.old.items }
-    requires marks { AreMarked steps.old.items marked.old }
-    ensures trail { OnOk result (IsTrail level.now.some groups.now steps.new.items) }
-    ensures marks { OnOk result (AreMarked steps.new.items marked.new) }
-    ensures extends { OnOk result (Extends steps.old.items steps.new.items) }
-    ensures stay { OnOk result (StayMarked marked.old marked.new) }
-    ensures closed { OnOk result (IsClosedAt level.now.some groups.now (length groups.now) (relay_at steps.old.items next) marked.new) }
-{
-    let relay = steps[next].relay;
-    let mut others = unmarked(marked);
-    for place in &level.places {
-        let set = sets[*place];
-        if set.has(relay) && set.meets(others) && groups[*place].given.get(relay) >= level.some {
-            let link = Link {
-                parent: next,
-                place: *place,
-            };
-            add_steps(level.some, groups, link, steps, marked)?;
-            others = unmarked(marked);
-        }
-    }
-    Ok(())
-}
-
-/// The first steps: the relays whose load is the greatest, and their marks.
-fn first_steps(
+/// For each relay the relays that offer an id which it is given.
+fn beyond_of(
     alloc: Global,
-    loads: &[u64; SLOTS],
-    most: u64,
-    marked: &mut [bool; SLOTS],
-) -> Result<Vec<Step>, AllocError>
-    requires { (r : ℕ) → is_marked marked.old r ≡ false }
-    ensures trail { IfOk result (λ steps. (enough : ℕ) (groups : List Group) → IsTrail enough groups steps.items) }
-    ensures marks { IfOk result (λ steps. AreMarked steps.items marked.new) }
-    ensures starts { IfOk result (λ steps. AreStarts loads.now most steps.items) }
-    ensures all { OnOk result ((r : ℕ) → r < RELAYS → slice_index loads.now r ≡ most → is_marked marked.new r ≡ true) }
+    offers: &[(Id, RelaySet)],
+    takers: &[u16],
+) -> Result<Vec<RelaySet>, AllocError>
+    requires { AreOffered offers.now takers.now }
+    ensures beyond { IfOk result (λ beyond. IsBeyond offers.now takers.now (length takers.now) beyond.items) }
+    ensures long { IfOk result (λ beyond. length beyond.items ≡ SLOTS) }
 {
-    let mut steps = Vec::new(alloc);
-    for relay in 0..RELAYS {
-        let slot = usize::from(relay);
-        if loads[slot] == most {
-            marked[slot] = true;
-            steps.push(Step { relay, from: None })?;
-        }
+    let mut beyond = no_sets(alloc)?;
+    for (place, taker) in takers.iter().enumerate() {
+        let slot = usize::from(*taker);
+        beyond[slot] = beyond[slot].union(offers[place].1);
     }
-    Ok(steps)
-}
-
-/// The first step whose relay has fewer than the busiest ones by at least twice what moves.
-fn low_step(some: u64, loads: &[u64; SLOTS], most: u64, steps: &[Step]) -> Option<usize>
-    requires small { All (λ s. s.relay < RELAYS) steps.now }
-    requires bound { (r : ℕ) → r < RELAYS → slice_index loads.now r ≤ most }
-    ensures within { IfSome result (λ k. k < length steps.now) }
-    ensures low { IfSome result (λ k. slice_index loads.now (relay_at steps.now k) + 2 * some ≤ most) }
-    ensures high { IfNone result ((k : ℕ) → k < length steps.now → most < slice_index loads.now (relay_at steps.now k) + 2 * some) }
-{
-    for (place, step) in steps.iter().enumerate() {
-        if (most - loads[usize::from(step.relay)]) / 2 >= some {
-            return Some(place);
-        }
-    }
-    None
-}
-
-/// A step whose relay has fewer than the busiest ones by at least twice what moves, or none once the steps lead
-/// nowhere else.
-fn search(
-    level: &Level,
-    sets: &[RelaySet],
-    groups: &[Group],
-    loads: &[u64; SLOTS],
-    most: u64,
-    steps: &mut Vec<Step>,
-    marked: &mut [bool; SLOTS],
-) -> Result<Option<usize>, AllocError>
-    requires some { 0 < level.now.some }
-    requires given { AreGiven groups.now }
-    requires large { AreLarge level.now.some groups.now level.now.places.items }
-    requires sets { AreSets groups.now sets.now }
-    requires bound { (r : ℕ) → r < RELAYS → slice_index loads.now r ≤ most }
-    requires trail { IsTrail level.now.some groups.now steps.old.items }
-    requires marks { AreMarked steps.old.items marked.old }
-    ensures trail { OnOk result (IsTrail level.now.some groups.now steps.new.items) }
-    ensures marks { OnOk result (AreMarked steps.new.items marked.new) }
-    ensures extends { OnOk result (Extends steps.old.items steps.new.items) }
-    ensures stay { OnOk result (StayMarked marked.old marked.new) }
-    ensures end { IfOk result (λ found. IfSome found (λ k. k < length steps.new.items)) }
-    ensures low { IfOk result (λ found. IfSome found (λ k. slice_index loads.now (relay_at steps.new.items k) + 2 * level.now.some ≤ most)) }
-    ensures closed { IfOk result (λ found. IfNone found (PassesOn level.now.some groups.now (is_marked marked.new))) }
-    ensures high { IfOk result (λ found. IfNone found ((r : ℕ) → is_marked marked.new r ≡ true → most < slice_index loads.now r + 2 * level.now.some)) }
-{
-    let mut next = 0;
-    while next < steps.len() {
-        if let Some(end) = low_step(level.some, loads, most, steps) {
-            return Ok(Some(end));
-        }
-        if steps.len() < SLOTS {
-            add_from(level, sets, groups, next, steps, marked)?;
-        }
-        next += 1;
-    }
-    Ok(None)
-}
-
-/// Some fewer for a relay, and as many more for another.
-fn shift(counts: &mut [u64; SLOTS], from: u16, to: u16, some: u64)
-    requires from { from < RELAYS }
-    requires to { to < RELAYS }
-    requires apart { from ≢ to }
-    requires enough { some ≤ slice_index counts.old from }
-    requires room { slice_index counts.old to + some < 2 ^ 64 }
-    ensures moved { (r : ℕ) → slice_index counts.new r + cond (from == r) some 0 ≡ slice_index counts.old r + cond (to == r) some 0 }
-    ensures total { sum counts.new ≡ sum counts.old }
-    ensures smaller { 0 < some → slice_index counts.old to + 2 * some ≤ slice_index counts.old from → squares counts.new < squares counts.old }
-{
-    counts[usize::from(from)] -= some;
-    counts[usize::from(to)] += some;
-}
-
-/// Moves so many ids along each link, from the step at `end` back to a step without a link, and answers that
-/// step's relay.
-fn walk(some: u64, groups: &mut [Group], steps: &[Step], end: usize) -> u16
-    requires end { end < length steps.now }
-    requires trail { IsTrail some groups.old steps.now }
-    requires given { AreGiven groups.old }
-    ensures start { (k : ℕ) × (k < length steps.now) × (from_at steps.now k ≡ None) × (relay_at steps.now k ≡ result) }
-    ensures moved { IsMoved groups.old groups.new result (relay_at steps.now end) some }
-    ensures same { AreSame groups.old groups.new }
-    ensures given { AreGiven groups.new }
-{
-    let mut at = end;
-    while let Some(link) = steps[at].from {
-        let group = &mut groups[link.place];
-        group
-            .given
-            .shift(steps[link.parent].relay, steps[at].relay, some);
-        at = link.parent;
-    }
-    steps[at].relay
+    Ok(beyond)
 }
 
 /// The greatest load.
 pub(crate) fn greatest(loads: &[u64; SLOTS]) -> u64
-    ensures bound { (r : ℕ) → r < RELAYS → slice_index loads.now r ≤ result }
-    ensures one { (r : ℕ) × (r < RELAYS) × (slice_index loads.now r ≡ result) }
+    ensures bound { (r : ℕ) → r < RELAYS → at loads.now r ≤ result }
+    ensures one { (r : ℕ) × (r < RELAYS) × (at loads.now r ≡ result) }
 {
     let mut most = loads[0];
     for load in loads {
@@ -245,94 +57,191 @@ pub(crate) fn greatest(loads: &[u64; SLOTS]) -> u64
     most
 }
 
-/// Moves so many ids along one chain from a busiest relay to one with fewer by at least twice as many. Where
-/// there is none, it marks the relays that chains reach, and answers true.
+/// The relays with this load.
+fn relays_with(loads: &[u64; SLOTS], most: u64) -> RelaySet
+    ensures relays { AreRelays result }
+    ensures sound { (r : ℕ) → is_among result r ≡ true → at loads.now r ≡ most }
+    ensures whole { Begins loads.now most (is_among result) }
+{
+    let mut relays = RelaySet::empty();
+    for relay in 0..RELAYS {
+        if loads[usize::from(relay)] == most {
+            relays = relays.with(relay);
+        }
+    }
+    relays
+}
+
+/// A relay that was reached and isn't done.
+fn next_of(reached: RelaySet, done: &[bool; SLOTS]) -> Option<u16>
+    ensures next { IfSome result (λ r. (r < RELAYS) × (is_among reached r ≡ true) × (slice_index_or done.now r false ≡ false)) }
+    ensures none { IfNone result ((r : ℕ) → r < RELAYS → is_among reached r ≡ true → slice_index_or done.now r false ≡ true) }
+{
+    for relay in 0..RELAYS {
+        if reached.has(relay) && !done[usize::from(relay)] {
+            return Some(relay);
+        }
+    }
+    None
+}
+
+/// Reaches what is beyond a relay.
+fn reach_from(
+    beyond: &[RelaySet],
+    relay: u16,
+    turn: u16,
+    reached: &mut RelaySet,
+    froms: &mut [u16; SLOTS],
+    turns: &mut [u16; SLOTS],
+)
+    requires small { relay < RELAYS }
+    requires long { length beyond.now ≡ SLOTS }
+    requires known { is_among reached.old relay ≡ true }
+    requires earlier { at turns.old relay < turn }
+    ensures reach { (loads : List ℕ) (most : ℕ) → AreReached beyond.now loads most reached.old froms.old turns.old turn → AreReached beyond.now loads most reached.new froms.new turns.new turn }
+    ensures stay { (r : ℕ) → is_among reached.old r ≡ true → is_among reached.new r ≡ true }
+    ensures closed { (s : ℕ) → is_among (set_at beyond.now relay) s ≡ true → is_among reached.new s ≡ true }
+{
+    let others = beyond[usize::from(relay)];
+    for other in 0..RELAYS {
+        if others.has(other) && !reached.has(other) {
+            *reached = reached.with(other);
+            froms[usize::from(other)] = relay;
+            turns[usize::from(other)] = turn;
+        }
+    }
+}
+
+/// A relay with at least two fewer than the busiest ones, which chains reach from these.
+fn search(
+    beyond: &[RelaySet],
+    loads: &[u64; SLOTS],
+    most: u64,
+    reached: &mut RelaySet,
+    froms: &mut [u16; SLOTS],
+    turns: &mut [u16; SLOTS],
+) -> Option<u16>
+    requires long { length beyond.now ≡ SLOTS }
+    requires bound { (r : ℕ) → r < RELAYS → at loads.now r ≤ most }
+    requires reach { AreReached beyond.now loads.now most reached.old froms.old turns.old 0 }
+    ensures reach { (turn : ℕ) × AreReached beyond.now loads.now most reached.new froms.new turns.new turn }
+    ensures low { IfSome result (IsLow loads.now most reached.new) }
+    ensures closed { IfNone result (IsClosed beyond.now loads.now most reached.new) }
+{
+    let mut done = [false; SLOTS];
+    let mut turn = 0;
+    'turns: while let Some(relay) = next_of(*reached, &done) {
+        let slot = usize::from(relay);
+        if most - loads[slot] > 1 {
+            return Some(relay);
+        }
+        turn += 1;
+        done[slot] = true;
+        reach_from(beyond, relay, turn, reached, froms, turns);
+    }
+    None
+}
+
+/// The first id that is taken to one relay and offered by another.
+fn place_of(offers: &[(Id, RelaySet)], takers: &[u16], from: u16, to: u16) -> usize
+    requires long { length takers.now ≡ length offers.now }
+    requires leads { LeadsBelow offers.now takers.now (length takers.now) from to }
+    ensures within { result < length takers.now }
+    ensures giver { at takers.now result ≡ from }
+    ensures taker { is_among (offered offers.now result) to ≡ true }
+{
+    for (place, taker) in takers.iter().enumerate() {
+        if *taker == from && offers[place].1.has(to) {
+            return place;
+        }
+    }
+    unreachable!()
+}
+
+/// Moves one id along each way, from the relay `end` back to a busiest one, which it answers.
+fn walk(
+    offers: &[(Id, RelaySet)],
+    takers: &mut [u16],
+    froms: &[u16; SLOTS],
+    turns: &[u16; SLOTS],
+    loads: &[u64; SLOTS],
+    most: u64,
+    end: u16,
+) -> u16
+    requires offered { AreOffered offers.now takers.old }
+    requires reach { (beyond : List (List ℕ)) × (reached : List ℕ) × (turn : ℕ) × IsBeyond offers.now takers.old (length takers.old) beyond × AreReached beyond loads.now most reached froms.now turns.now turn × (is_among reached end ≡ true) }
+    ensures small { result < RELAYS }
+    ensures start { most ≤ at loads.now result }
+    ensures moved { IsMoved takers.old takers.new result end }
+    ensures offered { AreOffered offers.now takers.new }
+{
+    let mut at = end;
+    'back: while loads[usize::from(at)] < most {
+        let from = froms[usize::from(at)];
+        let place = place_of(offers, takers, from, at);
+        takers[place] = at;
+        at = from;
+    }
+    at
+}
+
+/// One fewer for a relay, and one more for another that has at least two fewer.
+fn shift(loads: &mut [u64; SLOTS], from: u16, to: u16)
+    requires from { from < RELAYS }
+    requires to { to < RELAYS }
+    requires gap { at loads.old to + 2 ≤ at loads.old from }
+    ensures moved { (r : ℕ) → at loads.new r + cond (from == r) 1 0 ≡ at loads.old r + cond (to == r) 1 0 }
+    ensures smaller { squares loads.new < squares loads.old }
+{
+    loads[usize::from(from)] -= 1;
+    loads[usize::from(to)] += 1;
+}
+
+/// Moves single ids along one chain from a busiest relay to one with at least two fewer. Where there is none, it
+/// answers the relays that chains reach.
 fn settle_once(
     alloc: Global,
-    level: &Level,
-    sets: &[RelaySet],
-    groups: &mut [Group],
+    offers: &[(Id, RelaySet)],
+    takers: &mut [u16],
     loads: &mut [u64; SLOTS],
-    marked: &mut [bool; SLOTS],
-) -> Result<bool, AllocError>
-    requires some { 0 < level.now.some }
-    requires loads { AreLoadsOf groups.old loads.old }
-    requires given { AreGiven groups.old }
-    requires sets { AreSets groups.old sets.now }
-    requires large { AreLarge level.now.some groups.old level.now.places.items }
-    requires unmarked { (r : ℕ) → is_marked marked.old r ≡ false }
-    ensures loads { OnOk result (AreLoadsOf groups.new loads.new) }
-    ensures given { OnOk result (AreGiven groups.new) }
-    ensures same { OnOk result (AreSame groups.old groups.new) }
-    ensures smaller { IfOk result (λ done. done ≡ false → squares loads.new < squares loads.old) }
-    ensures settled { IfOk result (λ done. done ≡ true → (most : ℕ) × AreSettled level.now.some groups.new most marked.new) }
+) -> Result<Option<RelaySet>, AllocError>
+    requires { AreOffered offers.now takers.old }
+    ensures offered { OnOk result (AreOffered offers.now takers.new) }
+    ensures loads { OnOk result (KeepPace takers.old loads.old takers.new loads.new) }
+    ensures smaller { IfOk result (λ found. IfNone found (squares loads.new < squares loads.old)) }
+    ensures settled { IfOk result (λ found. IfSome found (λ group. (most : ℕ) × IsSettled offers.now takers.new loads.new most group)) }
 {
+    let beyond = beyond_of(alloc, offers, takers)?;
     let most = greatest(loads);
-    let mut steps = first_steps(alloc, loads, most, marked)?;
-    match search(level, sets, groups, loads, most, &mut steps, marked)? {
-        None => Ok(true),
+    let mut reached = relays_with(loads, most);
+    let mut froms = [0; SLOTS];
+    let mut turns = [0; SLOTS];
+    match search(&beyond, loads, most, &mut reached, &mut froms, &mut turns) {
+        None => Ok(Some(reached)),
         Some(end) => {
-            let to = steps[end].relay;
-            let from = walk(level.some, groups, &steps, end);
-            shift(loads, from, to, level.some);
-            Ok(false)
+            let from = walk(offers, takers, &froms, &turns, loads, most, end);
+            shift(loads, from, end);
+            Ok(None)
         }
     }
 }
 
-/// Moves so many ids at once along chains until none leads from a busiest relay to one with fewer by at least
-/// twice as many. It answers which relays chains reach then.
-fn settle_by(
-    alloc: Global,
-    level: &Level,
-    sets: &[RelaySet],
-    groups: &mut [Group],
-    loads: &mut [u64; SLOTS],
-) -> Result<[bool; SLOTS], AllocError>
-    requires some { 0 < level.now.some }
-    requires loads { AreLoadsOf groups.old loads.old }
-    requires given { AreGiven groups.old }
-    requires sets { AreSets groups.old sets.now }
-    requires large { AreLarge level.now.some groups.old level.now.places.items }
-    ensures loads { OnOk result (AreLoadsOf groups.new loads.new) }
-    ensures given { OnOk result (AreGiven groups.new) }
-    ensures same { OnOk result (AreSame groups.old groups.new) }
-    ensures settled { IfOk result (λ marked. (most : ℕ) × AreSettled level.now.some groups.new most marked) }
-{
-    'chains: loop {
-        let mut marked = [false; SLOTS];
-        if settle_once(alloc, level, sets, groups, loads, &mut marked)? {
-            return Ok(marked);
-        }
-    }
-}
-
-/// Moves ids along chains, many at once and then fewer, until no single id can move along a chain from a
-/// busiest relay to one with at least two fewer. It answers which relays chains reach then.
+/// Moves single ids along chains until none leads from a busiest relay to one with at least two fewer. It
+/// answers which relays chains reach then.
 pub(crate) fn settle(
     alloc: Global,
-    groups: &mut [Group],
+    offers: &[(Id, RelaySet)],
+    takers: &mut [u16],
     loads: &mut [u64; SLOTS],
-) -> Result<[bool; SLOTS], AllocError>
-    requires loads { AreLoadsOf groups.old loads.old }
-    requires given { AreGiven groups.old }
-    ensures loads { OnOk result (AreLoadsOf groups.new loads.new) }
-    ensures given { OnOk result (AreGiven groups.new) }
-    ensures same { OnOk result (AreSame groups.old groups.new) }
-    ensures settled { IfOk result (λ marked. (most : ℕ) × AreSettled 1 groups.new most marked) }
+) -> Result<RelaySet, AllocError>
+    requires { AreOffered offers.now takers.old }
+    ensures offered { OnOk result (AreOffered offers.now takers.new) }
+    ensures loads { OnOk result (KeepPace takers.old loads.old takers.new loads.new) }
+    ensures settled { IfOk result (λ group. (most : ℕ) × IsSettled offers.now takers.new loads.new most group) }
 {
-    let counts = counts_of(alloc, groups)?;
-    let sets = sets_of(alloc, groups)?;
-    let mut some = most_of(&counts);
-    while some > 1 {
-        settle_by(
-            alloc,
-            &level_of(alloc, &counts, some)?,
-            &sets,
-            groups,
-            loads,
-        )?;
-        some /= 2;
+    'chains: loop {
+        if let Some(group) = settle_once(alloc, offers, takers, loads)? {
+            return Ok(group);
+        }
     }
-    settle_by(alloc, &level_of(alloc, &counts, 1)?, &sets, groups, loads)
 }

@@ -3,18 +3,19 @@
 ghost use Rattle.std.specs.Prelude.{◌≡◌, ◌<◌, Some, length};
 ghost use Rattle.std.specs.List.{slice_get};
 ghost use Rattle.sharing.specs.Offers.{beside};
-ghost use Rattle.fetch_plan.specs.Plan.{IsPlan, given_load};
+ghost use Rattle.fetch_plan.specs.Plan.{IsPlan, planned_load};
 
 use neg_codec::Id;
-use offer_table::RelaySet;
+use offer_table::{Bases, RelaySet};
 use sharing::{RELAYS, SLOTS};
 use std::cmp::Ordering;
 use std::marker::Model;
 
-/// Which relay each offered id is given to, the greatest number of ids that one relay is given, and a group of
+/// Which relay each offered id is given to, what the relays' loads begin with, the greatest load, and a group of
 /// relays which shows that no sharing has less.
 #[derive(Drop)]
 pub struct Plan {
+    pub(crate) bases: Bases,
     pub(crate) gives: Vec<(Id, u16)>,
     pub(crate) loads: [u64; SLOTS],
     pub(crate) least_max: u64,
@@ -22,13 +23,15 @@ pub struct Plan {
 }
 
 impl Model for Plan {
-    ghost use Rattle.fetch_plan.specs.Plan.{Planned, IsPlan, AreLoads};
+    ghost use Rattle.std.specs.Prelude.{◌≡◌, ◌<◌, ℕ, slice_index};
+    ghost use Rattle.sharing.specs.declared.TheConstants.{RELAYS};
+    ghost use Rattle.fetch_plan.specs.Plan.{Planned, IsPlan, planned_load};
 
     ghost Value = { Planned };
 
-    ghost view = { λ p. record { gives = p.gives.items; least_max = p.least_max; group = p.group } };
+    ghost view = { λ p. record { bases = p.bases; gives = p.gives.items; least_max = p.least_max; group = p.group } };
 
-    ghost invariant = { λ p. IsPlan (record { gives = p.gives.items; least_max = p.least_max; group = p.group }) × AreLoads p.gives.items p.loads };
+    ghost invariant = { λ p. IsPlan (record { bases = p.bases; gives = p.gives.items; least_max = p.least_max; group = p.group }) × ((r : ℕ) → r < RELAYS → slice_index p.loads r ≡ planned_load (record { bases = p.bases; gives = p.gives.items; least_max = p.least_max; group = p.group }) r) };
 }
 
 impl Plan {
@@ -66,9 +69,9 @@ impl Plan {
         None
     }
 
-    /// The number of ids that a relay is given.
+    /// A relay's load: what it begins with, and one more for each id that it is given.
     pub fn load(&self, relay: u16) -> u64
-        ensures { result ≡ given_load self.now.gives relay }
+        ensures { result ≡ planned_load self.now relay }
     {
         if relay < RELAYS {
             self.loads[usize::from(relay)]
@@ -77,15 +80,22 @@ impl Plan {
         }
     }
 
-    /// The greatest number of ids that one relay is given.
+    /// What the relays' loads begin with.
+    pub fn bases(&self) -> Bases
+        ensures { result ≡ self.now.bases }
+    {
+        self.bases
+    }
+
+    /// The greatest load.
     pub fn least_max(&self) -> u64
         ensures { result ≡ self.now.least_max }
     {
         self.least_max
     }
 
-    /// The relays that alone hold too many ids for a smaller number: those that chains of single moves reach from
-    /// the busiest relays. Empty where no id is offered.
+    /// The relays that alone, with what they begin with, hold too many ids for a smaller greatest load: those that
+    /// chains of single moves reach from the busiest relays. Empty where the greatest load is 0.
     pub fn group(&self) -> RelaySet
         ensures { result ≡ self.now.group }
     {

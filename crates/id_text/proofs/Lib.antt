@@ -1,1 +1,2 @@
 pub mod HexLemmas
+pub mod NumberLemmas

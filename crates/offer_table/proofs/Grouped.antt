@@ -16,7 +16,7 @@ use Rattle.offer_table.specs.Groups.{set_cmp, with_set, sets_of, ids_numbered, g
 use Rattle.offer_table.specs.Rows.{ids_at, row_cmp, AreRows, IsGrouped}
 use Rattle.offer_table.proofs.Cuts.{sorted_cons}
 use Rattle.offer_table.proofs.Numbers.{same_set}
-use Rattle.offer_table.proofs.RowEdits.{Rows, number_of, AllAbove, none_above, same_number}
+use Rattle.offer_table.proofs.Rows.{Rows, number_of, AllAbove, none_above, same_number}
 
 abbrev pub Sets : Type 0
 Sets = List (List ℕ)

@@ -9,7 +9,7 @@ use Rattle.sharing.proofs.Orders.{same_sorted}
 use Rattle.sharing.proofs.Looks.{among_each}
 use Rattle.offer_table.specs.Relays.{those, bits_of}
 use Rattle.offer_table.specs.RelayBits.{if_passes}
-use Rattle.offer_table.proofs.Members.{among_those_is, none_past, below_those}
+use Rattle.offer_table.proofs.Words.{among_those_is, none_past, below_those}
 
 last_bit : (b : Bool) (n : ℕ) → bits_of (if_passes b n) ≡ cond b (2 ^ n) 0
 last_bit true n = omega arith

@@ -17,7 +17,6 @@ use Rattle.sharing.proofs.Looks.{map_twice, map_itself}
 use Rattle.offer_table.specs.Relays.{bits_of}
 use Rattle.offer_table.specs.Groups.{set_cmp, sets_of, ids_numbered, groups_of, is_listed, AreGroups}
 use Rattle.offer_table.proofs.Cuts.{sorted_cons}
-use Rattle.offer_table.proofs.IdRows.{AllBehind}
 use Rattle.offer_table.proofs.Numbers.{same_set}
 use Rattle.offer_table.proofs.Grouped.{Sets, has_number, group_by, number_is, sorted_sets, All-sets_of, groups_rows}
 
@@ -34,7 +33,7 @@ filter_ascends p (o ∷ os) h =
     ]
 
 -- an id that comes before those is none of them
-listed_behind : (vs : List Id) (k : Id) → AllBehind k vs → is_listed vs k ≡ false
+listed_behind : (vs : List Id) (k : Id) → All (λ v. id_cmp k v ≡ Less) vs → is_listed vs k ≡ false
 listed_behind [] k h = refl
 listed_behind (v ∷ vs) k h =
     ap (λ b. b || is_listed vs k) (id_flips v k (id_apart k v (All-head (λ v. id_cmp k v ≡ Less) v vs h))) ∙ listed_behind vs k (All-tail (λ v. id_cmp k v ≡ Less) v vs h)

@@ -15,9 +15,8 @@ use Rattle.sharing.proofs.Orders.{head_sorted, tail_sorted, sorted_push, less_fr
 use Rattle.offer_table.specs.Relays.{bits_of}
 use Rattle.offer_table.specs.Groups.{ids_numbered}
 use Rattle.offer_table.specs.Rows.{ids_at, row_cmp, AreRows}
-use Rattle.offer_table.proofs.Cuts.{sorted_before, sorted_cons}
-use Rattle.offer_table.proofs.IdRows.{AllBefore}
-use Rattle.offer_table.proofs.RowEdits.{Rows, number_of, AllBelow, ids_at_cut, none_between}
+use Rattle.offer_table.proofs.Cuts.{sorted_cons}
+use Rattle.offer_table.proofs.Rows.{Rows, number_of, AllBelow, ids_at_cut, none_between}
 
 abbrev pub Offers : Type 0
 Offers = List (Id × List ℕ)
@@ -33,13 +32,6 @@ pub ids_join : (os ps : Offers) (n : ℕ) → ids_numbered n (os ++ ps) ≡ ids_
 ids_join os ps n =
     ap (map (λ o. o.0)) (filter-append (λ (o : Id × List ℕ). n == bits_of o.1) os ps)
     ∙ map-append (λ (o : Id × List ℕ). o.0) (filter (λ o. n == bits_of o.1) os) (filter (λ o. n == bits_of o.1) ps)
-
--- the ids of those before it come before it
-pub before_all : (done us : List (Id × List ℕ)) (k : Id) (w : List ℕ) (n : ℕ) → Ascend (map (λ p. p.0) (done ++ (k, w) ∷ us)) → AllBefore (ids_numbered n done) k
-before_all done us k w n s =
-    let cut : Ascend (map (λ p. p.0) done ++ k ∷ map (λ p. p.0) us) = subst Ascend (map-append (λ (p : Id × List ℕ). p.0) done ((k, w) ∷ us)) s in
-    let all : All (λ (p : Id × List ℕ). id_cmp p.0 k ≡ Less) done = All-unmap (λ i. id_cmp i k ≡ Less) (λ (p : Id × List ℕ). p.0) done (sorted_before id_cmp (map (λ p. p.0) done) (map (λ p. p.0) us) k cut) in
-    All-map (λ i. id_cmp i k ≡ Less) (λ (p : Id × List ℕ). p.0) (filter (λ o. n == bits_of o.1) done) (All-filter (λ (o : Id × List ℕ). n == bits_of o.1) (λ (p : Id × List ℕ). id_cmp p.0 k ≡ Less) done all)
 
 -- the ids of offers whose sets have one number
 pub ids_same : (xs : Offers) (w n : ℕ) → All (λ o. set_number o ≡ w) xs → ids_numbered n xs ≡ cond (n == w) (map id_of xs) []

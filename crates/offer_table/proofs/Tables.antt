@@ -1,16 +1,18 @@
 -- Tables of offers: one offer is struck, or all are one relay's.
-use Rattle.std.proofs.Common.{◌≡◌, ℕ, ◌<◌, ◌==◌, ◌||◌, ◌&&◌, not, Bool, true, false, cond, List, [], ◌∷◌, length, map, Option, Some, None, refl, sym, ap, ◌∙◌, arith, inl, inr}
+use Rattle.std.proofs.Common.{◌≡◌, ℕ, ◌<◌, ◌==◌, ◌||◌, ◌&&◌, not, Bool, true, false, cond, List, [], ◌∷◌, length, map, get_or, replicate, Some, None, refl, sym, ap, ◌∙◌, arith, inl, inr}
 use Rattle.std.specs.Prelude.{is_some, unwrap_or}
 use Rattle.std.specs.declared.cmp.Ordering.{Ordering}
 use Rattle.std.specs.Ordering.{nat_cmp}
 use Rattle.std.specs.List.{All}
 use Rattle.std.specs.List.Sorted.{IsStrictlySortedBy}
-use Rattle.std.proofs.lemmas.Bool.{cases_Bool, false≢true, eqb-true, and_parts, and_left}
+use Rattle.std.proofs.lemmas.Bool.{cases_Bool, cases_lt, false≢true, eqb-true, and_parts, and_left}
 use Rattle.std.proofs.lemmas.List.Elements.{All-cons, All-nil}
+use Rattle.std.proofs.lemmas.List.{get_or-replicate, get_or_past, length-replicate}
 use Rattle.neg_codec.specs.declared.Id.{Id}
 use Rattle.sharing.specs.Sharing.{is_among}
 use Rattle.sharing.specs.Offers.{id_cmp, is_id, AreRelays, beside, relays_of}
-use Rattle.sharing.proofs.Orders.{same_id, same_sorted}
+use Rattle.sharing.proofs.Orders.{same_id, id_itself, id_flips}
+use Rattle.sharing.specs.Bases.{AreBases, base_of}
 use Rattle.offer_table.specs.Table.{IsTable}
 
 pub some_member : (relays : List ℕ) (r : ℕ) → is_among relays r ≡ true → 0 < length relays
@@ -31,36 +33,6 @@ strike_none xs k q none i r =
           gone ∙ sym (and_left (is_among (relays_of xs i) r) (not (is_id k i && (r == q))) gone))
       | inr f ↦ sym (ap (λ b. is_among (relays_of xs i) r && not b) f ∙ and_true (is_among (relays_of xs i) r))
     ]
-
--- what is left, where v is left beside the id
-pub strike_step : (xs ys : List (Id × List ℕ)) (k : Id) (q : ℕ) (v : Option (List ℕ)) → ((i : Id) → beside ys i ≡ cond (is_id k i) v (beside xs i)) → ((r : ℕ) → is_among (unwrap_or v []) r ≡ (is_among (relays_of xs k) r && not (r == q))) →
-    (i : Id) (r : ℕ) → is_among (relays_of ys i) r ≡ (is_among (relays_of xs i) r && not (is_id k i && (r == q)))
-strike_step xs ys k q v updates left i r =
-    elim (cases_Bool (is_id k i)) [
-      | inl t ↦
-          ap (λ o. is_among (unwrap_or o []) r) (updates i ∙ ap (λ b. cond b v (beside xs i)) t) ∙ left r
-          ∙ ap (λ j. is_among (relays_of xs j) r && not (r == q)) (same_id k i t)
-          ∙ sym (ap (λ b. is_among (relays_of xs i) r && not (b && (r == q))) t)
-      | inr f ↦
-          ap (λ o. is_among (unwrap_or o []) r) (updates i ∙ ap (λ b. cond b v (beside xs i)) f)
-          ∙ sym (ap (λ b. is_among (relays_of xs i) r && not (b && (r == q))) f ∙ and_true (is_among (relays_of xs i) r))
-    ]
-
-is_there : (o : Option (List ℕ)) (r : ℕ) → is_among (unwrap_or o []) r ≡ true → is_some o ≡ true
-is_there None r h = absurd (false≢true h)
-is_there (Some w) r h = refl
-
--- an id that some relay offers stands in the table
-pub offered_there : (xs : List (Id × List ℕ)) (k : Id) (r : ℕ) → is_among (relays_of xs k) r ≡ true → is_some (beside xs k) ≡ true
-offered_there xs k r h = is_there (beside xs k) r h
-
-one_sorted : (r : ℕ) → IsStrictlySortedBy nat_cmp (r ∷ [])
-unfolding IsStrictlySortedBy
-one_sorted r = (tt, tt)
-
--- the only member
-pub just_one : (relays : List ℕ) (relay : ℕ) → AreRelays relays → ((r : ℕ) → is_among relays r ≡ ((r == relay) || false)) → relays ≡ relay ∷ []
-just_one relays relay ordered members = same_sorted relays (relay ∷ []) ordered.ascend (one_sorted relay) members
 
 -- each of these ids with these relays
 abbrev pub each_with : List ℕ → List Id → List (Id × List ℕ)
@@ -88,3 +60,35 @@ none_ok reported = record {
   offers_ok = record { ascend = none_sorted id_cmp; relays = All-nil (λ (p : Id × List ℕ). AreRelays p.1); some = All-nil (λ (p : Id × List ℕ). 0 < length p.1) };
   few = omega arith;
 }
+
+-- no bases
+abbrev pub none_of : ℕ → List ℕ
+none_of n = replicate n 0
+
+none_long : (n : ℕ) → length (none_of n) ≡ n
+none_long n = length-replicate n 0
+
+pub zeros : (n r : ℕ) → base_of (none_of n) r ≡ 0
+zeros n r = elim (cases_lt r n) [ inl lt ↦ get_or-replicate n r 0 0 lt | inr ge ↦ get_or_past (none_of n) r 0 (omega (arith, none_long n)) ]
+
+pub no_bases : AreBases (none_of 256)
+no_bases = record { long = none_long 256; small = λ r. omega (arith, zeros 256 r) }
+
+one_sorted : {K : Type 0} (c : K → K → Ordering) (k : K) → IsStrictlySortedBy c (k ∷ [])
+unfolding IsStrictlySortedBy
+one_sorted c k = (tt, tt)
+
+pub one_ascends : (k : Id) → IsStrictlySortedBy id_cmp (k ∷ [])
+one_ascends k = one_sorted id_cmp k
+
+-- one offer taken away
+pub strike_one : (k i : Id) (q r : ℕ) → is_among (relays_of ((k, q ∷ []) ∷ []) i) r ≡ (is_id k i && (r == q))
+strike_one k i q r =
+    elim (cases_Bool (is_id i k)) [
+      | inl t ↦ ap (λ b. is_among (unwrap_or (cond b (Some (q ∷ [])) None) []) r) t ∙ or_false (r == q) ∙ sym (ap (λ b. b && (r == q)) (ap (λ j. is_id j i) (sym (same_id i k t)) ∙ id_itself i))
+      | inr f ↦ ap (λ b. is_among (unwrap_or (cond b (Some (q ∷ [])) None) []) r) f ∙ sym (ap (λ b. b && (r == q)) (id_flips i k f))
+    ]
+  where
+    or_false : (b : Bool) → (b || false) ≡ b
+    or_false true = refl
+    or_false false = refl

@@ -1,5 +1,5 @@
 -- Offered ids in groups: those that the same relays offer, beside those relays.
-use Rattle.std.specs.Prelude.{◌≡◌, ℕ, ◌<◌, ◌==◌, Bool, true, List, [], ◌∷◌, length, map, sum_by, count_by, is_some, if◌then◌else◌}
+use Rattle.std.specs.Prelude.{◌≡◌, ℕ, ◌<◌, ◌==◌, Bool, true, List, [], ◌∷◌, length, map, sum_by, count_by, slice_index_or, is_some, if◌then◌else◌}
 use Rattle.std.specs.declared.cmp.Ordering.{Ordering}
 use Rattle.std.specs.Ordering.{nat_cmp, match_ordering}
 use Rattle.std.specs.List.{All, filter, list_any}
@@ -46,3 +46,9 @@ pub record AreGroups (offers : List (Id × List ℕ)) (groups : List (List ℕ �
   pub once : (i : Id) → count_by (λ g. is_listed g.1 i) groups ≡ (if is_some (beside offers i) then 1 else 0)
   pub counts : (test : List ℕ → Bool) → count_by (λ o. test o.1) offers ≡ sum_by (λ g. if test g.0 then length g.1 else 0) groups
   pub total : sum_by (λ g. length g.1) groups ≡ length offers
+
+-- each offer's group, by its number
+pub record AreNumbers (offers : List (Id × List ℕ)) (groups : List (List ℕ × List Id)) (numbers : List ℕ) : Type 0 where
+  pub within : All (λ k. k < length groups) numbers
+  pub relays : map (λ k. (slice_index_or groups k ([], [])).0) numbers ≡ map (λ o. o.1) offers
+  pub counts : (k : ℕ) → k < length groups → count_by (λ n. n == k) numbers ≡ length (slice_index_or groups k ([], [])).1

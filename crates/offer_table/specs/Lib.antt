@@ -5,7 +5,4 @@ pub mod Faults
 pub mod Groups
 pub mod Keys
 pub mod Rows
-pub mod Places
-pub mod Entries
-pub mod Joined
-pub mod Chunks
+pub mod Combined

@@ -1,5 +1,5 @@
 -- Ascending lists of the numbers that pass a test.
-use Rattle.std.proofs.Common.{◌≡◌, ℕ, zero, suc, ◌+◌, ◌*◌, ◌%◌, ◌^◌, ◌<◌, ◌==◌, Bool, true, false, cond, ◌||◌, ◌&&◌, List, [], ◌∷◌, ◌++◌, refl, sym, ap, ◌∙◌, arith, inl, inr}
+use Rattle.std.proofs.Common.{◌≡◌, ℕ, zero, suc, ◌+◌, ◌*◌, ◌/◌, ◌%◌, ◌^◌, ◌<◌, ◌==◌, Bool, true, false, cond, ◌||◌, ◌&&◌, List, [], ◌∷◌, ◌++◌, refl, sym, ap, ◌∙◌, arith, inl, inr}
 use Rattle.std.specs.List.{sum_by}
 use Rattle.std.specs.Int.{bit_at}
 use Rattle.std.proofs.lemmas.List.Sums.{sum_by-append}
@@ -8,8 +8,9 @@ use Rattle.std.proofs.lemmas.Bool.{false≢true, cases_eq, eq-eqb, ne_eqb, eqb-t
 use Rattle.std.proofs.lemmas.Nat.{mod-pow-add}
 use Rattle.std.proofs.lemmas.Nat.Bits.{bit_at-lt}
 use Rattle.std.proofs.Math.Nat.{mod-eq_of_lt}
+use Rattle.sharing.specs.declared.TheConstants.{RELAYS}
 use Rattle.sharing.specs.Sharing.{is_among}
-use Rattle.offer_table.specs.Relays.{those, members, bits_of}
+use Rattle.offer_table.specs.Relays.{those, members, bits_of, number}
 
 -- the last number that may pass
 abbrev pub if_passes : Bool → ℕ → List ℕ
@@ -74,6 +75,24 @@ bits_of-those bits zero = omega arith
 bits_of-those bits (suc n) =
     omega (arith, sum_by-append (λ r. 2 ^ r) (those (λ r. bit_at bits r == 1) n) (if_passes (bit_at bits n == 1) n), bit_sum (bit_at bits n) n (bit_at-lt bits n), bits_of-those bits n, mod-pow-add bits 1 n, ap (λ k. bits % 2 ^ k) (one_more n))
 
--- a number of 64 bits is the sum of its members' powers
-pub bits_of-members : (bits : ℕ) → bits < 2 ^ 64 → bits_of (members bits) ≡ bits
-bits_of-members bits lt = bits_of-those bits 64 ∙ mod-eq_of_lt lt
+-- a number of 256 bits is the sum of its members' powers
+pub bits_of-members : (bits : ℕ) → bits < 2 ^ 256 → bits_of (members bits) ≡ bits
+bits_of-members bits lt = bits_of-those bits RELAYS ∙ mod-eq_of_lt lt
+
+pub fits : (high low : ℕ) → high < 2 ^ 128 → low < 2 ^ 128 → number high low < 2 ^ 256
+fits high low h l = omega arith
+
+both : {A : Type 0} (f : ℕ → ℕ → A) {a b c d : ℕ} → a ≡ b → c ≡ d → f a c ≡ f b d
+both f {a} {b} {c} {d} e g = ap (λ x. f x c) e ∙ ap (f b) g
+
+high_of : (high low : ℕ) → low < 2 ^ 128 → number high low / 2 ^ 128 ≡ high
+high_of high low l = omega arith
+
+low_of : (high low : ℕ) → low < 2 ^ 128 → number high low % 2 ^ 128 ≡ low
+low_of high low l = omega arith
+
+-- the members give the two words back
+pub words_of : {A : Type 0} (f : ℕ → ℕ → A) (high low : ℕ) → high < 2 ^ 128 → low < 2 ^ 128 → f (bits_of (members (number high low)) / 2 ^ 128) (bits_of (members (number high low)) % 2 ^ 128) ≡ f high low
+words_of f high low h l =
+    let is : bits_of (members (number high low)) ≡ number high low = bits_of-members (number high low) (fits high low h l) in
+    both f (ap (λ n. n / 2 ^ 128) is ∙ high_of high low l) (ap (λ n. n % 2 ^ 128) is ∙ low_of high low l)

@@ -1,27 +1,21 @@
 -- Rows of ids, each with the set of relays that offers its ids.
-use Rattle.std.specs.Prelude.{◌≡◌, ℕ, ◌<◌, ◌==◌, not, List, [], ◌∷◌, length, if◌then◌else◌, Option, None, Some}
+use Rattle.std.specs.Prelude.{◌≡◌, ℕ, ◌<◌, ◌≤◌, ◌==◌, List, [], ◌∷◌, length, map, slice_range, if◌then◌else◌}
 use Rattle.std.specs.declared.cmp.Ordering.{Ordering}
-use Rattle.std.specs.Ordering.{match_ordering}
-use Rattle.std.specs.List.{All, filter}
+use Rattle.std.specs.List.{All}
 use Rattle.std.specs.List.Sorted.{IsStrictlySortedBy}
 use Rattle.neg_codec.specs.declared.Id.{Id}
-use Rattle.sharing.specs.Offers.{AreRelays, id_cmp, is_id}
+use Rattle.sharing.specs.Offers.{AreRelays}
+use Rattle.offer_table.specs.declared.groups.Group.{Group}
 use Rattle.offer_table.specs.Relays.{bits_of}
 use Rattle.offer_table.specs.Groups.{set_cmp, ids_numbered}
 
--- one id, or else those of a list
-abbrev pub row_ids : Option Id → List Id → List Id
-row_ids None ids = ids
-row_ids (Some one) ids = one ∷ []
+-- groups that stand in parts of a list of ids
+abbrev pub AreWithin : ℕ → List Group → Type 0
+AreWithin count groups = All (λ g. (g.from ≤ g.to) × (g.to ≤ count)) groups
 
--- one id more among ids in order
-abbrev pub with_id : Id → List Id → List Id
-with_id k [] = k ∷ []
-with_id k (x ∷ xs) = match_ordering (id_cmp k x) (k ∷ x ∷ xs) (x ∷ xs) (x ∷ with_id k xs)
-
--- the ids but this
-abbrev pub without_id : Id → List Id → List Id
-without_id k xs = filter (λ x. not (is_id k x)) xs
+-- their sets, each with its ids
+abbrev pub rows_of : List Id → List Group → List (List ℕ × List Id)
+rows_of ids groups = map (λ g. (g.relays, slice_range ids g.from g.to)) groups
 
 -- the ids beside the set with this number
 abbrev pub ids_at : List (List ℕ × List Id) → ℕ → List Id

@@ -1,4 +1,4 @@
-//! Why a table isn't made.
+//! Why a table isn't made, or a base isn't set.
 
 use crate::RelaySet;
 use neg_codec::Id;
@@ -20,6 +20,17 @@ pub enum OfferFault {
     /// A growth was refused.
     #[error("out of memory")]
     Memory,
+}
+
+/// Why a base wasn't set.
+#[derive(Clone, Copy, Debug, PartialEq, Eq, Error)]
+pub enum BaseFault {
+    /// The number is no relay.
+    #[error("not a relay's number")]
+    Relay,
+    /// More than [`sharing::MOST_BASE`].
+    #[error("a load above 1,000,000,000,000")]
+    Load,
 }
 
 impl From<AllocFailed<(Id, RelaySet)>> for OfferFault {

@@ -1,22 +1,22 @@
 //! Who offers what: tables of ids, each with the set of relays that offer it.
+//!
+//! Contracts above cite `Table`, `IsTable` and `new_in` of `specs/Table`, `groups_of`, `AreGroups` and `AreNumbers`
+//! of `specs/Groups`, and `base_fault` of `specs/Faults`.
 #![tactic(auto)]
 
-mod chunks;
-mod entries;
+mod bases;
+mod combined;
 mod faults;
-mod gapped;
 mod groups;
-mod joined;
-mod offers;
+mod ids;
 mod relays;
-mod row;
 mod table;
-mod walk;
 
-pub use faults::OfferFault;
-pub use relays::RelaySet;
+pub use bases::Bases;
+pub use faults::{BaseFault, OfferFault};
+pub use ids::Ids;
+pub use relays::{Members, RelaySet};
 pub use table::OfferTable;
-pub use walk::{Ids, Walk};
 
 #[cfg(test)]
 mod tests;

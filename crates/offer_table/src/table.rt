@@ -1,20 +1,20 @@
 //! Tables of offers.
 
-ghost use Rattle.std.specs.Prelude.{◌≡◌, ◌≤◌, ◌+◌, ◌<◌, ◌==◌, ◌||◌, ◌&&◌, not, ℕ, true, List, [], ◌∷◌, length, map, Some, slice_get, OnOk, IfOk, OnErr, IfErr, MatchOption, IsOkUnless, is_some};
+ghost use Rattle.std.specs.Prelude.{◌≡◌, ◌≤◌, ◌+◌, ◌<◌, ◌==◌, ◌||◌, ◌&&◌, not, ℕ, List, [], ◌∷◌, length, map, Some, Err, slice_get, OnOk, IfOk, OnErr, IfErr, MatchOption, IsOkUnless};
+ghost use Rattle.std.specs.List.{list_any};
 ghost use Rattle.std.specs.Map.Iter.{deref, ShowsInOrder};
 ghost use Rattle.neg_codec.specs.declared.Id.{Id};
 ghost use Rattle.sharing.specs.Sharing.{is_among};
-ghost use Rattle.sharing.specs.Offers.{AreRelays, IsOffers, relays_of, is_id};
+ghost use Rattle.sharing.specs.Offers.{AreRelays, Ascend, IsOffers, relays_of, is_id};
 ghost use Rattle.offer_table.specs.Table.{IsTable, new_in};
-ghost use Rattle.offer_table.specs.Groups.{groups_of, AreGroups};
-ghost use Rattle.offer_table.specs.Faults.{report_fault, merge_fault};
+ghost use Rattle.sharing.specs.declared.TheConstants.{MOST_IDS};
+ghost use Rattle.offer_table.specs.Groups.{groups_of, AreGroups, AreNumbers};
+ghost use Rattle.offer_table.specs.Faults.{report_fault, offers_fault, merge_fault};
 ghost use Rattle.offer_table.specs.declared.faults.OfferFault.TheVariants.{Memory};
 
-use crate::entries::Entries;
+use crate::combined::{Keep, combined, count_both};
 use crate::groups::Groups;
-use crate::joined::{count_both, united};
-use crate::walk::{Ids, Walk};
-use crate::{OfferFault, RelaySet};
+use crate::{Ids, OfferFault, RelaySet};
 use neg_codec::Id;
 use sharing::{MOST_IDS, RELAYS};
 use std::alloc::{AllocError, Global};
@@ -26,25 +26,49 @@ use std::marker::Model;
 #[derive(Drop)]
 pub struct OfferTable {
     reported: RelaySet,
-    offers: Entries,
+    offers: Vec<(Id, RelaySet)>,
     groups: Groups,
+    numbers: Vec<u32>,
     alloc: Global,
 }
 
 impl Model for OfferTable {
+    ghost use Rattle.std.specs.Prelude.{◌≡◌};
     ghost use Rattle.offer_table.specs.Table.{Table, IsTable};
-    ghost use Rattle.offer_table.specs.Rows.{AreRows, IsGrouped};
+    ghost use Rattle.offer_table.specs.Groups.{groups_of, AreNumbers};
 
     ghost Value = { Table };
 
-    ghost view = { λ t. record { reported = t.reported; offers = t.offers } };
+    ghost view = { λ t. record { reported = t.reported; offers = t.offers.items } };
 
-    ghost invariant = { λ t. record { table : IsTable (record { reported = t.reported; offers = t.offers }); grouped : IsGrouped t.offers t.groups; rows : AreRows t.groups } };
+    ghost invariant = { λ t. record { table : IsTable (record { reported = t.reported; offers = t.offers.items }); groups : t.groups ≡ groups_of t.offers.items; numbers : AreNumbers t.offers.items (groups_of t.offers.items) t.numbers.items } };
+}
+
+/// The relays that offer some id.
+fn all_of(offers: &[(Id, RelaySet)]) -> RelaySet
+    ensures { (r : ℕ) → is_among result r ≡ list_any (λ o. is_among o.1 r) offers.now }
+{
+    let mut all = RelaySet::empty();
+    for offer in offers {
+        all = all.union(offer.1);
+    }
+    all
+}
+
+/// The relays beside this id.
+fn looked_up(offers: &[(Id, RelaySet)], id: &Id) -> RelaySet
+    requires { Ascend (map (λ o. o.0) offers.now) }
+    ensures { result ≡ relays_of offers.now id.now }
+{
+    match offers.binary_search_by_key(id, |offer| offer.0) {
+        Ok(at) => offers[at].1,
+        Err(_) => RelaySet::empty(),
+    }
 }
 
 impl OfferTable {
     /// The table of these relays that reported, and these offers.
-    pub(crate) fn of_list(
+    fn of_list(
         alloc: Global,
         reported: RelaySet,
         offers: Vec<(Id, RelaySet)>,
@@ -52,11 +76,12 @@ impl OfferTable {
         requires { IsTable (record { reported = reported; offers = offers.items }) }
         ensures { IfOk result (λ t. t ≡ record { reported = reported; offers = offers.items }) }
     {
-        let groups = Groups::of(alloc, &offers)?;
+        let (groups, numbers) = Groups::of(alloc, &offers)?;
         Ok(OfferTable {
             reported,
-            offers: Entries::of(offers),
+            offers,
             groups,
+            numbers,
             alloc,
         })
     }
@@ -68,17 +93,38 @@ impl OfferTable {
     {
         OfferTable {
             reported: RelaySet::empty(),
-            offers: Entries::new(alloc),
+            offers: Vec::new(alloc),
             groups: Groups::new(alloc),
+            numbers: Vec::new(alloc),
             alloc,
         }
+    }
+
+    /// The table of these offers: ids in order, each with the set of relays that offer it. The relays that offer
+    /// an id are those that reported. One sort of the sets, n log n in the number of ids.
+    ///
+    /// # Errors
+    ///
+    /// `TableFull` for more than 200,000 ids, else `Memory`.
+    pub fn of_sets(alloc: Global, offers: Vec<(Id, RelaySet)>) -> Result<OfferTable, OfferFault>
+        requires { IsOffers offers.items }
+        ensures fault { MatchOption (offers_fault (length offers.items)) (IsOkUnless result Memory) (λ f. result ≡ Err f) }
+        ensures offers { IfOk result (λ t. t.offers ≡ offers.items) }
+        ensures reported { IfOk result (λ t. (r : ℕ) → is_among t.reported r ≡ list_any (λ o. is_among o.1 r) offers.items) }
+        ensures table { IfOk result IsTable }
+    {
+        if offers.len() > MOST_IDS {
+            return Err(OfferFault::TableFull);
+        }
+        let reported = all_of(&offers);
+        Ok(OfferTable::of_list(alloc, reported, offers)?)
     }
 
     /// The table of one relay's report: it offers each of these ids.
     ///
     /// # Errors
     ///
-    /// `Relay` for a number of 64 and more, else `TableFull` for more than 200,000 ids, else `Memory`.
+    /// `Relay` for a number that is no relay, else `TableFull` for more than 200,000 ids, else `Memory`.
     pub fn of_report(
         alloc: Global,
         relay: u16,
@@ -95,7 +141,7 @@ impl OfferTable {
         if need.len() > MOST_IDS {
             return Err(OfferFault::TableFull);
         }
-        let relays = RelaySet::empty().with(relay);
+        let relays = RelaySet::one(relay);
         let mut offers = Vec::with_capacity(alloc, need.len())?;
         for id in need {
             offers.push((*id, relays))?;
@@ -103,7 +149,8 @@ impl OfferTable {
         Ok(OfferTable::of_list(alloc, relays, offers)?)
     }
 
-    /// The offers of both tables: a pass over both, and a sort of the sets. After a fault both come back unchanged.
+    /// The offers of both tables: two passes over both, and a sort of the sets. After a fault both come back
+    /// unchanged.
     ///
     /// # Errors
     ///
@@ -120,27 +167,41 @@ impl OfferTable {
         ensures table { IfOk result IsTable }
         ensures back { IfErr result (λ e. (e.1 ≡ self) × (e.2 ≡ other)) }
     {
-        let count = count_both(self.offers.walk(), other.offers.walk());
+        let count = count_both(&self.offers, &other.offers);
         if count > MOST_IDS {
             return Err((OfferFault::TableFull, self, other));
         }
         if self.reported.meets(other.reported) {
             return Err((OfferFault::Double, self, other));
         }
-        let reported = self.reported.union(other.reported);
-        let (mine, theirs) = (self.offers.walk(), other.offers.walk());
-        match joined(self.alloc, reported, mine, theirs, count) {
+        match self.joined(&other, count) {
             Ok(both) => Ok(both),
             Err(_) => Err((OfferFault::Memory, self, other)),
         }
     }
 
-    /// Takes one offer away, and the id with its last offer. False where there was none.
-    ///
-    /// Beside two searches in the ids it moves, in this one's old group and in its new one, the ids in front of
-    /// it or those behind it, whichever are fewer, 32 bytes each, and, where a group comes or goes, up to two
-    /// thousand groups behind it. So ids in ascending and in descending order are quick, while in random order each
-    /// moves a quarter of a group on average. Now and then a group whose ids have no room copies them all.
+    /// Leaves these offers out: beside an id that stands here, those of its relays that stand beside it. One pass
+    /// over both, and a sort of the sets. Where memory runs out nothing has changed.
+    pub fn leave_out(&mut self, gone: &[(Id, RelaySet)]) -> Result<(), AllocError>
+        requires { Ascend (map (λ o. o.0) gone.now) }
+        ensures offers { OnOk result ((i : Id) (r : ℕ) → is_among (relays_of self.new.offers i) r ≡ (is_among (relays_of self.old.offers i) r && not (is_among (relays_of gone.now i) r))) }
+        ensures reported { self.new.reported ≡ self.old.reported }
+        ensures table { IsTable self.new }
+        ensures err { OnErr result (self.new ≡ self.old) }
+    {
+        let left = combined(
+            self.alloc,
+            Keep::FirstAlone,
+            &self.offers,
+            gone,
+            self.offers.len(),
+        )?;
+        *self = OfferTable::of_list(self.alloc, self.reported, left)?;
+        Ok(())
+    }
+
+    /// Takes one offer away, and the id with its last offer. False where there was none. As long as
+    /// [`OfferTable::leave_out`], which takes many away at once.
     pub fn strike(&mut self, id: &Id, relay: u16) -> Result<bool, AllocError>
         ensures found { IfOk result (λ b. b ≡ is_among (relays_of self.old.offers id.now) relay) }
         ensures offers { OnOk result ((i : Id) (r : ℕ) → is_among (relays_of self.new.offers i) r ≡ (is_among (relays_of self.old.offers i) r && not (is_id id.now i && (r == relay)))) }
@@ -148,16 +209,10 @@ impl OfferTable {
         ensures table { IsTable self.new }
         ensures err { OnErr result (self.new ≡ self.old) }
     {
-        let relays = self.offers(id);
-        if !relays.has(relay) {
+        if !self.offers(id).has(relay) {
             return Ok(false);
         }
-        let rest = relays.without(relay);
-        if !rest.is_empty() {
-            self.groups.put(self.alloc, rest, *id)?;
-        }
-        self.groups.take(relays, id);
-        self.offers.set(id, rest);
+        self.leave_out(&[(*id, RelaySet::one(relay))])?;
         Ok(true)
     }
 
@@ -166,7 +221,7 @@ impl OfferTable {
         ensures value { result ≡ relays_of self.now.offers id.now }
         ensures table { IsTable self.now }
     {
-        self.offers.get(id)
+        looked_up(&self.offers, id)
     }
 
     /// The offered ids, ascending.
@@ -176,15 +231,23 @@ impl OfferTable {
         ensures table { IsTable self.now }
     {
         runs_show(self.alloc);
-        Ids::of(self.offers.walk())
+        Ids::of(&self.offers)
     }
 
-    /// A walk over the offers, in the order of the ids.
-    pub fn walk(&self) -> Walk<'_>
-        ensures value { result ≡ self.now.offers }
+    /// The offers: each offered id, ascending, with the relays that offer it.
+    pub fn list(&self) -> &[(Id, RelaySet)]
+        ensures value { result.now ≡ self.now.offers }
         ensures table { IsTable self.now }
     {
-        self.offers.walk()
+        &self.offers
+    }
+
+    /// The number of each offered id's group, in the order of the ids.
+    pub fn numbers(&self) -> &[u32]
+        ensures numbers { AreNumbers self.now.offers (groups_of self.now.offers) result.now }
+        ensures table { IsTable self.now }
+    {
+        &self.numbers
     }
 
     /// How many distinct sets of relays the offered ids have: each of them is a group.
@@ -213,6 +276,18 @@ impl OfferTable {
     {
         self.reported
     }
+
+    /// The offers of both tables, which are that many ids.
+    fn joined(&self, other: &OfferTable, count: usize) -> Result<OfferTable, AllocError>
+        requires { (length self.now.offers + new_in self.now.offers other.now.offers) ≤ MOST_IDS }
+        ensures reported { IfOk result (λ t. (r : ℕ) → is_among t.reported r ≡ (is_among self.now.reported r || is_among other.now.reported r)) }
+        ensures relays { IfOk result (λ t. AreRelays t.reported) }
+        ensures offers { IfOk result (λ t. (i : Id) (r : ℕ) → is_among (relays_of t.offers i) r ≡ (is_among (relays_of self.now.offers i) r || is_among (relays_of other.now.offers i) r)) }
+        ensures table { IfOk result IsTable }
+    {
+        let offers = combined(self.alloc, Keep::Either, &self.offers, &other.offers, count)?;
+        OfferTable::of_list(self.alloc, self.reported.union(other.reported), offers)
+    }
 }
 
 /// Whatever takes the first of a list, as the iterator over a set does, shows the list in order.
@@ -221,23 +296,4 @@ fn runs_show(alloc: Global)
 {
     let none: BTreeSet<Id> = BTreeSet::new(alloc);
     none.iter();
-}
-
-/// The table of these relays that reported, and the offers of both, which are that many ids.
-fn joined(
-    alloc: Global,
-    reported: RelaySet,
-    mine: Walk<'_>,
-    theirs: Walk<'_>,
-    count: usize,
-) -> Result<OfferTable, AllocError>
-    requires mine { IsOffers mine }
-    requires theirs { IsOffers theirs }
-    requires few { length mine + new_in mine theirs ≤ MOST_IDS }
-    ensures reported { IfOk result (λ t. t.reported ≡ reported) }
-    ensures offers { IfOk result (λ t. (i : Id) (r : ℕ) → is_among (relays_of t.offers i) r ≡ (is_among (relays_of mine.entry i) r || is_among (relays_of theirs.entry i) r)) }
-    ensures table { IfOk result IsTable }
-{
-    let offers = united(alloc, mine, theirs, count)?;
-    OfferTable::of_list(alloc, reported, offers)
 }

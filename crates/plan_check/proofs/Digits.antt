@@ -1,47 +1,46 @@
--- Relays in decimal, set into a line.
-use Rattle.std.proofs.Common.{◌≡◌, ℕ, ◌+◌, ◌/◌, ◌%◌, ◌<◌, ◌≤◌, List, [], ◌∷◌, ◌++◌, length, take, get_or, set, decimal, ap, sym, ◌∙◌, append_assoc, arith}
-use Rattle.std.proofs.lemmas.List.{append-nil, take_more, take_more_set, length-set}
+-- Numbers in decimal, set into a line.
+use Rattle.std.proofs.Common.{◌≡◌, ℕ, zero, suc, ◌+◌, ◌/◌, ◌%◌, ◌^◌, ◌<◌, ◌≤◌, List, [], ◌∷◌, ◌++◌, length, take, drop, get_or, set, decimal, ap, sym, ◌∙◌, append_assoc, add-one, arith}
+use Rattle.std.proofs.lemmas.List.{append-nil, take_more, drop-set}
 use Rattle.std.proofs.lemmas.List.Concat.{flat_map-append}
-use Rattle.std.proofs.lemmas.Fmt.{decimal_digit, decimal_step}
+use Rattle.std.proofs.lemmas.Fmt.{decimal_digit, decimal_step, length-decimal-le}
+use Rattle.std.proofs.Math.Nat.{pow-suc}
 use Rattle.std.proofs.lemmas.Map.Views.{length-le_from_below}
 use Rattle.sharing.specs.declared.TheConstants.{RELAYS}
 use Rattle.sharing.specs.Offers.{AreRelays}
-use Rattle.plan_check.specs.PlanText.{relay_text, relays_text}
+use Rattle.plan_check.specs.PlanText.{number_text, relays_text}
 
-two_digits : (r : ℕ) → 10 ≤ r → r < RELAYS → decimal r ≡ (48 + r / 10) ∷ (48 + r % 10) ∷ []
-two_digits r large small = decimal_step r large (omega arith) ∙ ap (λ t. t ++ (48 + r % 10) ∷ []) (decimal_digit (r / 10) (omega arith))
+-- the last digit is set in front of the others
+pub digit_set : (buffer digits : List ℕ) (at n : ℕ) → at < length buffer → 10 ≤ n → n < 2 ^ 64 → digits ≡ decimal n ++ drop (at + 1) buffer → digits ≡ decimal (n / 10) ++ drop at (set buffer at (48 + n % 10))
+digit_set buffer digits at n lt large small e =
+    e ∙ ap (λ t. t ++ drop (at + 1) buffer) (decimal_step n large small) ∙ append_assoc (decimal (n / 10)) ((48 + n % 10) ∷ []) (drop (at + 1) buffer)
+    ∙ ap (λ t. decimal (n / 10) ++ t) (sym (drop-set buffer at (48 + n % 10) lt))
 
--- two bytes are set
-set_two : (line : List ℕ) (at x y : ℕ) → at + 2 ≤ length line → take (at + 2) (set (set line at x) (at + 1) y) ≡ take at line ++ x ∷ y ∷ []
-set_two line at x y room =
-    let next : at + 2 ≡ (at + 1) + 1 = omega arith in
-    let first : take (at + 1) (set line at x) ≡ take at line ++ x ∷ [] = take_more_set line at x (omega arith) in
-    let second : take ((at + 1) + 1) (set (set line at x) (at + 1) y) ≡ take (at + 1) (set line at x) ++ y ∷ [] = take_more_set (set line at x) (at + 1) y (omega (arith, length-set line at x)) in
-    ap (λ n. take n (set (set line at x) (at + 1) y)) next ∙ second ∙ ap (λ t. t ++ y ∷ []) first ∙ append_assoc (take at line) (x ∷ []) (y ∷ [])
+pub first_set : (buffer digits : List ℕ) (at n : ℕ) → at < length buffer → n < 10 → digits ≡ decimal n ++ drop (at + 1) buffer → drop at (set buffer at (48 + n)) ≡ digits
+first_set buffer digits at n lt small e = drop-set buffer at (48 + n) lt ∙ ap (λ t. t ++ drop (at + 1) buffer) (sym (decimal_digit n small)) ∙ sym e
 
--- three bytes are set
-set_three : (line : List ℕ) (at x y z : ℕ) → at + 3 ≤ length line → take (at + 3) (set (set (set line at x) (at + 1) y) (at + 2) z) ≡ take at line ++ x ∷ y ∷ z ∷ []
-set_three line at x y z room =
-    let two : List ℕ = set (set line at x) (at + 1) y in
-    let next : at + 3 ≡ (at + 2) + 1 = omega arith in
-    let third : take ((at + 2) + 1) (set two (at + 2) z) ≡ take (at + 2) two ++ z ∷ [] = take_more_set two (at + 2) z (omega (arith, length-set line at x, length-set (set line at x) (at + 1) y)) in
-    ap (λ n. take n (set two (at + 2) z)) next ∙ third ∙ ap (λ t. t ++ z ∷ []) (set_two line at x y (omega arith)) ∙ append_assoc (take at line) (x ∷ y ∷ []) (z ∷ [])
+-- fewer digits are left
+pub digit_less : (n at : ℕ) → n < 10 ^ (at + 1) → n / 10 < 10 ^ at
+digit_less n at h = let more : n < 10 ^ (suc at) = rw add-one at h in omega (arith, more, pow-suc 10 at)
 
-pub one_digit_set : (line : List ℕ) (at r : ℕ) → at + 3 ≤ length line → r < 10 → take (at + 2) (set (set line at 32) (at + 1) (48 + r)) ≡ take at line ++ relay_text r
-one_digit_set line at r room small = set_two line at 32 (48 + r) (omega arith) ∙ ap (λ t. take at line ++ 32 ∷ t) (sym (decimal_digit r small))
+pub some_place : (n at : ℕ) → 10 ≤ n → n < 10 ^ (at + 1) → 0 < at
+some_place n zero large h = absurd (omega arith)
+some_place n (suc at) large h = omega arith
 
-pub two_digits_set : (line : List ℕ) (at r : ℕ) → at + 3 ≤ length line → 10 ≤ r → r < RELAYS → take (at + 3) (set (set (set line at 32) (at + 1) (48 + r / 10)) (at + 2) (48 + r % 10)) ≡ take at line ++ relay_text r
-two_digits_set line at r room large small = set_three line at 32 (48 + r / 10) (48 + r % 10) room ∙ ap (λ t. take at line ++ 32 ∷ t) (sym (two_digits r large small))
+pub relay_room : (r : ℕ) → r < RELAYS → length (number_text r) ≤ 4
+relay_room r small = let d = length-decimal-le 3 r (omega arith) (omega arith) (omega arith) in omega (arith, d)
+
+pub load_room : (n : ℕ) → n < 2 ^ 64 → length (number_text n) ≤ 21
+load_room n small = let d = length-decimal-le 20 n (omega arith) (omega arith) small in omega (arith, d)
 
 -- one relay more
-pub relays_more : (relays : List ℕ) (i : ℕ) (start before after : List ℕ) → i < length relays → before ≡ start ++ relays_text (take i relays) → after ≡ before ++ relay_text (get_or relays i 0)
+pub relays_more : (relays : List ℕ) (i : ℕ) (start before after : List ℕ) → i < length relays → before ≡ start ++ relays_text (take i relays) → after ≡ before ++ number_text (get_or relays i 0)
     → after ≡ start ++ relays_text (take (i + 1) relays)
 relays_more relays i start before after lt e k =
     let r : ℕ = get_or relays i 0 in
-    let grown : relays_text (take (i + 1) relays) ≡ relays_text (take i relays) ++ relay_text r =
-    ap relays_text (take_more relays i 0 lt) ∙ flat_map-append relay_text (take i relays) (r ∷ []) ∙ ap (λ t. relays_text (take i relays) ++ t) (append-nil (relay_text r)) in
-    k ∙ ap (λ t. t ++ relay_text r) e ∙ append_assoc start (relays_text (take i relays)) (relay_text r) ∙ ap (λ t. start ++ t) (sym grown)
+    let grown : relays_text (take (i + 1) relays) ≡ relays_text (take i relays) ++ number_text r =
+    ap relays_text (take_more relays i 0 lt) ∙ flat_map-append number_text (take i relays) (r ∷ []) ∙ ap (λ t. relays_text (take i relays) ++ t) (append-nil (number_text r)) in
+    k ∙ ap (λ t. t ++ number_text r) e ∙ append_assoc start (relays_text (take i relays)) (number_text r) ∙ ap (λ t. start ++ t) (sym grown)
 
 -- relays are few
-pub few_relays : (relays : List ℕ) → AreRelays relays → length relays ≤ 64
+pub few_relays : (relays : List ℕ) → AreRelays relays → length relays ≤ RELAYS
 few_relays relays are = length-le_from_below RELAYS relays are.ascend are.small

@@ -8,12 +8,12 @@ use Rattle.std.specs.List.{All}
 use Rattle.std.proofs.lemmas.Bool.{lt-ltb}
 use Rattle.std.proofs.lemmas.List.Elements.{All-head, All-tail}
 use Rattle.neg_codec.specs.declared.Id.{Id}
-use Rattle.sharing.specs.declared.TheConstants.{RELAYS}
+use Rattle.sharing.specs.declared.TheConstants.{RELAYS, MOST_BASE}
 use Rattle.sharing.specs.Offers.{id_cmp}
 use Rattle.sharing.proofs.Orders.{head_sorted, tail_sorted}
-use Rattle.plan_check.specs.File.{File, IsFile}
-use Rattle.plan_check.specs.Lines.{first_at, first_out, is_behind, rises_from, rises, or_else, are_relays, is_empty, malformed_at, misplaced_at}
-use Rattle.plan_check.specs.PlanText.{IsOffer, IsOfForm}
+use Rattle.plan_check.specs.File.{File, IsBase, IsFile}
+use Rattle.plan_check.specs.Lines.{first_at, first_out, place_in, is_base, is_behind, rises_from, rises, are_relays, is_empty, malformed_at, misplaced_at}
+use Rattle.plan_check.specs.PlanText.{IsOfForm}
 use Rattle.plan_check.proofs.Files.{Behind}
 
 both_true : (a b : Bool) → a ≡ true → b ≡ true → (a && b) ≡ true
@@ -37,11 +37,11 @@ module _ {X : Type 0} where
   no_place p n [] h = refl
   no_place p n (x ∷ xs) h = ap (λ b. cond b (Some n) (first_at p (n + 1) xs)) (All-head (λ x. p x ≡ false) x xs h) ∙ no_place p (n + 1) xs (All-tail (λ x. p x ≡ false) x xs h)
 
-  none_out_back : (id : X → Id) (fine : X → Bool) (before : Option Id) (n : ℕ) (xs : List X) → Behind id_cmp before (map id xs) → All (λ x. fine x ≡ true) xs → first_out id fine before n xs ≡ None
-  none_out_back id fine before n [] h f = refl
-  none_out_back id fine before n (x ∷ xs) h f =
-      ap (λ b. cond b (first_out id fine (Some (id x)) (n + 1) xs) (Some n)) (both_true (is_behind id_cmp before (id x)) (fine x) (first_behind id_cmp before (id x) (map id xs) h) (All-head (λ x. fine x ≡ true) x xs f))
-      ∙ none_out_back id fine (Some (id x)) (n + 1) xs (later_behind id_cmp before (id x) (map id xs) h) (All-tail (λ x. fine x ≡ true) x xs f)
+  none_out_back : {K : Type 0} (c : K → K → Ordering) (key : X → K) (fine : X → Bool) (before : Option K) (n : ℕ) (xs : List X) → Behind c before (map key xs) → All (λ x. fine x ≡ true) xs → first_out c key fine before n xs ≡ None
+  none_out_back c key fine before n [] h f = refl
+  none_out_back c key fine before n (x ∷ xs) h f =
+      ap (λ b. cond b (first_out c key fine (Some (key x)) (n + 1) xs) (Some n)) (both_true (is_behind c before (key x)) (fine x) (first_behind c before (key x) (map key xs) h) (All-head (λ x. fine x ≡ true) x xs f))
+      ∙ none_out_back c key fine (Some (key x)) (n + 1) xs (later_behind c before (key x) (map key xs) h) (All-tail (λ x. fine x ≡ true) x xs f)
 
 relays_small : (rs : List ℕ) → All (λ r. r < RELAYS) rs → are_relays rs ≡ true
 relays_small [] h = refl
@@ -51,29 +51,40 @@ not_empty : (rs : List ℕ) → 0 < length rs → is_empty rs ≡ false
 not_empty [] h = absurd (omega arith)
 not_empty (r ∷ rs) h = refl
 
-or_nones : (a b : Option ℕ) → a ≡ None → b ≡ None → or_else a b ≡ None
-or_nones a b ha hb = ap (λ x. or_else x b) ha ∙ hb
+offer_ok : (o : Id × List ℕ) → 0 < length o.1 → All (λ r. r < RELAYS) o.1 → (is_empty o.1 || not (are_relays o.1)) ≡ false
+offer_ok o some small = ap (λ b. b || not (are_relays o.1)) (not_empty o.1 some) ∙ ap not (relays_small o.1 small)
 
-offer_ok : (o : Id × List ℕ) → IsOffer o → (is_empty o.1 || not (are_relays o.1)) ≡ false
-offer_ok o is = ap (λ b. b || not (are_relays o.1)) (not_empty o.1 is.some) ∙ ap not (relays_small o.1 is.relays)
+base_ok : (b : ℕ × ℕ) → IsBase b → not (is_base b) ≡ false
+base_ok b is = ap not (both_true (nat_lt b.0 RELAYS) _ (lt-ltb b.0 RELAYS is.relay) (both_true (nat_lt 0 b.1) (nat_lt b.1 (MOST_BASE + 1)) (lt-ltb 0 b.1 is.some) (lt-ltb b.1 (MOST_BASE + 1) (omega (arith, is.small)))))
+
+-- where no place was found in any part, none is in the whole
+anywhere : (file : File) (b o g : Option ℕ) (t : Bool) → b ≡ None → o ≡ None → g ≡ None → t ≡ true → place_in file b o g t ≡ None
+anywhere file b o g t hb ho hg ht =
+    ap (λ x. place_in file x o g t) hb ∙ ap (λ x. place_in file None x g t) ho ∙ ap (λ x. place_in file None None x t) hg ∙ ap (λ x. place_in file None None None x) ht
 
 -- lines of the form
 pub form_ok : (file : File) → IsOfForm file → malformed_at file ≡ None
 form_ok file form =
-    or_nones _ _ (no_place _ 0 file.offers (λ k d lt. offer_ok (get_or file.offers k d) (form.offers k d lt)))
-    (or_nones _ _ (no_place _ (length file.offers) file.gives (λ k d lt. ap not (lt-ltb _ RELAYS (form.gives k d lt).relay)))
-    (ap (λ t. cond t None (Some (length file.offers + length file.gives))) (relays_small file.group form.group)))
+    anywhere file _ _ _ _
+    (no_place (λ b. not (is_base b)) 0 file.bases (λ k d lt. base_ok _ (form.bases k d lt)))
+    (no_place (λ o. is_empty o.1 || not (are_relays o.1)) 0 file.offers (λ k d lt. offer_ok (get_or file.offers k d) (form.offers k d lt).some (form.offers k d lt).relays))
+    (no_place (λ g. not (nat_lt g.1 RELAYS)) 0 file.gives (λ k d lt. ap not (lt-ltb _ RELAYS (form.gives k d lt).relay)))
+    (relays_small file.group form.group)
 
 -- lines in order
 pub in_order : (file : File) → IsFile file → misplaced_at file ≡ None
 in_order file ok =
-    or_nones _ _ (none_out_back (λ o. o.0) (λ o. rises o.1) None 0 file.offers ok.offers_ok.ascend (λ k d lt. rising_back None _ (ok.offers_ok.relays k d lt).ascend))
-    (or_nones _ _ (none_out_back (λ g. g.0) (λ _. true) None (length file.offers) file.gives ok.ascend (λ k d lt. refl))
-    (ap (λ t. cond t None (Some (length file.offers + length file.gives))) (rising_back None file.group ok.group_ok.ascend)))
+    anywhere file _ _ _ _
+    (none_out_back nat_cmp (λ b. b.0) (λ _. true) None 0 file.bases ok.bases_ok.ascend (λ k d lt. refl))
+    (none_out_back id_cmp (λ o. o.0) (λ o. rises o.1) None 0 file.offers ok.offers_ok.ascend (λ k d lt. rising_back None _ (ok.offers_ok.relays k d lt).ascend))
+    (none_out_back id_cmp (λ g. g.0) (λ _. true) None 0 file.gives ok.ascend (λ k d lt. refl))
+    (rising_back None file.group ok.group_ok.ascend)
 
 -- a file in order has its lines of the form
 pub file_form_ok : (file : File) → IsFile file → malformed_at file ≡ None
 file_form_ok file ok =
-    or_nones _ _ (no_place _ 0 file.offers (λ k d lt. ap (λ b. b || not (are_relays (get_or file.offers k d).1)) (not_empty _ (ok.offers_ok.some k d lt)) ∙ ap not (relays_small _ (ok.offers_ok.relays k d lt).small)))
-    (or_nones _ _ (no_place _ (length file.offers) file.gives (λ k d lt. ap not (lt-ltb _ RELAYS (ok.relays k d lt))))
-    (ap (λ t. cond t None (Some (length file.offers + length file.gives))) (relays_small file.group ok.group_ok.small)))
+    anywhere file _ _ _ _
+    (no_place (λ b. not (is_base b)) 0 file.bases (λ k d lt. base_ok _ (ok.bases_ok.each k d lt)))
+    (no_place (λ o. is_empty o.1 || not (are_relays o.1)) 0 file.offers (λ k d lt. offer_ok (get_or file.offers k d) (ok.offers_ok.some k d lt) (ok.offers_ok.relays k d lt).small))
+    (no_place (λ g. not (nat_lt g.1 RELAYS)) 0 file.gives (λ k d lt. ap not (lt-ltb _ RELAYS (ok.relays k d lt))))
+    (relays_small file.group ok.group_ok.small)

@@ -9,6 +9,7 @@ use Rattle.std.proofs.lemmas.Bool.{false≢true, cases_Bool, or_parts, or_from, 
 use Rattle.std.proofs.lemmas.List.Elements.{All-head, All-tail, All-cons, All-nil, All-weaker, All-map}
 use Rattle.neg_codec.specs.declared.Id.{Id}
 use Rattle.sharing.specs.Sharing.{is_among, load, IsSharing, IsGreatest, Shows}
+use Rattle.sharing.specs.Bases.{base_in}
 use Rattle.sharing.specs.Offers.{id_cmp, is_id, Ascend, beside, relays_of, relay_in}
 use Rattle.sharing.proofs.Orders.{id_total, id_apart, same_id, head_sorted, tail_sorted, All-unmap}
 use Rattle.sharing.proofs.Looks.{found_itself, gives_agree, load_by_gives}
@@ -16,7 +17,7 @@ use Rattle.plan_check.specs.declared.faults.PlanFault.{PlanFault}
 use Rattle.plan_check.specs.declared.faults.PlanFault.TheVariants.{NotOffered, Missing, Stranger, GroupTooSmall}
 use Rattle.plan_check.specs.File.{File, IsFile, pairs_of}
 use Rattle.std.specs.Global.{Vec}
-use Rattle.plan_check.specs.Verdict.{is_not_offered, is_missing, is_stranger, gives_fault, given_load, IsSharedOut, Judges, JudgesBy}
+use Rattle.plan_check.specs.Verdict.{is_not_offered, is_missing, is_stranger, gives_fault, given_load, IsSharedOut, GroupShows, Judges, JudgesBy}
 
 any_none : {X : Type 0} (p : X → Bool) (xs : List X) → list_any p xs ≡ false → All (λ x. p x ≡ false) xs
 any_none p [] h = All-nil (λ x. p x ≡ false)
@@ -135,10 +136,11 @@ module _ (file : File) (ok : IsFile file) where
       All-map (λ i. has (map (λ y. y.0) ys) i ≡ true) (λ (x : Id × _). x.0) xs
       (λ k d lt. sym (beside_has ys _) ∙ not-false _ (any_none (λ x. not (is_some (beside ys x.0))) xs h k d lt))
 
-  pub shared_out : (most : ℕ) → is_not_offered file ≡ false → is_missing file ≡ false → is_stranger file ≡ false → IsGreatest (given_load file.gives) most → IsSharedOut file most
+  pub shared_out : (most : ℕ) → is_not_offered file ≡ false → is_missing file ≡ false → is_stranger file ≡ false → IsGreatest (given_load file.bases file.gives) most → IsSharedOut file most
   shared_out most a b c greatest =
       let ids : map (λ g. g.0) file.gives ≡ map (λ o. o.0) file.offers = same_ids (map (λ g. g.0) file.gives) (map (λ o. o.0) file.offers) ok.ascend ok.offers_ok.ascend (present file.gives file.offers c) (present file.offers file.gives b) in
-      let loads : (r : ℕ) → load F file.offers r ≡ given_load file.gives r = λ r. load_by_gives F file.offers file.gives r (sym ids) (gives_agree file.gives ok.ascend) in
+      let base : ℕ → ℕ = base_in file.bases in
+      let loads : (r : ℕ) → load base F file.offers r ≡ given_load file.bases file.gives r = λ r. load_by_gives base F file.offers file.gives r (sym ids) (gives_agree file.gives ok.ascend) in
       record {
         ids = ids;
         sharing = from_fine R F file.offers file.gives ids (found_itself file.offers ok.offers_ok.ascend) (gives_agree file.gives ok.ascend) (any_none (unoffered R F) file.gives a);
@@ -170,22 +172,22 @@ one_most file a b s t = omega (arith, s.greatest.0 t.greatest.1.0, t.greatest.1.
 pub judge_fault : (file : File) (f : PlanFault) → gives_fault file ≡ Some f → Judges file (Err f)
 judge_fault file f e = subst (λ o. JudgesBy o file (Err f)) (sym e) refl
 
-pub judge_ok : (file : File) (most : ℕ) → gives_fault file ≡ None → IsSharedOut file most → Shows file.group file.offers most → Judges file (Ok most)
+pub judge_ok : (file : File) (most : ℕ) → gives_fault file ≡ None → IsSharedOut file most → GroupShows file most → Judges file (Ok most)
 judge_ok file most e s shows = subst (λ o. JudgesBy o file (Ok most)) (sym e) (s, shows)
 
-pub judge_small : (file : File) (least : ℕ) → gives_fault file ≡ None → IsSharedOut file least → (Shows file.group file.offers least → ⊥) → Judges file (Err GroupTooSmall)
-judge_small file least e s small = subst (λ o. JudgesBy o file (Err GroupTooSmall)) (sym e) (refl, λ most t shows. small (subst (Shows file.group file.offers) (one_most file most least t s) shows))
+pub judge_small : (file : File) (least : ℕ) → gives_fault file ≡ None → IsSharedOut file least → (GroupShows file least → ⊥) → Judges file (Err GroupTooSmall)
+judge_small file least e s small = subst (λ o. JudgesBy o file (Err GroupTooSmall)) (sym e) (refl, λ most t shows. small (subst (GroupShows file) (one_most file most least t s) shows))
 
 module _ (file : File) (ok : IsFile file) where
   exact_by : (o : Option PlanFault) (result : Result ℕ PlanFault) → gives_fault file ≡ o →
       JudgesBy o file result →
-      (most : ℕ) → ((result ≡ Ok most) → IsSharedOut file most × Shows file.group file.offers most) × ((IsSharedOut file most × Shows file.group file.offers most) → result ≡ Ok most)
+      (most : ℕ) → ((result ≡ Ok most) → IsSharedOut file most × GroupShows file most) × ((IsSharedOut file most × GroupShows file most) → result ≡ Ok most)
   exact_by None (Ok least) e j most =
-      ((λ is. let same : least ≡ most = cc in subst (λ n. IsSharedOut file n × Shows file.group file.offers n) same j), λ s. ap Ok (one_most file least most j.0 s.0))
+      ((λ is. let same : least ≡ most = cc in subst (λ n. IsSharedOut file n × GroupShows file n) same j), λ s. ap Ok (one_most file least most j.0 s.0))
   exact_by None (Err f) e j most = ((λ is. absurd (cc)), λ s. absurd (j.1 most s.0 s.1))
   exact_by (Some f) result e j most = ((λ is. absurd (let x : Err f ≡ Ok most = sym j ∙ is in cc)), λ s. absurd (let x : Some f ≡ None = sym e ∙ no_fault file ok most s.0 in cc))
 
-  pub exact_from : (result : Result ℕ PlanFault) → Judges file result → (most : ℕ) → ((result ≡ Ok most) → IsSharedOut file most × Shows file.group file.offers most) × ((IsSharedOut file most × Shows file.group file.offers most) → result ≡ Ok most)
+  pub exact_from : (result : Result ℕ PlanFault) → Judges file result → (most : ℕ) → ((result ≡ Ok most) → IsSharedOut file most × GroupShows file most) × ((IsSharedOut file most × GroupShows file most) → result ≡ Ok most)
   exact_from result j = exact_by (gives_fault file) result refl j
 
 -- what the lists that were lent say of the file
@@ -203,3 +205,17 @@ pub lent_missing : (file : File) (offers : List (Id × Vec ℕ)) (gives : List (
 lent_missing file offers gives e g =
     sym (any_map (λ (o : Id × List ℕ). not (is_some (beside gives o.0))) (λ (o : Id × Vec ℕ). (o.0, o.1.items)) offers)
     ∙ ap (list_any (λ (o : Id × List ℕ). not (is_some (beside gives o.0)))) e ∙ ap (λ gs. list_any (λ (o : Id × List ℕ). not (is_some (beside gs o.0))) file.offers) g
+
+-- what the lists that were lent say of the loads, and of what the group shows
+pub lent_most : (file : File) (bases : List (ℕ × ℕ)) (gives : List (Id × ℕ)) (loads : ℕ → ℕ) (most : ℕ) → bases ≡ file.bases → gives ≡ file.gives → ((r : ℕ) → loads r ≡ given_load bases gives r) → IsGreatest loads most → IsGreatest (given_load file.bases file.gives) most
+lent_most file bases gives loads most b g same h =
+    let each : (r : ℕ) → loads r ≡ given_load file.bases file.gives r = λ r. same r ∙ ap (λ bs. given_load bs gives r) b ∙ ap (λ gs. given_load file.bases gs r) g in
+    ((λ r. omega (arith, each r, h.0 r)), (h.1.0, sym (each h.1.0) ∙ h.1.1))
+
+pub lent_shows : (file : File) (bases : List (ℕ × ℕ)) (offers : List (Id × List ℕ)) (group : List ℕ) (most : ℕ) → bases ≡ file.bases → offers ≡ file.offers → group ≡ file.group → Shows (base_in bases) group offers most → GroupShows file most
+lent_shows file bases offers group most b o g h =
+    subst (λ bs. Shows (base_in bs) file.group file.offers most) b (subst (λ os. Shows (base_in bases) file.group os most) o (subst (λ gs. Shows (base_in bases) gs offers most) g h))
+
+pub lent_shows_back : (file : File) (bases : List (ℕ × ℕ)) (offers : List (Id × List ℕ)) (group : List ℕ) (most : ℕ) → bases ≡ file.bases → offers ≡ file.offers → group ≡ file.group → GroupShows file most → Shows (base_in bases) group offers most
+lent_shows_back file bases offers group most b o g h =
+    subst (λ bs. Shows (base_in bs) group offers most) (sym b) (subst (λ os. Shows (base_in file.bases) group os most) (sym o) (subst (λ gs. Shows (base_in file.bases) gs file.offers most) (sym g) h))

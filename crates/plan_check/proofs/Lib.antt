@@ -4,7 +4,8 @@ pub mod Given
 pub mod Judged
 pub mod Spans
 pub mod LineLemmas
-pub mod RelayLemmas
+pub mod NumberLemmas
+pub mod Runs
 pub mod Digits
 pub mod IdLemmas
 pub mod KindLemmas
@@ -15,3 +16,4 @@ pub mod OneText
 pub mod ReadLemmas
 pub mod WriteLemmas
 pub mod Ascii
+pub mod Scanned

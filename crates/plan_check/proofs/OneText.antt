@@ -1,23 +1,18 @@
 -- A text is that of one file.
-use Rattle.std.proofs.Common.{◌≡◌, ℕ, ◌<◌, List, [], ◌∷◌, ◌++◌, length, map, refl, ap, sym, ◌∙◌, decimal}
+use Rattle.std.proofs.Common.{◌≡◌, ℕ, ◌<◌, inr, List, [], ◌∷◌, ◌++◌, length, map, refl, ap, sym, ◌∙◌, decimal}
 use Rattle.std.specs.List.{All}
-use Rattle.std.specs.List.Sorted.{IsStrictlySortedBy}
-use Rattle.std.proofs.lemmas.List.Elements.{All-head, All-tail, All-nil}
+use Rattle.std.proofs.lemmas.List.Elements.{All-head, All-tail}
 use Rattle.std.proofs.lemmas.Fmt.{decimal_injective}
 use Rattle.hex.specs.Hex.{encode_lower}
 use Rattle.neg_codec.specs.declared.Id.{Id}
 use Rattle.sharing.specs.declared.TheConstants.{RELAYS}
-use Rattle.sharing.specs.Offers.{AreRelays}
-use Rattle.plan_check.specs.File.{File, IsFile}
-use Rattle.plan_check.specs.PlanText.{relay_text, relays_text, offer_line, give_line, group_line, plan_lines, plan_text, IsOffer, IsGive, IsOfForm}
-use Rattle.plan_check.specs.TextLines.{FirstIsNot}
-use Rattle.plan_check.specs.PlanParts.{IsGiveLine}
+use Rattle.plan_check.specs.File.{File, IsBase}
+use Rattle.plan_check.specs.PlanText.{number_text, relays_text, base_line, offer_line, give_line, group_line, plan_lines, plan_text, IsOffer, IsGive, IsOfForm}
 use Rattle.plan_check.specs.PlanReading.{OneFile}
-use Rattle.plan_check.proofs.Spans.{peel}
 use Rattle.plan_check.proofs.IdLemmas.{same_id, after_id}
 use Rattle.plan_check.proofs.LineLemmas.{same_words}
-use Rattle.plan_check.proofs.RelayLemmas.{relay_small, one_word, no_space, next_relays}
-use Rattle.plan_check.proofs.FormLemmas.{offered, given, grouped, plan_lines-is, plan_parts, gives_kind, behind_offers, behind_gives}
+use Rattle.plan_check.proofs.NumberLemmas.{relay_small, base_small, same_number, next_relays}
+use Rattle.plan_check.proofs.FormLemmas.{based, offered, given, grouped, plan_lines-is, plan_parts, behind_bases, behind_offers, behind_gives}
 use Rattle.plan_check.proofs.TextLemmas.{lines_of-plan}
 
 same_relays : (rs qs : List ℕ) → All (λ r. r < RELAYS) rs → All (λ r. r < RELAYS) qs → relays_text rs ≡ relays_text qs → rs ≡ qs
@@ -25,16 +20,21 @@ same_relays [] [] hr hq e = refl
 same_relays [] (q ∷ qs) hr hq e = absurd (cc)
 same_relays (r ∷ rs) [] hr hq e = absurd (cc)
 same_relays (r ∷ rs) (q ∷ qs) hr hq e =
-    let r_small : r < RELAYS = All-head (λ r. r < RELAYS) r rs hr in
-    let q_small : q < RELAYS = All-head (λ r. r < RELAYS) q qs hq in
-    let behind : decimal r ++ relays_text rs ≡ decimal q ++ relays_text qs = cc in
-    let parts = one_word q (decimal r) (relays_text rs) (relays_text qs) q_small (no_space r r_small) (next_relays rs) (next_relays qs) behind in
-    let head : r ≡ q = decimal_injective r q (relay_small r r_small) (relay_small q q_small) parts.0 in
+    let parts = same_number r q (relays_text rs) (relays_text qs) (relay_small r (All-head (λ r. r < RELAYS) r rs hr)) (relay_small q (All-head (λ r. r < RELAYS) q qs hq)) (next_relays rs) (next_relays qs) e in
+    let head : r ≡ q = parts.0 in
     let tail : rs ≡ qs = same_relays rs qs (All-tail (λ r. r < RELAYS) r rs hr) (All-tail (λ r. r < RELAYS) q qs hq) parts.1 in
     cc
 
 same_pair : {X Y : Type 0} (a b : X × Y) → a.0 ≡ b.0 → a.1 ≡ b.1 → a ≡ b
 same_pair a b h k = ap (λ (x : _). (x, a.1)) h ∙ ap (λ (y : _). (b.0, y)) k
+
+same_base : (a b : ℕ × ℕ) → IsBase a → IsBase b → based a ≡ based b → a ≡ b
+same_base a b ha hb e =
+    let words : base_line a ≡ base_line b = same_words (base_line a) (base_line b) e in
+    let behind : number_text a.0 ++ number_text a.1 ≡ number_text b.0 ++ number_text b.1 = cc in
+    let parts = same_number a.0 b.0 (number_text a.1) (number_text b.1) (relay_small a.0 ha.relay) (relay_small b.0 hb.relay) (λ not. not refl) (λ not. not refl) behind in
+    let load : a.1 ≡ b.1 = (same_number a.1 b.1 [] [] (base_small a ha) (base_small b hb) tt tt (ap (λ t. t ++ []) parts.1)).0 in
+    same_pair a b parts.0 load
 
 pub same_offer : (a b : Id × List ℕ) → IsOffer a → IsOffer b → offered a ≡ offered b → a ≡ b
 same_offer a b ha hb e =
@@ -47,9 +47,9 @@ same_offer a b ha hb e =
 same_give : (a b : Id × ℕ) → IsGive a → IsGive b → given a ≡ given b → a ≡ b
 same_give a b ha hb e =
     let words : give_line a ≡ give_line b = same_words (give_line a) (give_line b) e in
-    let behind : encode_lower a.0.0 ++ relay_text a.1 ≡ encode_lower b.0.0 ++ relay_text b.1 = cc in
-    let id : a.0 ≡ b.0 = same_id a.0 b.0 (relay_text a.1) (relay_text b.1) ha.id hb.id behind in
-    let number = after_id a.0 b.0 (relay_text a.1) (relay_text b.1) ha.id hb.id behind in
+    let behind : encode_lower a.0.0 ++ number_text a.1 ≡ encode_lower b.0.0 ++ number_text b.1 = cc in
+    let id : a.0 ≡ b.0 = same_id a.0 b.0 (number_text a.1) (number_text b.1) ha.id hb.id behind in
+    let number = after_id a.0 b.0 (number_text a.1) (number_text b.1) ha.id hb.id behind in
     let digits : decimal a.1 ≡ decimal b.1 = cc in
     let relay : a.1 ≡ b.1 = decimal_injective a.1 b.1 (relay_small a.1 ha.relay) (relay_small b.1 hb.relay) digits in
     same_pair a b id relay
@@ -71,44 +71,23 @@ same_records f P same (x ∷ xs) (y ∷ ys) hx hy e =
     let tail : xs ≡ ys = same_records f P same xs ys (All-tail P x xs hx) (All-tail P y ys hy) others in
     cc
 
-pub same_file : (a b : File) → a.offers ≡ b.offers → a.gives ≡ b.gives → a.group ≡ b.group → a ≡ b
-same_file a b o g r =
-    ap (λ os. record { offers = os; gives = a.gives; group = a.group }) o
-    ∙ ap (λ gs. record { offers = b.offers; gives = gs; group = a.group }) g
-    ∙ ap (λ (rs : List ℕ). record { offers = b.offers; gives = b.gives; group = rs }) r
+pub same_file : (a b : File) → a.bases ≡ b.bases → a.offers ≡ b.offers → a.gives ≡ b.gives → a.group ≡ b.group → a ≡ b
+same_file a b s o g r =
+    ap (λ bs. record { bases = bs; offers = a.offers; gives = a.gives; group = a.group }) s
+    ∙ ap (λ os. record { bases = b.bases; offers = os; gives = a.gives; group = a.group }) o
+    ∙ ap (λ gs. record { bases = b.bases; offers = b.offers; gives = gs; group = a.group }) g
+    ∙ ap (λ (rs : List ℕ). record { bases = b.bases; offers = b.offers; gives = b.gives; group = rs }) r
 
 pub one_plan : (a b : File) → IsOfForm a → IsOfForm b → plan_lines a ≡ plan_lines b → a ≡ b
 one_plan a b ha hb e =
-    let parts = plan_parts a.offers a.gives ha.offers ha.gives (grouped a.group ∷ []) b hb (behind_offers a.gives a.group [] ha.gives ha.group) (behind_gives a.group ha.group) (sym (plan_lines-is a) ∙ e) in
-    let last = parts.2 in
+    let parts = plan_parts a.bases a.offers a.gives ha.bases ha.offers ha.gives (grouped a.group ∷ []) b hb (inr (behind_bases a.offers a.gives a.group [] ha.offers ha.gives ha.group)) (behind_offers a.gives a.group [] ha.gives ha.group) (behind_gives a.group ha.group) (sym (plan_lines-is a) ∙ e) in
+    let last = parts.3 in
     let line : grouped a.group ≡ grouped b.group = cc in
-    let offers : a.offers ≡ b.offers = same_records offered IsOffer same_offer a.offers b.offers ha.offers hb.offers parts.0 in
-    let gives : a.gives ≡ b.gives = same_records given IsGive same_give a.gives b.gives ha.gives hb.gives parts.1 in
+    let bases : a.bases ≡ b.bases = same_records based IsBase same_base a.bases b.bases ha.bases hb.bases parts.0 in
+    let offers : a.offers ≡ b.offers = same_records offered IsOffer same_offer a.offers b.offers ha.offers hb.offers parts.1 in
+    let gives : a.gives ≡ b.gives = same_records given IsGive same_give a.gives b.gives ha.gives hb.gives parts.2 in
     let group : a.group ≡ b.group = same_group a.group b.group ha.group hb.group line in
-    same_file a b offers gives group
+    same_file a b bases offers gives group
 
 pub one_file_each : OneFile
 one_file_each a b ha hb e = one_plan a b ha hb (sym (lines_of-plan (plan_text a) a ha refl) ∙ lines_of-plan (plan_text a) b hb e)
-
--- gives, and what comes behind them and is no give, are those of the file's tail
-pub tail_parts : (gives : List (Id × ℕ)) (rest : List (List ℕ)) (tail : File) → All IsGive gives → FirstIsNot IsGiveLine rest → IsOfForm tail
-    → map given gives ++ rest ≡ map given tail.gives ++ grouped tail.group ∷ [] → (gives ≡ tail.gives) × (rest ≡ grouped tail.group ∷ [])
-tail_parts gives rest tail are last form e =
-    let parts = peel IsGiveLine (map given gives) (map given tail.gives) rest (grouped tail.group ∷ []) (gives_kind gives are) (gives_kind tail.gives form.gives) last (behind_gives tail.group form.group) e in
-    (same_records given IsGive same_give gives tail.gives are form.gives parts.0, parts.1)
-
--- the group of the file's tail, and nothing behind it
-pub group_parts : (group : List ℕ) (rest : List (List ℕ)) (tail : File) → All (λ r. r < RELAYS) group → IsOfForm tail → grouped group ∷ rest ≡ grouped tail.group ∷ [] → (group ≡ tail.group) × (rest ≡ [])
-group_parts group rest tail small form e =
-    let line : grouped group ≡ grouped tail.group = cc in
-    (same_group group tail.group small form.group line, cc)
-
--- a file's tail, as a file without offers, is in order
-pub tail_file : (file : File) → IsFile file → IsFile (record { offers = []; gives = file.gives; group = file.group })
-unfolding IsStrictlySortedBy
-tail_file file is = record {
-  offers_ok = record { ascend = tt; relays = All-nil (λ (p : Id × List ℕ). AreRelays p.1); some = All-nil (λ (p : Id × List ℕ). 0 < length p.1) };
-  ascend = is.ascend;
-  relays = is.relays;
-  group_ok = is.group_ok;
-}

@@ -1,7 +1,6 @@
 -- What a text is read as.
 use Rattle.std.proofs.Common.{◌≡◌, ◌≢◌, ◌⊎◌, ◌<◌, ◌≤◌, ◌-◌, ◌++◌, [], append_assoc, take, ℕ, inl, inr, List, length, drop, Option, Some, None, Result, Ok, Err, refl, ap, sym, ◌∙◌, subst, arith, take-append-drop}
-use Rattle.std.specs.Prelude.{MatchOption, IsOk, IsErr, IfOk, IfErr}
-use Rattle.std.proofs.lemmas.Bool.{cases_lt, false≢true}
+use Rattle.std.proofs.lemmas.Bool.{cases_lt}
 use Rattle.plan_check.specs.declared.faults.PlanFault.{PlanFault}
 use Rattle.plan_check.specs.declared.faults.PlanFault.TheVariants.{Line, Order, NotOffered, Missing, Stranger, GroupTooSmall, Memory}
 use Rattle.plan_check.specs.File.{File, IsFile}
@@ -9,10 +8,10 @@ use Rattle.plan_check.specs.Lines.{misplaced_at, misplaced_fault}
 use Rattle.plan_check.specs.TextLines.{lines_of}
 use Rattle.plan_check.specs.PlanText.{plan_lines, plan_text, IsOfForm, IsTextOf}
 use Rattle.std.proofs.lemmas.List.{take-take}
-use Rattle.plan_check.specs.PlanReading.{Begins, IsFirstWrong, IsOutOfOrder, IsReadFault, Reads, RoundTrip}
+use Rattle.plan_check.specs.PlanReading.{Begins, IsFirstWrong, IsOutOfOrder, IsTextFault, Reads, RoundTrip, OneFault}
 use Rattle.plan_check.proofs.InOrder.{in_order}
 use Rattle.plan_check.proofs.TextLemmas.{lines_of-plan}
-use Rattle.plan_check.proofs.OneText.{one_file_each, same_file, tail_file}
+use Rattle.plan_check.proofs.OneText.{one_file_each}
 
 -- a plan text has no wrong line
 no_wrong_line : (text : List ℕ) (file : File) (n : ℕ) → IsOfForm file → text ≡ plan_text file → IsFirstWrong (lines_of text) n → ⊥
@@ -30,43 +29,29 @@ no_disorder text file fault told out =
     let none : misplaced_fault (misplaced_at out.0) ≡ None = ap (λ f. misplaced_fault (misplaced_at f)) same ∙ ap misplaced_fault (in_order file told.ordered) in
     cc (sym none ∙ out.3)
 
+-- a plan text has no fault
+pub no_fault : (text : List ℕ) (file : File) (fault : PlanFault) → IsTextOf text file → IsTextFault text fault → ⊥
+no_fault text file (Line n) told wrong = no_wrong_line text file n told.form told.is wrong
+no_fault text file (Order n) told wrong = no_disorder text file (Order n) told wrong
+no_fault text file NotOffered told wrong = wrong
+no_fault text file Missing told wrong = wrong
+no_fault text file Stranger told wrong = wrong
+no_fault text file GroupTooSmall told wrong = wrong
+no_fault text file Memory told wrong = wrong
+
 pub read_back : RoundTrip
 read_back text file (Ok other) told read = inl (ap Ok (one_file_each other file read.form told.form (sym read.is ∙ told.is)))
-read_back text file (Err (Line n)) told read = absurd (no_wrong_line text file n told.form told.is read)
-read_back text file (Err (Order n)) told read = absurd (no_disorder text file (Order n) told read)
+read_back text file (Err Memory) told read = inr refl
+read_back text file (Err (Line n)) told read = absurd (no_fault text file (Line n) told read)
+read_back text file (Err (Order n)) told read = absurd (no_fault text file (Order n) told read)
 read_back text file (Err NotOffered) told read = absurd read
 read_back text file (Err Missing) told read = absurd read
 read_back text file (Err Stranger) told read = absurd read
 read_back text file (Err GroupTooSmall) told read = absurd read
-read_back text file (Err Memory) told read = inr refl
 
 -- what is made of lists of the form
-pub made_by : (text : List ℕ) (file : File) (o : Option ℕ) (result : Result File PlanFault) → IsOfForm file → text ≡ plan_text file → misplaced_at file ≡ o
-    → MatchOption (misplaced_fault o) (IsOk result) (λ f. result ≡ Err f) → IfOk result (λ f. f ≡ file) → IfOk result IsFile → Reads text result
-made_by text file None (Ok made) form is e ok keeps ordered = subst (IsTextOf text) (sym keeps) (record { form = form; ordered = subst IsFile keeps ordered; is = is })
-made_by text file None (Err f) form is e ok keeps ordered = absurd (false≢true ok)
-made_by text file (Some n) result form is e fault keeps ordered = subst (Reads text) (sym fault) (file, form, is, ap misplaced_fault e)
-
-pub reads_ok : (text : List ℕ) (result : Result File PlanFault) → Reads text result → IfOk result (IsTextOf text)
-reads_ok text (Ok file) h = h
-reads_ok text (Err f) h = tt
-
-pub reads_err : (text : List ℕ) (result : Result File PlanFault) → Reads text result → IfErr result (IsReadFault text)
-reads_err text (Ok file) h = tt
-reads_err text (Err f) h = h
-
-pub fault_reads : (text : List ℕ) (result : Result File PlanFault) → IsErr result → IfErr result (IsReadFault text) → Reads text result
-fault_reads text (Ok file) is h = absurd (false≢true is)
-fault_reads text (Err f) is h = h
-
--- a tail in order has no fault
-pub tail_taken : (made tail : File) (result : Result File PlanFault) (f : PlanFault) → made.offers ≡ [] → made.gives ≡ tail.gives → made.group ≡ tail.group → IsFile tail
-    → MatchOption (misplaced_fault (misplaced_at made)) (IsOk result) (λ g. result ≡ Err g) → result ≡ Err f → ⊥
-tail_taken made tail result f offers gives group is fault err =
-    let ordered : IsFile made = subst IsFile (sym (same_file made (record { offers = []; gives = tail.gives; group = tail.group }) offers gives group)) (tail_file tail is) in
-    let none : misplaced_fault (misplaced_at made) ≡ None = ap misplaced_fault (in_order made ordered) in
-    let ok : IsOk result = subst (λ o. MatchOption o (IsOk result) (λ g. result ≡ Err g)) none fault in
-    false≢true (subst IsOk err ok)
+pub made_by : (text : List ℕ) (file made : File) → IsOfForm file → text ≡ plan_text file → made ≡ file → IsFile made → IsTextOf text made
+made_by text file made form is keeps ordered = record { form = subst IsOfForm (sym keeps) form; ordered = ordered; is = is ∙ ap plan_text (sym keeps) }
 
 -- ---- one fault
 -- a front of lines that begin a plan text begins one
@@ -92,34 +77,35 @@ same_order text f g a b =
     let both : Some f ≡ Some g = sym a.3 ∙ ap (λ x. misplaced_fault (misplaced_at x)) file ∙ b.3 in
     cc
 
-line_alone : (text : List ℕ) (n : ℕ) (g : PlanFault) → IsFirstWrong (lines_of text) n → IsReadFault text g → g ≢ Memory → Line n ≡ g
-line_alone text n (Line m) a b not = ap Line (same_line (lines_of text) n m a b)
-line_alone text n (Order m) a b not = absurd (no_wrong_line text b.0 n b.1 b.2 a)
-line_alone text n NotOffered a b not = absurd b
-line_alone text n Missing a b not = absurd b
-line_alone text n Stranger a b not = absurd b
-line_alone text n GroupTooSmall a b not = absurd b
-line_alone text n Memory a b not = absurd (not refl)
-
-order_alone : (text : List ℕ) (n : ℕ) (g : PlanFault) → IsOutOfOrder text (Order n) → IsReadFault text g → g ≢ Memory → Order n ≡ g
-order_alone text n (Line m) a b not = absurd (no_wrong_line text a.0 m a.1 a.2 b)
-order_alone text n (Order m) a b not = same_order text (Order n) (Order m) a b
-order_alone text n NotOffered a b not = absurd b
-order_alone text n Missing a b not = absurd b
-order_alone text n Stranger a b not = absurd b
-order_alone text n GroupTooSmall a b not = absurd b
-order_alone text n Memory a b not = absurd (not refl)
+-- a text has one fault at most
+pub one_fault_each : (text : List ℕ) (f g : PlanFault) → IsTextFault text f → IsTextFault text g → f ≡ g
+one_fault_each text (Line m) (Line n) a b = ap Line (same_line (lines_of text) m n a b)
+one_fault_each text (Line m) (Order n) a b = absurd (no_wrong_line text b.0 m b.1 b.2 a)
+one_fault_each text (Order m) (Line n) a b = absurd (no_wrong_line text a.0 n a.1 a.2 b)
+one_fault_each text (Order m) (Order n) a b = same_order text (Order m) (Order n) a b
+one_fault_each text NotOffered g a b = absurd a
+one_fault_each text Missing g a b = absurd a
+one_fault_each text Stranger g a b = absurd a
+one_fault_each text GroupTooSmall g a b = absurd a
+one_fault_each text Memory g a b = absurd a
+one_fault_each text (Line m) NotOffered a b = absurd b
+one_fault_each text (Line m) Missing a b = absurd b
+one_fault_each text (Line m) Stranger a b = absurd b
+one_fault_each text (Line m) GroupTooSmall a b = absurd b
+one_fault_each text (Line m) Memory a b = absurd b
+one_fault_each text (Order m) NotOffered a b = absurd b
+one_fault_each text (Order m) Missing a b = absurd b
+one_fault_each text (Order m) Stranger a b = absurd b
+one_fault_each text (Order m) GroupTooSmall a b = absurd b
+one_fault_each text (Order m) Memory a b = absurd b
 
 -- a text that has a fault is refused for it
-pub refused_so : (text : List ℕ) (result : Result File PlanFault) (fault : PlanFault) → Reads text result → IsReadFault text fault → fault ≢ Memory → (result ≡ Err fault) ⊎ (result ≡ Err Memory)
-refused_so text (Ok file) fault told is not = elim (read_back text file (Err fault) told is) [
-  | inl same ↦ absurd (cc)
-  | inr memory ↦ absurd (not (cc))
-]
-refused_so text (Err (Line n)) fault told is not = inl (ap Err (line_alone text n fault told is not))
-refused_so text (Err (Order n)) fault told is not = inl (ap Err (order_alone text n fault told is not))
-refused_so text (Err NotOffered) fault told is not = absurd told
-refused_so text (Err Missing) fault told is not = absurd told
-refused_so text (Err Stranger) fault told is not = absurd told
-refused_so text (Err GroupTooSmall) fault told is not = absurd told
-refused_so text (Err Memory) fault told is not = inr refl
+pub refused_so : OneFault
+refused_so text fault (Ok file) is told = absurd (no_fault text file fault told is)
+refused_so text fault (Err Memory) is told = absurd (no_fault text told.0 fault told.1 is)
+refused_so text fault (Err (Line n)) is told = ap Err (one_fault_each text (Line n) fault told is)
+refused_so text fault (Err (Order n)) is told = ap Err (one_fault_each text (Order n) fault told is)
+refused_so text fault (Err NotOffered) is told = absurd told
+refused_so text fault (Err Missing) is told = absurd told
+refused_so text fault (Err Stranger) is told = absurd told
+refused_so text fault (Err GroupTooSmall) is told = absurd told

@@ -1,5 +1,5 @@
 -- A text and its lines.
-use Rattle.std.proofs.Common.{◌≡◌, ℕ, ◌/◌, ◌%◌, ◌<◌, ◌==◌, true, false, not, List, [], ◌∷◌, ◌++◌, map, flat_map, refl, ap, sym, ◌∙◌, subst, arith, append_assoc, inl, inr, slice_index, decimal, codes}
+use Rattle.std.proofs.Common.{◌≡◌, ℕ, ◌/◌, ◌%◌, ◌^◌, ◌<◌, ◌==◌, true, false, not, List, [], ◌∷◌, ◌++◌, map, flat_map, refl, ap, sym, ◌∙◌, subst, arith, append_assoc, inl, inr, slice_index, decimal, codes}
 use Rattle.std.specs.List.{All, list_all}
 use Rattle.std.proofs.lemmas.Bool.{cases_eq, cases_lt, ne_eqb, and_parts, false≢true}
 use Rattle.std.proofs.lemmas.List.{get_or_past, get_or_default}
@@ -9,12 +9,12 @@ use Rattle.std.proofs.lemmas.Fmt.{digits_decimal}
 use Rattle.hex.specs.Hex.{encode_lower, encode_with, lower_digits}
 use Rattle.neg_codec.specs.declared.Id.{Id}
 use Rattle.sharing.specs.declared.TheConstants.{RELAYS}
-use Rattle.plan_check.specs.File.{File}
+use Rattle.plan_check.specs.File.{File, IsBase}
 use Rattle.plan_check.specs.TextLines.{lines_of, onto_line, ended}
-use Rattle.plan_check.specs.PlanText.{header_line, relay_text, relays_text, offer_line, give_line, group_line, plan_lines, plan_text, IsOffer, IsGive, IsOfForm}
+use Rattle.plan_check.specs.PlanText.{header_line, number_text, relays_text, base_line, offer_line, give_line, group_line, plan_lines, plan_text, IsOffer, IsGive, IsOfForm}
 use Rattle.plan_check.proofs.LineLemmas.{NoFeed, lines_of-first}
-use Rattle.plan_check.proofs.RelayLemmas.{own, relay_small}
-use Rattle.plan_check.proofs.FormLemmas.{offered, given, grouped, plan_lines-is}
+use Rattle.plan_check.proofs.NumberLemmas.{own, relay_small, base_small}
+use Rattle.plan_check.proofs.FormLemmas.{based, offered, given, grouped, plan_lines-is}
 
 abbrev pub joined : List (List ℕ) → List ℕ
 joined lines = flat_map (λ line. line) lines
@@ -62,14 +62,22 @@ hex_no_feed (b ∷ bs) =
     All-cons NoFeed (slice_index lower_digits (b / 16)) (slice_index lower_digits (b % 16) ∷ encode_lower bs) (digit_no_feed (b / 16))
     (All-cons NoFeed (slice_index lower_digits (b % 16)) (encode_lower bs) (digit_no_feed (b % 16)) (hex_no_feed bs))
 
-relay_no_feed : (r : ℕ) → r < RELAYS → All NoFeed (relay_text r)
-relay_no_feed r small = All-cons NoFeed 32 (decimal r) (λ is. omega (arith, is)) (λ k d lt is.
-    let range = digit_at (decimal r) k (digits_decimal own r (relay_small r small)) lt in
+number_no_feed : (r : ℕ) → r < 2 ^ 64 → All NoFeed (number_text r)
+number_no_feed r small = All-cons NoFeed 32 (decimal r) (λ is. omega (arith, is)) (λ k d lt is.
+    let range = digit_at (decimal r) k (digits_decimal own r small) lt in
     omega (arith, range.0, range.1, get_or_default (decimal r) k d 0 lt, is))
 
 relays_no_feed : (relays : List ℕ) → All (λ r. r < RELAYS) relays → All NoFeed (relays_text relays)
 relays_no_feed [] h = All-nil NoFeed
-relays_no_feed (r ∷ rs) h = All-append NoFeed (relay_text r) (relays_text rs) (relay_no_feed r (All-head (λ r. r < RELAYS) r rs h)) (relays_no_feed rs (All-tail (λ r. r < RELAYS) r rs h))
+relays_no_feed (r ∷ rs) h = All-append NoFeed (number_text r) (relays_text rs) (number_no_feed r (relay_small r (All-head (λ r. r < RELAYS) r rs h))) (relays_no_feed rs (All-tail (λ r. r < RELAYS) r rs h))
+
+base_whole : (b : ℕ × ℕ) → IsBase b → IsWhole (based b)
+base_whole b is =
+    (base_line b, All-append NoFeed (codes "base") (number_text b.0 ++ number_text b.1) (passes (codes "base") refl) (All-append NoFeed (number_text b.0) (number_text b.1) (number_no_feed b.0 (relay_small b.0 is.relay)) (number_no_feed b.1 (base_small b is))), refl)
+
+header_whole : (bs : List (ℕ × ℕ)) → IsWhole (ended (header_line bs))
+header_whole [] = (codes "nostr-plan 1", passes (codes "nostr-plan 1") refl, refl)
+header_whole (b ∷ bs) = (codes "nostr-plan 2", passes (codes "nostr-plan 2") refl, refl)
 
 offer_whole : (o : Id × List ℕ) → IsOffer o → IsWhole (offered o)
 offer_whole o is =
@@ -77,7 +85,7 @@ offer_whole o is =
 
 give_whole : (g : Id × ℕ) → IsGive g → IsWhole (given g)
 give_whole g is =
-    (give_line g, All-append NoFeed (codes "give ") _ (passes (codes "give ") refl) (All-append NoFeed (encode_lower g.0.0) (relay_text g.1) (hex_no_feed g.0.0) (relay_no_feed g.1 is.relay)), refl)
+    (give_line g, All-append NoFeed (codes "give ") _ (passes (codes "give ") refl) (All-append NoFeed (encode_lower g.0.0) (number_text g.1) (hex_no_feed g.0.0) (number_no_feed g.1 (relay_small g.1 is.relay))), refl)
 
 group_whole : (group : List ℕ) → All (λ r. r < RELAYS) group → IsWhole (grouped group)
 group_whole group small = (group_line group, All-append NoFeed (codes "group") (relays_text group) (passes (codes "group") refl) (relays_no_feed group small), refl)
@@ -85,10 +93,11 @@ group_whole group small = (group_line group, All-append NoFeed (codes "group") (
 lines_whole : (file : File) → IsOfForm file → All IsWhole (plan_lines file)
 lines_whole file form =
     subst (All IsWhole) (sym (plan_lines-is file))
-    (All-cons IsWhole (ended header_line) _ (header_line, passes header_line refl, refl)
+    (All-cons IsWhole (ended (header_line file.bases)) _ (header_whole file.bases)
+    (All-append IsWhole (map based file.bases) _ (All-map IsWhole based file.bases (λ k d lt. base_whole _ (form.bases k d lt)))
     (All-append IsWhole (map offered file.offers) _ (All-map IsWhole offered file.offers (λ k d lt. offer_whole _ (form.offers k d lt)))
     (All-append IsWhole (map given file.gives) (grouped file.group ∷ []) (All-map IsWhole given file.gives (λ k d lt. give_whole _ (form.gives k d lt)))
-    (All-cons IsWhole (grouped file.group) [] (group_whole file.group form.group) (All-nil IsWhole)))))
+    (All-cons IsWhole (grouped file.group) [] (group_whole file.group form.group) (All-nil IsWhole))))))
 
 pub plan_text-is : (file : File) → plan_text file ≡ joined (plan_lines file)
 unfolding plan_text

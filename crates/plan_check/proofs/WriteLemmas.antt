@@ -11,7 +11,7 @@ use Rattle.neg_codec.specs.Keys.{IsId}
 use Rattle.plan_check.specs.File.{File, IsFile, pairs_of}
 use Rattle.plan_check.specs.TextLines.{lines_of, ended}
 use Rattle.plan_check.specs.PlanText.{header_line, plan_text, offers_text, IsOfForm, IsTextOf}
-use Rattle.plan_check.proofs.FormLemmas.{offered, given, grouped, plan_lines-is}
+use Rattle.plan_check.proofs.FormLemmas.{based, offered, given, grouped, plan_lines-is}
 use Rattle.plan_check.proofs.TextLemmas.{joined, joined_lines, plan_text-is}
 
 -- one element more
@@ -30,33 +30,38 @@ pub flat_map-map : {X Y : Type 0} (f : Y → List ℕ) (g : X → Y) (xs : List 
 flat_map-map f g [] = refl
 flat_map-map f g (x ∷ xs) = ap (λ t. f (g x) ++ t) (flat_map-map f g xs)
 
--- the parts of a plan's text
-pub plan_text-parts : (file : File) → plan_text file ≡ ended header_line ++ (flat_map offered file.offers ++ (flat_map given file.gives ++ grouped file.group))
-plan_text-parts file =
-    let id : List ℕ → List ℕ = λ line. line in
-    let last : joined (map given file.gives ++ grouped file.group ∷ []) ≡ flat_map given file.gives ++ grouped file.group =
-    flat_map-append id (map given file.gives) (grouped file.group ∷ []) ∙ ap (λ t. t ++ joined (grouped file.group ∷ [])) (flat_map-map id given file.gives) ∙ ap (λ t. flat_map given file.gives ++ t) (append-nil (grouped file.group)) in
-    let body : joined (map offered file.offers ++ (map given file.gives ++ grouped file.group ∷ [])) ≡ flat_map offered file.offers ++ (flat_map given file.gives ++ grouped file.group) =
-    flat_map-append id (map offered file.offers) (map given file.gives ++ grouped file.group ∷ []) ∙ ap (λ t. t ++ joined (map given file.gives ++ grouped file.group ∷ [])) (flat_map-map id offered file.offers) ∙ ap (λ t. flat_map offered file.offers ++ t) last in
-    plan_text-is file ∙ ap joined (plan_lines-is file) ∙ ap (λ t. ended header_line ++ t) body
-
-offers_text-is : (offers : List (Id × List ℕ)) → offers_text offers ≡ ended header_line ++ flat_map offered offers
-unfolding offers_text
-offers_text-is offers = refl
-
 -- what stands behind the lines of the offers
-pub plan_text-behind : (file : File) → plan_text file ≡ offers_text file.offers ++ (flat_map given file.gives ++ grouped file.group)
-plan_text-behind file =
-    let behind = flat_map given file.gives ++ grouped file.group in
-    plan_text-parts file ∙ sym (append_assoc (ended header_line) (flat_map offered file.offers) behind) ∙ ap (λ t. t ++ behind) (sym (offers_text-is file.offers))
+abbrev pub behind_text : File → List ℕ
+behind_text file = flat_map given file.gives ++ grouped file.group
 
--- a text in two parts: the lines of the offers, and what comes behind them
-pub text_split : (text rest : List ℕ) (offers : List (Id × List ℕ)) (lines : List (List ℕ)) → lines_of text ≡ ended header_line ∷ lines → lines ≡ map offered offers ++ lines_of rest → text ≡ offers_text offers ++ rest
-text_split text rest offers lines first e =
-    let id : List ℕ → List ℕ = λ line. line in
-    let body : joined lines ≡ flat_map offered offers ++ rest =
-    ap joined e ∙ flat_map-append id (map offered offers) (lines_of rest) ∙ ap (λ t. t ++ joined (lines_of rest)) (flat_map-map id offered offers) ∙ ap (λ t. flat_map offered offers ++ t) (joined_lines rest) in
-    sym (joined_lines text) ∙ ap joined first ∙ ap (λ t. ended header_line ++ t) body ∙ sym (append_assoc (ended header_line) (flat_map offered offers) rest) ∙ ap (λ t. t ++ rest) (sym (offers_text-is offers))
+joined_records : {X : Type 0} (f : X → List ℕ) (xs : List X) (rest : List (List ℕ)) → joined (map f xs ++ rest) ≡ flat_map f xs ++ joined rest
+joined_records f xs rest = let id : List ℕ → List ℕ = λ line. line in flat_map-append id (map f xs) rest ∙ ap (λ t. t ++ joined rest) (flat_map-map id f xs)
+
+-- the parts of a plan's text
+pub plan_text-parts : (file : File) → plan_text file ≡ ended (header_line file.bases) ++ (flat_map based file.bases ++ (flat_map offered file.offers ++ behind_text file))
+plan_text-parts file =
+    let gives : joined (map given file.gives ++ grouped file.group ∷ []) ≡ behind_text file = joined_records given file.gives (grouped file.group ∷ []) ∙ ap (λ t. flat_map given file.gives ++ t) (append-nil (grouped file.group)) in
+    let offers = joined_records offered file.offers (map given file.gives ++ grouped file.group ∷ []) ∙ ap (λ t. flat_map offered file.offers ++ t) gives in
+    plan_text-is file ∙ ap joined (plan_lines-is file) ∙ ap (λ t. ended (header_line file.bases) ++ t) (joined_records based file.bases _ ∙ ap (λ t. flat_map based file.bases ++ t) offers)
+
+offers_text-is : (bases : List (ℕ × ℕ)) (offers : List (Id × List ℕ)) → offers_text bases offers ≡ ended (header_line bases) ++ (flat_map based bases ++ flat_map offered offers)
+unfolding offers_text
+offers_text-is bases offers = refl
+
+-- a text in two parts: up to the offers, and what comes behind them
+offers_text-with : (bases : List (ℕ × ℕ)) (offers : List (Id × List ℕ)) (rest : List ℕ) → ended (header_line bases) ++ (flat_map based bases ++ (flat_map offered offers ++ rest)) ≡ offers_text bases offers ++ rest
+offers_text-with bases offers rest =
+    ap (λ t. ended (header_line bases) ++ t) (sym (append_assoc (flat_map based bases) (flat_map offered offers) rest))
+    ∙ sym (append_assoc (ended (header_line bases)) (flat_map based bases ++ flat_map offered offers) rest) ∙ ap (λ t. t ++ rest) (sym (offers_text-is bases offers))
+
+pub plan_text-behind : (file : File) → plan_text file ≡ offers_text file.bases file.offers ++ behind_text file
+plan_text-behind file = plan_text-parts file ∙ offers_text-with file.bases file.offers (behind_text file)
+
+pub text_split : (text rest : List ℕ) (bases : List (ℕ × ℕ)) (offers : List (Id × List ℕ)) → lines_of text ≡ ended (header_line bases) ∷ (map based bases ++ (map offered offers ++ lines_of rest)) → text ≡ offers_text bases offers ++ rest
+text_split text rest bases offers e =
+    sym (joined_lines text) ∙ ap joined e
+    ∙ ap (λ t. ended (header_line bases) ++ t) (joined_records based bases _ ∙ ap (λ t. flat_map based bases ++ t) (joined_records offered offers (lines_of rest) ∙ ap (λ t. flat_map offered offers ++ t) (joined_lines rest)))
+    ∙ offers_text-with bases offers rest
 
 pub split_room : (text front rest : List ℕ) → text ≡ front ++ rest → length rest ≤ length text
 split_room text front rest e = omega (arith, ap length e, length-append front rest)
@@ -66,16 +71,19 @@ split_front text front rest e =
     let at : length text - length rest ≡ length front = omega (arith, ap length e, length-append front rest) in
     ap (λ n. take n text) at ∙ ap (take (length front)) e ∙ take-append_seam front rest
 
-pub whole_text : (file : File) (t0 t1 t2 t3 : List ℕ) → t0 ≡ ended header_line → t1 ≡ t0 ++ flat_map offered file.offers → t2 ≡ t1 ++ flat_map given file.gives → t3 ≡ t2 ++ grouped file.group → t3 ≡ plan_text file
-whole_text file t0 t1 t2 t3 e0 e1 e2 e3 =
+pub whole_text : (file : File) (t0 t1 t2 t3 t4 : List ℕ) → t0 ≡ ended (header_line file.bases) → t1 ≡ t0 ++ flat_map based file.bases → t2 ≡ t1 ++ flat_map offered file.offers → t3 ≡ t2 ++ flat_map given file.gives → t4 ≡ t3 ++ grouped file.group → t4 ≡ plan_text file
+whole_text file t0 t1 t2 t3 t4 e0 e1 e2 e3 e4 =
+    let head = ended (header_line file.bases) in
+    let bs = flat_map based file.bases in
     let os = flat_map offered file.offers in
     let gs = flat_map given file.gives in
-    e3 ∙ ap (λ t. t ++ grouped file.group) (e2 ∙ ap (λ t. t ++ gs) (e1 ∙ ap (λ t. t ++ os) e0))
-    ∙ append_assoc (ended header_line ++ os) gs (grouped file.group) ∙ append_assoc (ended header_line) os (gs ++ grouped file.group) ∙ sym (plan_text-parts file)
+    e4 ∙ ap (λ t. t ++ grouped file.group) (e3 ∙ ap (λ t. t ++ gs) (e2 ∙ ap (λ t. t ++ os) (e1 ∙ ap (λ t. t ++ bs) e0)))
+    ∙ append_assoc (((head ++ bs) ++ os)) gs (grouped file.group) ∙ append_assoc (head ++ bs) os (gs ++ grouped file.group) ∙ append_assoc head bs (os ++ (gs ++ grouped file.group)) ∙ sym (plan_text-parts file)
 
 -- a plan file whose ids are ids
 form_of : (file : File) → IsFile file → All (λ o. IsId o.0) file.offers → All (λ g. IsId g.0) file.gives → IsOfForm file
 form_of file ok offers gives = record {
+  bases = ok.bases_ok.each;
   offers = λ k d lt. record { id = offers k d lt; some = ok.offers_ok.some k d lt; relays = (ok.offers_ok.relays k d lt).small };
   gives = λ k d lt. record { id = gives k d lt; relay = ok.relays k d lt };
   group = ok.group_ok.small;

@@ -25,12 +25,16 @@ abbrev pub IsOutOfOrder : List ℕ → PlanFault → Type 0
 IsOutOfOrder text fault =
     (file : File) × IsOfForm file × (text ≡ plan_text file) × (misplaced_fault (misplaced_at file) ≡ Some fault)
 
--- why a text gives no plan file
+-- why a text is no plan text
+abbrev pub IsTextFault : List ℕ → PlanFault → Type 0
+IsTextFault text (Line n) = IsFirstWrong (lines_of text) n
+IsTextFault text (Order n) = IsOutOfOrder text (Order n)
+IsTextFault text _ = ⊥
+
+-- Why a text gives no plan file. Want of memory is told of plan texts alone.
 abbrev pub IsReadFault : List ℕ → PlanFault → Type 0
-IsReadFault text (Line n) = IsFirstWrong (lines_of text) n
-IsReadFault text (Order n) = IsOutOfOrder text (Order n)
-IsReadFault text Memory = Unit {0}
-IsReadFault text _ = ⊥
+IsReadFault text Memory = (file : File) × IsTextOf text file
+IsReadFault text fault = IsTextFault text fault
 
 -- what may be answered
 abbrev pub Reads : List ℕ → Result File PlanFault → Type 0
@@ -47,6 +51,6 @@ RoundTrip =
     (text : List ℕ) (file : File) (result : Result File PlanFault)
     → IsTextOf text file → Reads text result → (result ≡ Ok file) ⊎ (result ≡ Err Memory)
 
--- a text is refused by one fault at most, memory aside
+-- a text that has a fault is refused by that fault, and by no other
 abbrev pub OneFault : Type 0
-OneFault = (text : List ℕ) (f g : PlanFault) → IsReadFault text f → IsReadFault text g → (f ≡ g) ⊎ ((f ≡ Memory) ⊎ (g ≡ Memory))
+OneFault = (text : List ℕ) (fault : PlanFault) (result : Result File PlanFault) → IsTextFault text fault → Reads text result → result ≡ Err fault

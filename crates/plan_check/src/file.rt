@@ -1,19 +1,21 @@
 //! Plan files.
 
-ghost use Rattle.std.specs.Prelude.{◌≡◌, ◌||◌, not, map, length, MatchOption, IsOk, IfOk, Err, None};
+ghost use Rattle.std.specs.Prelude.{◌≡◌, map, MatchOption, IsOk, IfOk, Err, None};
 ghost use Rattle.plan_check.specs.File.{File, IsFile};
-ghost use Rattle.plan_check.specs.Lines.{file_fault, misplaced_fault, malformed_at, misplaced_at, first_at, first_out, rises, are_relays, is_empty};
+ghost use Rattle.plan_check.specs.Lines.{file_fault, misplaced_fault, malformed_at, misplaced_at};
 
 use crate::PlanFault;
 use crate::order::{
-    are_all_relays, do_rise, faulty_offers, malformed_give, misplaced_give, misplaced_offer,
+    Counts, Places, are_all_relays, do_rise, first_place, malformed_base, malformed_give,
+    malformed_offer, misplaced_base, misplaced_give, misplaced_offer,
 };
 use neg_codec::Id;
 use std::marker::Model;
 
-/// Offers, gives and a group, in order.
+/// What relays begin with, offers, gives and a group, in order.
 #[derive(Drop)]
 pub struct PlanFile {
+    bases: Vec<(u16, u64)>,
     offers: Vec<(Id, Vec<u16>)>,
     gives: Vec<(Id, u16)>,
     group: Vec<u16>,
@@ -25,66 +27,60 @@ impl Model for PlanFile {
 
     ghost Value = { File };
 
-    ghost view = { λ f. record { offers = map (λ o. (o.0, o.1.items)) f.offers.items; gives = f.gives.items; group = f.group.items } };
+    ghost view = { λ f. record { bases = f.bases.items; offers = map (λ o. (o.0, o.1.items)) f.offers.items; gives = f.gives.items; group = f.group.items } };
 
-    ghost invariant = { λ f. IsFile (record { offers = map (λ o. (o.0, o.1.items)) f.offers.items; gives = f.gives.items; group = f.group.items }) };
+    ghost invariant = { λ f. IsFile (record { bases = f.bases.items; offers = map (λ o. (o.0, o.1.items)) f.offers.items; gives = f.gives.items; group = f.group.items }) };
 }
 
 impl PlanFile {
-    /// The file of these lists, whose lines are numbered as `write_plan` would write them.
+    /// The file of these lists, whose lines are numbered as `write_plan` would write them. A base is a relay with the
+    /// load that it begins with, 1 to 1,000,000,000,000.
     pub fn of(
+        bases: Vec<(u16, u64)>,
         offers: Vec<(Id, Vec<u16>)>,
         gives: Vec<(Id, u16)>,
         group: Vec<u16>,
     ) -> Result<PlanFile, PlanFault>
-        ensures fault { let file : File = record { offers = map (λ o. (o.0, o.1.items)) offers.items; gives = gives.items; group = group.items } in MatchOption (file_fault (malformed_at file) (misplaced_at file)) (IsOk result) (λ f. result ≡ Err f) }
-        ensures taken { let file : File = record { offers = map (λ o. (o.0, o.1.items)) offers.items; gives = gives.items; group = group.items } in IsFile file → IsOk result }
-        ensures keeps { IfOk result (λ file. file ≡ record { offers = map (λ o. (o.0, o.1.items)) offers.items; gives = gives.items; group = group.items }) }
+        ensures fault { let file : File = record { bases = bases.items; offers = map (λ o. (o.0, o.1.items)) offers.items; gives = gives.items; group = group.items } in MatchOption (file_fault (malformed_at file) (misplaced_at file)) (IsOk result) (λ f. result ≡ Err f) }
+        ensures taken { let file : File = record { bases = bases.items; offers = map (λ o. (o.0, o.1.items)) offers.items; gives = gives.items; group = group.items } in IsFile file → IsOk result }
+        ensures keeps { IfOk result (λ file. file ≡ record { bases = bases.items; offers = map (λ o. (o.0, o.1.items)) offers.items; gives = gives.items; group = group.items }) }
         ensures file { IfOk result IsFile }
     {
-        let first = faulty_offers(&offers);
-        if let Some(place) = malformed(first.0, &offers, &gives, &group) {
+        if let Some(place) = malformed(&bases, &offers, &gives, &group) {
             return Err(PlanFault::Line(place.saturating_add(2)));
         }
-        PlanFile::in_order(first.1, offers, gives, group)
+        PlanFile::of_form(bases, offers, gives, group)
     }
 
     /// The file of these lists, whose lines are of the form.
     pub(crate) fn of_form(
+        bases: Vec<(u16, u64)>,
         offers: Vec<(Id, Vec<u16>)>,
         gives: Vec<(Id, u16)>,
         group: Vec<u16>,
     ) -> Result<PlanFile, PlanFault>
-        requires { malformed_at (record { offers = map (λ o. (o.0, o.1.items)) offers.items; gives = gives.items; group = group.items }) ≡ None }
-        ensures fault { let file : File = record { offers = map (λ o. (o.0, o.1.items)) offers.items; gives = gives.items; group = group.items } in MatchOption (misplaced_fault (misplaced_at file)) (IsOk result) (λ f. result ≡ Err f) }
-        ensures keeps { IfOk result (λ file. file ≡ record { offers = map (λ o. (o.0, o.1.items)) offers.items; gives = gives.items; group = group.items }) }
+        requires { malformed_at (record { bases = bases.items; offers = map (λ o. (o.0, o.1.items)) offers.items; gives = gives.items; group = group.items }) ≡ None }
+        ensures fault { let file : File = record { bases = bases.items; offers = map (λ o. (o.0, o.1.items)) offers.items; gives = gives.items; group = group.items } in MatchOption (misplaced_fault (misplaced_at file)) (IsOk result) (λ f. result ≡ Err f) }
+        ensures keeps { IfOk result (λ file. file ≡ record { bases = bases.items; offers = map (λ o. (o.0, o.1.items)) offers.items; gives = gives.items; group = group.items }) }
         ensures file { IfOk result IsFile }
     {
-        let first = misplaced_offer(&offers);
-        PlanFile::in_order(first, offers, gives, group)
-    }
-
-    /// The file of these lists, whose lines are of the form, where the first offer that is out of order is known.
-    fn in_order(
-        first: Option<usize>,
-        offers: Vec<(Id, Vec<u16>)>,
-        gives: Vec<(Id, u16)>,
-        group: Vec<u16>,
-    ) -> Result<PlanFile, PlanFault>
-        requires first { first ≡ first_out (λ o. o.0) (λ o. rises o.1.items) None 0 offers.items }
-        requires form { malformed_at (record { offers = map (λ o. (o.0, o.1.items)) offers.items; gives = gives.items; group = group.items }) ≡ None }
-        ensures fault { let file : File = record { offers = map (λ o. (o.0, o.1.items)) offers.items; gives = gives.items; group = group.items } in MatchOption (misplaced_fault (misplaced_at file)) (IsOk result) (λ f. result ≡ Err f) }
-        ensures keeps { IfOk result (λ file. file ≡ record { offers = map (λ o. (o.0, o.1.items)) offers.items; gives = gives.items; group = group.items }) }
-        ensures file { IfOk result IsFile }
-    {
-        if let Some(place) = misplaced(first, &offers, &gives, &group) {
+        if let Some(place) = misplaced(&bases, &offers, &gives, &group) {
             return Err(PlanFault::Order(place.saturating_add(2)));
         }
         Ok(PlanFile {
+            bases,
             offers,
             gives,
             group,
         })
+    }
+
+    /// Each relay that begins with a load, ascending, with that load.
+    pub fn bases(&self) -> &[(u16, u64)]
+        ensures value { result.now ≡ self.now.bases }
+        ensures file { IsFile self.now }
+    {
+        &self.bases
     }
 
     /// Each offered id, ascending, with the relays that offer it, ascending.
@@ -112,48 +108,48 @@ impl PlanFile {
     }
 }
 
-/// The place of the first line that is not of the form, where that of the first such offer is known.
+/// The place of the first line that is not of the form.
 fn malformed(
-    first: Option<usize>,
+    bases: &Vec<(u16, u64)>,
     offers: &Vec<(Id, Vec<u16>)>,
     gives: &Vec<(Id, u16)>,
     group: &Vec<u16>,
 ) -> Option<usize>
-    requires { first ≡ first_at (λ o. is_empty o.1.items || not (are_relays o.1.items)) 0 offers.now.items }
-    ensures { result ≡ malformed_at (record { offers = map (λ o. (o.0, o.1.items)) offers.now.items; gives = gives.now.items; group = group.now.items }) }
+    ensures { result ≡ malformed_at (record { bases = bases.now.items; offers = map (λ o. (o.0, o.1.items)) offers.now.items; gives = gives.now.items; group = group.now.items }) }
 {
-    if let Some(place) = first {
-        return Some(place);
-    }
-    if let Some(place) = malformed_give(gives) {
-        return Some(offers.len() + place);
-    }
-    if are_all_relays(group) {
-        None
-    } else {
-        Some(offers.len() + gives.len())
-    }
+    let counts = Counts {
+        bases: bases.len(),
+        offers: offers.len(),
+        gives: gives.len(),
+    };
+    let places = Places {
+        base: malformed_base(bases),
+        offer: malformed_offer(offers),
+        give: malformed_give(gives),
+        group: are_all_relays(group),
+    };
+    first_place(counts, places)
 }
 
-/// The place of the first line that is out of order, where that of the first such offer is known.
+/// The place of the first line that is out of order.
 fn misplaced(
-    first: Option<usize>,
+    bases: &Vec<(u16, u64)>,
     offers: &Vec<(Id, Vec<u16>)>,
     gives: &Vec<(Id, u16)>,
     group: &Vec<u16>,
 ) -> Option<usize>
-    requires { first ≡ first_out (λ o. o.0) (λ o. rises o.1.items) None 0 offers.now.items }
-    ensures { result ≡ misplaced_at (record { offers = map (λ o. (o.0, o.1.items)) offers.now.items; gives = gives.now.items; group = group.now.items }) }
+    ensures { result ≡ misplaced_at (record { bases = bases.now.items; offers = map (λ o. (o.0, o.1.items)) offers.now.items; gives = gives.now.items; group = group.now.items }) }
 {
-    if let Some(place) = first {
-        return Some(place);
-    }
-    if let Some(place) = misplaced_give(gives) {
-        return Some(offers.len() + place);
-    }
-    if do_rise(group) {
-        None
-    } else {
-        Some(offers.len() + gives.len())
-    }
+    let counts = Counts {
+        bases: bases.len(),
+        offers: offers.len(),
+        gives: gives.len(),
+    };
+    let places = Places {
+        base: misplaced_base(bases),
+        offer: misplaced_offer(offers),
+        give: misplaced_give(gives),
+        group: do_rise(group),
+    };
+    first_place(counts, places)
 }

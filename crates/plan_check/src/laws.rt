@@ -13,7 +13,7 @@ pub fn round_trip()
     ensures { RoundTrip }
 {}
 
-/// A text has one fault at most.
+/// A text that has a fault is refused by that fault, and by no other.
 pub fn one_fault()
     ensures { OneFault }
 {}

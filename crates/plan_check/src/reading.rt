@@ -1,16 +1,16 @@
 //! Plan files that are read from their texts.
 
-ghost use Rattle.std.specs.Prelude.{◌≡◌, ◌≢◌, ◌<◌, ◌++◌, ◌∷◌, ◌⊎◌, [], ℕ, List, map, All, IfOk, IfErr, IfSome, IfNone, Ok, Err};
+ghost use Rattle.std.specs.Prelude.{◌≡◌, ◌<◌, ◌++◌, ◌∷◌, [], ◌⊎◌, map, All, IfOk, IfErr, IfSome, Ok, Err};
 ghost use Rattle.sharing.specs.declared.TheConstants.{RELAYS};
 ghost use Rattle.plan_check.specs.declared.faults.PlanFault.{PlanFault as AFault};
 ghost use Rattle.plan_check.specs.declared.faults.PlanFault.TheVariants.{Memory as memory};
-ghost use Rattle.plan_check.specs.File.{File, IsFile, pairs_of};
-ghost use Rattle.plan_check.specs.TextLines.{lines_of, ended, FirstIsNot};
-ghost use Rattle.plan_check.specs.PlanText.{header_line, offer_line, give_line, group_line, plan_lines, IsOffer, IsGive, IsOfForm, IsTextOf};
-ghost use Rattle.plan_check.specs.PlanParts.{IsOfferLine, IsGiveLine, IsGroupLine, IsFormFault};
-ghost use Rattle.plan_check.specs.PlanReading.{IsReadFault};
+ghost use Rattle.plan_check.specs.File.{File, IsBase, pairs_of};
+ghost use Rattle.plan_check.specs.TextLines.{lines_of, ended};
+ghost use Rattle.plan_check.specs.PlanText.{header_line, base_line, offer_line, give_line, group_line, plan_lines, IsOffer, IsGive, IsOfForm, IsTextOf};
+ghost use Rattle.plan_check.specs.PlanReading.{IsTextFault, IsReadFault};
 
-use crate::records::{parse_give, parse_group, parse_offer};
+use crate::records::{parse_base, parse_give, parse_group, parse_offer};
+use crate::scanning::{scan_plan, skip_line};
 use crate::text_lines::cut_line;
 use crate::{PlanFault, PlanFile};
 use neg_codec::Id;
@@ -19,21 +19,49 @@ use std::alloc::{AllocError, Global};
 /// The lists of a plan file, in any order.
 #[derive(Drop)]
 struct Lists {
+    bases: Vec<(u16, u64)>,
     offers: Vec<(Id, Vec<u16>)>,
     gives: Vec<(Id, u16)>,
     group: Vec<u16>,
 }
 
-/// The text after the header.
-pub fn skip_header(text: &[u8]) -> Option<&[u8]>
-    ensures found { IfSome result (λ rest. lines_of text.now ≡ ended header_line ∷ lines_of rest.now) }
-    ensures none { IfNone result (FirstIsNot (λ line. line ≡ ended header_line) (lines_of text.now)) }
+/// The bases at the front, and the text after these.
+fn take_bases(alloc: Global, text: &[u8]) -> Result<(Vec<(u16, u64)>, &[u8]), AllocError>
+    ensures lines { IfOk result (λ r. lines_of text.now ≡ map (λ b. ended (base_line b)) r.0.items ++ lines_of r.1.now) }
+    ensures bases { IfOk result (λ r. All IsBase r.0.items) }
 {
-    let (line, rest) = cut_line(text)?;
-    if line == b"nostr-plan 1".as_slice() {
-        Some(rest)
+    let mut bases = Vec::new(alloc);
+    let mut rest = text;
+    while let Some((line, after)) = cut_line(rest) {
+        let Some(base) = parse_base(line) else {
+            return Ok((bases, rest));
+        };
+        bases.push(base)?;
+        rest = after;
+    }
+    Ok((bases, rest))
+}
+
+/// The bases that stand behind the header, and the text after these; none where there is no header, or not the one for
+/// such bases.
+pub fn read_head(
+    alloc: Global,
+    text: &[u8],
+) -> Result<Option<(Vec<(u16, u64)>, &[u8])>, AllocError>
+    ensures lines { IfOk result (λ o. IfSome o (λ r. lines_of text.now ≡ ended (header_line r.0.items) ∷ (map (λ b. ended (base_line b)) r.0.items ++ lines_of r.1.now))) }
+    ensures bases { IfOk result (λ o. IfSome o (λ r. All IsBase r.0.items)) }
+{
+    if let Some(rest) = skip_line(text, b"nostr-plan 1") {
+        return Ok(Some((Vec::new(alloc), rest)));
+    }
+    let Some(rest) = skip_line(text, b"nostr-plan 2") else {
+        return Ok(None);
+    };
+    let (bases, rest) = take_bases(alloc, rest)?;
+    if bases.is_empty() {
+        Ok(None)
     } else {
-        None
+        Ok(Some((bases, rest)))
     }
 }
 
@@ -41,7 +69,6 @@ pub fn skip_header(text: &[u8]) -> Option<&[u8]>
 fn take_offers(alloc: Global, text: &[u8]) -> Result<(Vec<(Id, Vec<u16>)>, &[u8]), AllocError>
     ensures lines { IfOk result (λ r. lines_of text.now ≡ map (λ o. ended (offer_line o)) (pairs_of r.0.items) ++ lines_of r.1.now) }
     ensures offers { IfOk result (λ r. All IsOffer (pairs_of r.0.items)) }
-    ensures all { IfOk result (λ r. FirstIsNot IsOfferLine (lines_of r.1.now)) }
 {
     let mut offers = Vec::new(alloc);
     let mut rest = text;
@@ -59,7 +86,6 @@ fn take_offers(alloc: Global, text: &[u8]) -> Result<(Vec<(Id, Vec<u16>)>, &[u8]
 fn take_gives(alloc: Global, text: &[u8]) -> Result<(Vec<(Id, u16)>, &[u8]), AllocError>
     ensures lines { IfOk result (λ r. lines_of text.now ≡ map (λ g. ended (give_line g)) r.0.items ++ lines_of r.1.now) }
     ensures gives { IfOk result (λ r. All IsGive r.0.items) }
-    ensures all { IfOk result (λ r. FirstIsNot IsGiveLine (lines_of r.1.now)) }
 {
     let mut gives = Vec::new(alloc);
     let mut rest = text;
@@ -73,63 +99,50 @@ fn take_gives(alloc: Global, text: &[u8]) -> Result<(Vec<(Id, u16)>, &[u8]), All
     Ok((gives, rest))
 }
 
-/// The group of the first line, and the text after it.
-fn take_group(alloc: Global, text: &[u8]) -> Result<Option<(Vec<u16>, &[u8])>, AllocError>
-    ensures lines { IfOk result (λ r. IfSome r (λ cut. lines_of text.now ≡ ended (group_line cut.0.items) ∷ lines_of cut.1.now)) }
-    ensures group { IfOk result (λ r. IfSome r (λ cut. All (λ r. r < RELAYS) cut.0.items)) }
-    ensures none { IfOk result (λ r. IfNone r (FirstIsNot IsGroupLine (lines_of text.now))) }
+/// The group of the one line that is left.
+fn take_group(alloc: Global, text: &[u8]) -> Result<Option<Vec<u16>>, AllocError>
+    ensures lines { IfOk result (λ r. IfSome r (λ group. lines_of text.now ≡ ended (group_line group.items) ∷ [])) }
+    ensures group { IfOk result (λ r. IfSome r (λ group. All (λ r. r < RELAYS) group.items)) }
 {
     let Some((line, rest)) = cut_line(text) else {
         return Ok(None);
     };
-    match parse_group(alloc, line)? {
-        Some(group) => Ok(Some((group, rest))),
-        None => Ok(None),
+    if !rest.is_empty() {
+        return Ok(None);
     }
+    parse_group(alloc, line)
 }
 
-/// The lists that a text tells.
-fn read_lists(alloc: Global, text: &[u8]) -> Result<Lists, PlanFault>
-    ensures lines { IfOk result (λ l. lines_of text.now ≡ plan_lines (record { offers = pairs_of l.offers.items; gives = l.gives.items; group = l.group.items })) }
-    ensures form { IfOk result (λ l. IsOfForm (record { offers = pairs_of l.offers.items; gives = l.gives.items; group = l.group.items })) }
-    ensures err { IfErr result (IsFormFault (lines_of text.now)) }
+/// The lists that a plan text tells.
+fn read_lists(alloc: Global, text: &[u8]) -> Result<Option<Lists>, AllocError>
+    ensures lines { IfOk result (λ o. IfSome o (λ l. lines_of text.now ≡ plan_lines (record { bases = l.bases.items; offers = pairs_of l.offers.items; gives = l.gives.items; group = l.group.items }))) }
+    ensures form { IfOk result (λ o. IfSome o (λ l. IsOfForm (record { bases = l.bases.items; offers = pairs_of l.offers.items; gives = l.gives.items; group = l.group.items }))) }
 {
-    let Some(rest) = skip_header(text) else {
-        return Err(PlanFault::Line(1));
+    let Some((bases, rest)) = read_head(alloc, text)? else {
+        return Ok(None);
     };
     let (offers, rest) = take_offers(alloc, rest)?;
     let (gives, rest) = take_gives(alloc, rest)?;
-    let Some((group, rest)) = take_group(alloc, rest)? else {
-        return Err(PlanFault::Line(offers.len() + gives.len() + 2));
+    let Some(group) = take_group(alloc, rest)? else {
+        return Ok(None);
     };
-    if !rest.is_empty() {
-        return Err(PlanFault::Line(offers.len() + gives.len() + 3));
-    }
-    Ok(Lists {
+    Ok(Some(Lists {
+        bases,
         offers,
         gives,
         group,
-    })
+    }))
 }
 
-/// The gives and the group of the lines behind a text's offers, as a plan file without offers; none where other lines
-/// stand there, or where these are out of order.
-pub fn read_tail(alloc: Global, text: &[u8]) -> Result<Option<PlanFile>, AllocError>
-    ensures lines { IfOk result (λ o. IfSome o (λ tail. lines_of text.now ≡ map (λ g. ended (give_line g)) tail.gives ++ ended (group_line tail.group) ∷ [])) }
-    ensures form { IfOk result (λ o. IfSome o IsOfForm) }
-    ensures file { IfOk result (λ o. IfSome o IsFile) }
-    ensures bare { IfOk result (λ o. IfSome o (λ tail. tail.offers ≡ [])) }
-    ensures none { IfOk result (λ o. IfNone o ((tail : File) → IsOfForm tail → IsFile tail → lines_of text.now ≢ map (λ g. ended (give_line g)) tail.gives ++ ended (group_line tail.group) ∷ [])) }
+/// The plan file of a plan text; none where the text is none.
+fn file_of(alloc: Global, text: &[u8]) -> Result<Option<PlanFile>, AllocError>
+    ensures { IfOk result (λ o. IfSome o (IsTextOf text.now)) }
 {
-    let (gives, rest) = take_gives(alloc, text)?;
-    let Some((group, rest)) = take_group(alloc, rest)? else {
+    let Some(lists) = read_lists(alloc, text)? else {
         return Ok(None);
     };
-    if !rest.is_empty() {
-        return Ok(None);
-    }
-    match PlanFile::of_form(Vec::new(alloc), gives, group) {
-        Ok(tail) => Ok(Some(tail)),
+    match PlanFile::of_form(lists.bases, lists.offers, lists.gives, lists.group) {
+        Ok(file) => Ok(Some(file)),
         Err(_) => Ok(None),
     }
 }
@@ -138,13 +151,18 @@ pub fn read_tail(alloc: Global, text: &[u8]) -> Result<Option<PlanFile>, AllocEr
 ///
 /// `Line` goes before `Order`: it is answered where any line is not of the form, out of place or missing. A last line
 /// without its line feed is not of the form; where the text ends after a whole line before the group, the line after
-/// the last is missing.
+/// the last is missing. A text that is no plan text is refused by its fault, whatever memory there is.
 pub fn read_plan(alloc: Global, text: &str) -> Result<PlanFile, PlanFault>
     ensures ok { IfOk result (IsTextOf text.now) }
     ensures err { IfErr result (IsReadFault text.now) }
     ensures exact { (file : File) → IsTextOf text.now file → (result ≡ Ok file) ⊎ (result ≡ Err memory) }
-    ensures refused { (fault : AFault) → IsReadFault text.now fault → fault ≢ memory → (result ≡ Err fault) ⊎ (result ≡ Err memory) }
+    ensures refused { (fault : AFault) → IsTextFault text.now fault → result ≡ Err fault }
 {
-    let lists = read_lists(alloc, text.as_bytes())?;
-    PlanFile::of_form(lists.offers, lists.gives, lists.group)
+    if let Ok(Some(file)) = file_of(alloc, text.as_bytes()) {
+        return Ok(file);
+    }
+    match scan_plan(text) {
+        Ok(_) => Err(PlanFault::Memory),
+        Err(fault) => Err(fault),
+    }
 }

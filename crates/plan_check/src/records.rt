@@ -1,15 +1,32 @@
-//! What a line tells: an offer, a give or a group.
+//! What a line tells: a base, an offer, a give or a group.
 
 ghost use Rattle.std.specs.Prelude.{◌≡◌, ◌≢◌, ◌<◌, ◌++◌, ℕ, List, All, IfSome, IfNone, IfOk, length, codes};
 ghost use Rattle.hex.specs.Hex.{encode_lower};
 ghost use Rattle.neg_codec.specs.declared.Id.{Id as AnId};
 ghost use Rattle.neg_codec.specs.Keys.{IsId};
 ghost use Rattle.sharing.specs.declared.TheConstants.{RELAYS};
-ghost use Rattle.plan_check.specs.PlanText.{offer_line, give_line, group_line, IsOffer, IsGive};
+ghost use Rattle.plan_check.specs.File.{IsBase};
+ghost use Rattle.plan_check.specs.PlanText.{base_line, offer_line, give_line, group_line, IsOffer, IsGive};
 
-use crate::words::{cut_id, cut_relay, parse_relays, skip_word};
+use crate::words::{cut_id, cut_load, cut_relay, parse_relays, skip_word};
 use neg_codec::Id;
 use std::alloc::{AllocError, Global};
+
+/// The relay of the base of a line without its line feed, and what its load begins with.
+pub(crate) fn parse_base(line: &[u8]) -> Option<(u16, u64)>
+    ensures found { IfSome result (λ b. line.now ≡ base_line b) }
+    ensures base { IfSome result IsBase }
+    ensures none { IfNone result ((b : ℕ × ℕ) → IsBase b → line.now ≢ base_line b) }
+{
+    let rest = skip_word(line, b"base")?;
+    let (relay, rest) = cut_relay(rest)?;
+    let (load, rest) = cut_load(rest)?;
+    if rest.is_empty() {
+        Some((relay, load))
+    } else {
+        None
+    }
+}
 
 /// The id of the offer of a line without its line feed, and the text of the relays behind it.
 pub fn cut_offer(line: &[u8]) -> Option<(Id, &[u8])>
@@ -31,7 +48,6 @@ pub fn cut_offer(line: &[u8]) -> Option<(Id, &[u8])>
 pub(crate) fn parse_offer(alloc: Global, line: &[u8]) -> Result<Option<(Id, Vec<u16>)>, AllocError>
     ensures found { IfOk result (λ r. IfSome r (λ o. line.now ≡ offer_line (o.0, o.1.items))) }
     ensures offer { IfOk result (λ r. IfSome r (λ o. IsOffer (o.0, o.1.items))) }
-    ensures none { IfOk result (λ r. IfNone r ((o : AnId × List ℕ) → IsOffer o → line.now ≢ offer_line o)) }
 {
     let Some((id, rest)) = cut_offer(line) else {
         return Ok(None);
@@ -62,7 +78,6 @@ pub(crate) fn parse_give(line: &[u8]) -> Option<(Id, u16)>
 pub(crate) fn parse_group(alloc: Global, line: &[u8]) -> Result<Option<Vec<u16>>, AllocError>
     ensures found { IfOk result (λ r. IfSome r (λ group. line.now ≡ group_line group.items)) }
     ensures group { IfOk result (λ r. IfSome r (λ group. All (λ r. r < RELAYS) group.items)) }
-    ensures none { IfOk result (λ r. IfNone r ((group : List ℕ) → All (λ r. r < RELAYS) group → line.now ≢ group_line group)) }
 {
     match skip_word(line, b"group") {
         Some(rest) => parse_relays(alloc, rest),

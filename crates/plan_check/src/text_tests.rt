@@ -1,8 +1,6 @@
 //! Plan texts: worked examples, and texts that are refused.
 
-use crate::lines::set_offer;
-use crate::{LONGEST_LINE, PlanFault, PlanFile, check, read_plan, set_give, set_group, write_plan};
-use neg_codec::Id;
+use crate::{PlanFault, check, read_plan, scan_plan, write_plan};
 use std::alloc::{AllocError, Global};
 use std::test::Fail;
 
@@ -40,6 +38,39 @@ fn verdict(alloc: Global, pattern: &str) -> Result<Result<u64, PlanFault>, Alloc
     }
 }
 
+/// The first of these patterns to which another verdict is given.
+fn first_other<'a>(
+    alloc: Global,
+    rows: &[(&'a str, Result<u64, PlanFault>)],
+) -> Result<Option<&'a str>, AllocError> {
+    for (pattern, want) in rows {
+        if verdict(alloc, pattern)? != *want {
+            return Ok(Some(*pattern));
+        }
+    }
+    Ok(None)
+}
+
+/// The first of these patterns that isn't refused by this line, for its form or its order.
+fn first_taken<'a>(
+    alloc: Global,
+    rows: &[(&'a str, usize)],
+    form: bool,
+) -> Result<Option<&'a str>, AllocError> {
+    for (pattern, line) in rows {
+        let text = text_of(alloc, pattern)?;
+        let refused = Some(if form {
+            PlanFault::Line(*line)
+        } else {
+            PlanFault::Order(*line)
+        });
+        if read_plan(alloc, text.as_str()).err() != refused || scan_plan(text.as_str()).err() != refused {
+            return Ok(Some(*pattern));
+        }
+    }
+    Ok(None)
+}
+
 const EMPTY: &str = "nostr-plan 1\ngroup\n";
 
 const ONE_ID: &str = "nostr-plan 1\noffer A 0 1 2\ngive A 0\ngroup 0 1 2\n";
@@ -50,33 +81,48 @@ const FIXED: &str = "nostr-plan 1\noffer A 0\noffer B 0\noffer C 0\noffer D 0 1\
 const CHAIN: &str = "nostr-plan 1\noffer A 0\noffer B 0 1\noffer C 1 2\n\
     give A 0\ngive B 1\ngive C 2\ngroup 0 1 2\n";
 
+const BASES: &str = "nostr-plan 2\nbase 0 2\noffer A 0 1\ngive A 1\ngroup 0\n";
+
 #[test]
 fn least_plans_are_read_and_pass(rt: HostRuntime) -> Result<(), Fail> {
-    for (pattern, least) in [(EMPTY, 0), (ONE_ID, 1), (FIXED, 3), (CHAIN, 1)] {
-        assert_eq!(rt; verdict(rt.alloc(), pattern)?, Ok(least), "{pattern}");
-    }
+    let rows = [
+        (EMPTY, Ok(0)),
+        (ONE_ID, Ok(1)),
+        (FIXED, Ok(3)),
+        (CHAIN, Ok(1)),
+        (BASES, Ok(2)),
+        (
+            "nostr-plan 2\nbase 0 2\noffer A 0 1\ngive A 1\ngroup 1\n",
+            Err(PlanFault::GroupTooSmall),
+        ),
+        ("nostr-plan 2\nbase 7 9\ngroup 7\n", Ok(9)),
+        (
+            "nostr-plan 2\nbase 7 9\ngroup\n",
+            Err(PlanFault::GroupTooSmall),
+        ),
+    ];
+    assert_eq!(rt; first_other(rt.alloc(), &rows)?, None);
     Ok(())
 }
 
 #[test]
-fn a_chain_of_three_from_its_text(rt: HostRuntime) -> Result<(), Fail> {
+fn a_chain_of_three(rt: HostRuntime) -> Result<(), Fail> {
     let rows = [
-        ("give A 0\ngive B 0\ngive C 2\n", PlanFault::GroupTooSmall),
-        ("give A 0\ngive C 2\n", PlanFault::Missing),
-        ("give A 0\ngive B 1\ngive C 0\n", PlanFault::NotOffered),
-        (
-            "give A 0\ngive B 1\ngive C 2\ngive D 0\n",
-            PlanFault::Stranger,
-        ),
-        ("give B 1\ngive A 0\ngive C 2\n", PlanFault::Order(6)),
+        ("give A 0\ngive B 0\ngive C 2\ngroup 0 1 2\n", PlanFault::GroupTooSmall),
+        ("give A 0\ngive B 1\ngive C 2\ngroup\n", PlanFault::GroupTooSmall),
+        ("give A 0\ngive C 2\ngroup 0 1 2\n", PlanFault::Missing),
+        ("give A 0\ngive B 1\ngive C 0\ngroup 0 1 2\n", PlanFault::NotOffered),
+        ("give A 0\ngive B 1\ngive C 2\ngive D 0\ngroup 0 1 2\n", PlanFault::Stranger),
+        ("give B 1\ngive A 0\ngive C 2\ngroup 0 1 2\n", PlanFault::Order(6)),
     ];
     let alloc = rt.alloc();
-    for (gives, fault) in rows {
-        let pattern = format!(in alloc;
-            "nostr-plan 1\noffer A 0\noffer B 0 1\noffer C 1 2\n{gives}group 0 1 2\n"
-        )?;
-        assert_eq!(rt; verdict(alloc, pattern.as_str())?, Err(fault), "{gives}");
+    let mut told = true;
+    for (behind, fault) in rows {
+        let pattern =
+            format!(in alloc; "nostr-plan 1\noffer A 0\noffer B 0 1\noffer C 1 2\n{behind}")?;
+        told = told && verdict(alloc, pattern.as_str())? == Err(fault);
     }
+    assert!(rt; told);
     Ok(())
 }
 
@@ -88,7 +134,21 @@ fn texts_are_refused_by_line(rt: HostRuntime) -> Result<(), Fail> {
         ("nostr-plan 1", 1),
         ("nostr-plan 1 \ngroup\n", 1),
         ("nostr-plan 1\r\ngroup\n", 1),
-        ("nostr-plan 2\ngroup\n", 1),
+        ("nostr-plan 0\ngroup\n", 1),
+        ("nostr-plan 3\ngroup\n", 1),
+        ("nostr-plan 2\ngroup\n", 2),
+        ("nostr-plan 2\n", 2),
+        ("nostr-plan 2\nbase 0 0\ngroup\n", 2),
+        ("nostr-plan 2\nbase 0 01\ngroup\n", 2),
+        ("nostr-plan 2\nbase 256 1\ngroup\n", 2),
+        ("nostr-plan 2\nbase 0\ngroup\n", 2),
+        ("nostr-plan 2\nbase 0 1 1\ngroup\n", 2),
+        ("nostr-plan 2\nbase 0 1000000000001\ngroup\n", 2),
+        ("nostr-plan 2\nbase 0 18446744073709551617\ngroup\n", 2),
+        ("nostr-plan 2\nbase 0 1\nbase 1 0\ngroup\n", 3),
+        ("nostr-plan 2\nbase 0 1\n", 3),
+        ("nostr-plan 2\nbase 0 1\ngroup\nbase 1 1\n", 4),
+        ("nostr-plan 1\nbase 0 1\ngroup\n", 2),
         ("group\n", 1),
         ("nostr-plan 1\n", 2),
         ("nostr-plan 1\ngroup", 2),
@@ -102,8 +162,8 @@ fn texts_are_refused_by_line(rt: HostRuntime) -> Result<(), Fail> {
         ("nostr-plan 1\ngroup 00\n", 2),
         ("nostr-plan 1\ngroup 07\n", 2),
         ("nostr-plan 1\ngroup +1\n", 2),
-        ("nostr-plan 1\ngroup 64\n", 2),
-        ("nostr-plan 1\ngroup 65536\n", 2),
+        ("nostr-plan 1\ngroup 256\n", 2),
+        ("nostr-plan 1\ngroup 99999999999999999999\n", 2),
         ("nostr-plan 1\ngroup 1a\n", 2),
         ("nostr-plan 1\ngroup\n\n", 3),
         ("nostr-plan 1\ngroup\ngroup\n", 3),
@@ -122,21 +182,19 @@ fn texts_are_refused_by_line(rt: HostRuntime) -> Result<(), Fail> {
         ("nostr-plan 1\ngive A 0\noffer A 0\ngroup\n", 3),
         ("nostr-plan 1\noffer A 0\ngroup\ngive A 0\n", 4),
         ("nostr-plan 1\noffer A 0\ngive A 0\n", 4),
-        ("nostr-plan 1\noffer B 0\noffer A 0\ngroup 64\n", 4),
+        ("nostr-plan 1\noffer B 0\noffer A 0\ngroup 256\n", 4),
     ];
-    for (pattern, line) in rows {
-        assert_eq!(rt;
-            verdict(rt.alloc(), pattern)?,
-            Err(PlanFault::Line(line)),
-            "{pattern:?}"
-        );
-    }
+    assert_eq!(rt; first_taken(rt.alloc(), &rows, true)?, None);
     Ok(())
 }
 
 #[test]
 fn texts_out_of_order_are_refused(rt: HostRuntime) -> Result<(), Fail> {
     let rows = [
+        ("nostr-plan 2\nbase 1 1\nbase 0 1\ngroup\n", 3),
+        ("nostr-plan 2\nbase 1 1\nbase 1 2\noffer A 1 0\ngroup\n", 3),
+        ("nostr-plan 2\nbase 10 1\nbase 9 1\ngroup 2 1\n", 3),
+        ("nostr-plan 2\nbase 0 1\noffer A 1 0\ngroup\n", 3),
         ("nostr-plan 1\noffer A 1 0\ngroup\n", 2),
         ("nostr-plan 1\noffer A 9 10 2\ngroup\n", 2),
         ("nostr-plan 1\noffer A 0 0\ngroup\n", 2),
@@ -149,86 +207,38 @@ fn texts_out_of_order_are_refused(rt: HostRuntime) -> Result<(), Fail> {
             4,
         ),
     ];
-    for (pattern, line) in rows {
-        assert_eq!(rt;
-            verdict(rt.alloc(), pattern)?,
-            Err(PlanFault::Order(line)),
-            "{pattern:?}"
-        );
-    }
-    Ok(())
-}
-
-#[test]
-fn a_file_is_what_its_text_says(rt: HostRuntime) -> Result<(), Fail> {
-    let alloc = rt.alloc();
-    let text = text_of(
-        alloc,
-        "nostr-plan 1\noffer A 0 10 63\noffer E 7\ngive B 9\ngroup 5\n",
-    )?;
-    let Ok(file) = read_plan(alloc, text.as_str()) else {
-        return Err("no file")?;
-    };
-    assert_eq!(rt; file.offers().len(), 2);
-    let first = &file.offers()[0];
-    assert!(rt; first.0 == Id([10; 32]));
-    assert!(rt; first.1.as_slice() == [0u16, 10, 63].as_slice());
-    let second = &file.offers()[1];
-    assert!(rt; second.0 == Id([14; 32]));
-    assert!(rt; second.1.as_slice() == [7u16].as_slice());
-    assert!(rt; file.gives() == [(Id([11; 32]), 9u16)].as_slice());
-    assert!(rt; file.group() == [5u16].as_slice());
+    assert_eq!(rt; first_taken(rt.alloc(), &rows, false)?, None);
     Ok(())
 }
 
 #[test]
 fn texts_are_written_as_they_were(rt: HostRuntime) -> Result<(), Fail> {
     let alloc = rt.alloc();
-    let largest = "nostr-plan 1\noffer A 0 9 10 62 63\noffer E 1\ngive C 63\ngroup 63\n";
-    for pattern in [EMPTY, ONE_ID, FIXED, CHAIN, largest] {
+    let largest = "nostr-plan 2\nbase 9 10\nbase 255 1000000000000\noffer A 0 9 10 99 100 255\n\
+        offer E 1\ngive C 255\ngroup 255\n";
+    let mut same = true;
+    for pattern in [EMPTY, ONE_ID, FIXED, CHAIN, BASES, largest] {
         let text = text_of(alloc, pattern)?;
-        let Ok(file) = read_plan(alloc, text.as_str()) else {
-            return Err("no file")?;
-        };
-        let again = write_plan(alloc, &file)?;
-        assert!(rt; again.as_str() == text.as_str(), "{pattern}");
+        let file = read_plan(alloc, text.as_str()).ok().ok_or("no file")?;
+        same = same
+            && write_plan(alloc, &file)?.as_str() == text.as_str()
+            && scan_plan(text.as_str()) == Ok(file.offers().len());
     }
+    assert!(rt; same);
     Ok(())
 }
 
 #[test]
-fn a_made_file_is_written(rt: HostRuntime) -> Result<(), Fail> {
+fn an_id_that_all_relays_offer(rt: HostRuntime) -> Result<(), Fail> {
     let alloc = rt.alloc();
-    let mut relays = Vec::new(alloc);
-    relays.push(3)?;
-    relays.push(40)?;
-    let mut offers = Vec::new(alloc);
-    offers.push((Id([171; 32]), relays))?;
-    let Ok(file) = PlanFile::of(offers, Vec::new(alloc), Vec::new(alloc)) else {
-        return Err("no file")?;
-    };
-    let text = write_plan(alloc, &file)?;
-    assert!(rt;
-        text.as_str()
-            == "nostr-plan 1\noffer abababababababababababababababababababababababababababababababab 3 40\ngroup\n"
-    );
-    Ok(())
-}
-
-#[test]
-fn lines_are_set_over_others(rt: HostRuntime) -> Result<(), Fail> {
-    let alloc = rt.alloc();
-    let text = text_of(alloc, "nostr-plan 1\ngroup 0 9 10 63\n")?;
-    let file = read_plan(alloc, text.as_str()).ok().ok_or("not read")?;
-    let offer = text_of(alloc, "offer A 0 9 10 63\n")?;
-    let give = text_of(alloc, "give A 7\n")?;
-    let id = Id([0x0a; 32]);
-    let mut line = [b'x'; LONGEST_LINE];
-    let end = set_offer(&mut line, &id, file.group());
-    assert_eq!(rt; &line[..end], offer.as_str().as_bytes());
-    let end = set_give(&mut line, &id, 7);
-    assert_eq!(rt; &line[..end], give.as_str().as_bytes());
-    let end = set_group(&mut line, file.group());
-    assert_eq!(rt; &line[..end], b"group 0 9 10 63\n".as_slice());
+    let mut all = String::new(alloc);
+    for relay in 0..256u16 {
+        write!(all, " {relay}")?;
+    }
+    let pattern = format!(in alloc; "nostr-plan 1\noffer A{all}\ngive A 99\ngroup{all}\n")?;
+    assert_eq!(rt; verdict(alloc, pattern.as_str())?, Ok(1));
+    let text = text_of(alloc, pattern.as_str())?;
+    let file = read_plan(alloc, text.as_str()).ok().ok_or("no file")?;
+    assert!(rt; write_plan(alloc, &file)?.as_str() == text.as_str());
     Ok(())
 }

@@ -1,16 +1,17 @@
 //! Whether a plan file's gives are a sharing that its group shows to be least.
 
-ghost use Rattle.std.specs.Prelude.{◌≡◌, ◌≤◌, ◌<◌, ◌-◌, ◌*◌, ◌^◌, ◌==◌, ◌&&◌, ◌↔◌, IsTrue, not, ℕ, map, length, slice_index, slice_index_or, false, IfOk, IfSome, IfNone, MatchOption, is_some, option_map, Some, None, Ok, Err};
+ghost use Rattle.std.specs.Prelude.{◌≡◌, ◌<◌, ◌+◌, ◌*◌, ◌^◌, ◌&&◌, ◌↔◌, IsTrue, not, ℕ, map, length, slice_index_or, sum_by, false, IfOk, is_some, option_map, Ok};
 ghost use Rattle.std.specs.List.{All, list_any, list_all};
 ghost use Rattle.sharing.specs.Sharing.{is_among, alone, Shows, IsGreatest, NoneSmaller};
+ghost use Rattle.sharing.specs.Bases.{base_in};
 ghost use Rattle.sharing.specs.Offers.{Ascend, AreRelays, beside, relays_of};
-ghost use Rattle.sharing.specs.declared.TheConstants.{RELAYS};
-ghost use Rattle.plan_check.specs.File.{pairs_of};
-ghost use Rattle.plan_check.specs.Verdict.{gives_fault, given_load, IsSharedOut, Judges};
+ghost use Rattle.sharing.specs.declared.TheConstants.{RELAYS, SLOTS};
+ghost use Rattle.plan_check.specs.File.{AreBasesInOrder, pairs_of};
+ghost use Rattle.plan_check.specs.Verdict.{given_load, IsSharedOut, GroupShows, Judges};
 
 use crate::{PlanFault, PlanFile};
 use neg_codec::Id;
-use sharing::RELAYS;
+use sharing::SLOTS;
 use std::cmp::Ordering;
 
 /// Whether this relay is among these.
@@ -113,12 +114,12 @@ fn has_stranger(offers: &[(Id, Vec<u16>)], gives: &[(Id, u16)]) -> bool
 }
 
 /// For each relay whether it is in the group.
-fn table_of(group: &[u16]) -> [bool; 64]
+fn table_of(group: &[u16]) -> [bool; SLOTS]
     requires { All (λ r. r < RELAYS) group.now }
     ensures table { (r : ℕ) → slice_index_or result r false ≡ is_among group.now r }
-    ensures length { length result ≡ 64 }
+    ensures length { length result ≡ SLOTS }
 {
-    let mut table = [false; 64];
+    let mut table = [false; SLOTS];
     for relay in group {
         table[usize::from(*relay)] = true;
     }
@@ -126,7 +127,7 @@ fn table_of(group: &[u16]) -> [bool; 64]
 }
 
 /// Whether all of these are in the group of the table.
-fn are_within(relays: &[u16], table: &[bool; 64]) -> bool
+fn are_within(relays: &[u16], table: &[bool; SLOTS]) -> bool
     requires { All (λ r. r < RELAYS) relays.now }
     ensures { result ≡ list_all (λ r. slice_index_or table.now r false) relays.now }
 {
@@ -154,54 +155,79 @@ fn count_alone(offers: &[(Id, Vec<u16>)], group: &[u16]) -> usize
     count
 }
 
-/// For each relay the number of ids that are given to it.
-fn loads_of(gives: &[(Id, u16)]) -> [usize; 64]
-    requires { All (λ g. g.1 < RELAYS) gives.now }
-    ensures loads { (r : ℕ) → r < RELAYS → slice_index result r ≡ given_load gives.now r }
-    ensures length { length result ≡ 64 }
+/// For each relay what its load begins with.
+fn bases_of(bases: &[(u16, u64)]) -> [u64; SLOTS]
+    requires { AreBasesInOrder bases.now }
+    ensures loads { (r : ℕ) → slice_index_or result r 0 ≡ base_in bases.now r }
+    ensures length { length result ≡ SLOTS }
 {
-    let mut loads = [0; 64];
+    let mut loads = [0; SLOTS];
+    for base in bases {
+        loads[usize::from(base.0)] = base.1;
+    }
+    loads
+}
+
+/// For each relay its load: what it begins with, and the ids that are given to it.
+fn loads_of(bases: &[(u16, u64)], gives: &[(Id, u16)]) -> [u64; SLOTS]
+    requires bases { AreBasesInOrder bases.now }
+    requires relays { All (λ g. g.1 < RELAYS) gives.now }
+    ensures loads { (r : ℕ) → slice_index_or result r 0 ≡ given_load bases.now gives.now r }
+    ensures length { length result ≡ SLOTS }
+{
+    let mut loads = bases_of(bases);
     for give in gives {
         loads[usize::from(give.1)] += 1;
     }
     loads
 }
 
-/// The greatest number of ids that are given to one relay.
-fn greatest_given(gives: &[(Id, u16)]) -> usize
-    requires { All (λ g. g.1 < RELAYS) gives.now }
-    ensures greatest { IsGreatest (given_load gives.now) result }
-    ensures small { result ≤ length gives.now }
+/// The greatest of the relays' loads.
+fn greatest_of(loads: &[u64; SLOTS]) -> u64
+    ensures { IsGreatest (λ r. slice_index_or loads.now r 0) result }
 {
-    let loads = loads_of(gives);
     let mut most = 0;
-    for relay in 0..RELAYS {
-        let given = loads[usize::from(relay)];
-        if given > most {
-            most = given;
+    for load in loads {
+        if *load > most {
+            most = *load;
         }
     }
     most
 }
 
+/// The loads that these relays begin with together.
+fn sum_of(group: &[u16], bases: &[u64; SLOTS]) -> u128
+    requires { All (λ r. r < RELAYS) group.now }
+    ensures sum { result ≡ sum_by (λ r. slice_index_or bases.now r 0) group.now }
+    ensures small { result < length group.now * 2 ^ 64 + 1 }
+{
+    let mut sum = 0;
+    for relay in group {
+        sum += u128::from(bases[usize::from(*relay)]);
+    }
+    sum
+}
+
 /// Whether the group shows that no sharing has less than this.
-fn does_show(offers: &[(Id, Vec<u16>)], group: &[u16], most: usize) -> bool
+fn does_show(bases: &[(u16, u64)], offers: &[(Id, Vec<u16>)], group: &[u16], most: u64) -> bool
+    requires bases { AreBasesInOrder bases.now }
     requires offers { All (λ o. AreRelays o.1) (pairs_of offers.now) }
-    requires group { All (λ r. r < RELAYS) group.now }
-    ensures { IsTrue result ↔ Shows group.now (pairs_of offers.now) most }
+    requires group { AreRelays group.now }
+    ensures { IsTrue result ↔ Shows (base_in bases.now) group.now (pairs_of offers.now) most }
 {
     if most == 0 {
         return true;
     }
-    !group.is_empty()
-        && count_alone(offers, group) as u128 > (most - 1) as u128 * group.len() as u128
+    let held = sum_of(group, &bases_of(bases)) + count_alone(offers, group) as u128;
+    !group.is_empty() && held > u128::from(most - 1) * group.len() as u128
 }
 
-/// The busiest load, where the gives are a sharing of the offers and the group shows that no sharing has less.
+/// The busiest load, where the gives are a sharing of the offers and the group shows that no sharing has less. All
+/// relays' loads count, also where a relay begins with one and is given no id.
 pub fn check(file: &PlanFile) -> Result<u64, PlanFault>
     ensures judges { Judges file.now result }
-    ensures exact { (most : ℕ) → (result ≡ Ok most) ↔ (IsSharedOut file.now most × Shows file.now.group file.now.offers most) }
-    ensures least { IfOk result (NoneSmaller file.now.offers) }
+    ensures exact { (most : ℕ) → (result ≡ Ok most) ↔ (IsSharedOut file.now most × GroupShows file.now most) }
+    ensures least { IfOk result (NoneSmaller (base_in file.now.bases) file.now.offers) }
 {
     let offers = file.offers();
     let gives = file.gives();
@@ -214,9 +240,10 @@ pub fn check(file: &PlanFile) -> Result<u64, PlanFault>
     if has_stranger(offers, gives) {
         return Err(PlanFault::Stranger);
     }
-    let most = greatest_given(gives);
-    if does_show(offers, file.group(), most) {
-        Ok(most as u64)
+    let bases = file.bases();
+    let most = greatest_of(&loads_of(bases, gives));
+    if does_show(bases, offers, file.group(), most) {
+        Ok(most)
     } else {
         Err(PlanFault::GroupTooSmall)
     }

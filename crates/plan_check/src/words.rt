@@ -1,16 +1,18 @@
 //! The words of a line: ids and relays.
 
-ghost use Rattle.std.specs.Prelude.{◌≡◌, ◌≢◌, ◌<◌, ◌≤◌, ◌+◌, ◌/◌, ◌%◌, ◌++◌, ◌∷◌, ◌↔◌, ℕ, List, All, IsTrue, IfSome, IfNone, IfOk, decimal};
+ghost use Rattle.std.specs.Prelude.{◌≡◌, ◌≢◌, ◌<◌, ◌≤◌, ◌^◌, ◌++◌, ◌∷◌, ℕ, List, All, IfSome, IfNone, IfOk};
 ghost use Rattle.hex.specs.Hex.{encode_lower};
 ghost use Rattle.neg_codec.specs.declared.Id.{Id as AnId};
 ghost use Rattle.neg_codec.specs.Keys.{IsId};
-ghost use Rattle.sharing.specs.declared.TheConstants.{RELAYS};
-ghost use Rattle.plan_check.specs.PlanText.{relay_text, relays_text};
+ghost use Rattle.sharing.specs.declared.TheConstants.{RELAYS, MOST_BASE};
+ghost use Rattle.plan_check.specs.PlanText.{number_text, relays_text};
+ghost use Rattle.plan_check.specs.Lines.{rises};
 ghost use Rattle.plan_check.specs.PlanParts.{IsNextWord, AreRelaysText};
 
-use id_text::parse_id;
+use crate::order::comes_next;
+use id_text::{parse_id, parse_number};
 use neg_codec::Id;
-use sharing::RELAYS;
+use sharing::{MOST_BASE, RELAYS};
 use std::alloc::{AllocError, Global};
 
 /// The text after this word.
@@ -48,81 +50,84 @@ pub(crate) fn cut_id(text: &[u8]) -> Option<(Id, &[u8])>
     Some((id, rest))
 }
 
-/// The number of a decimal digit.
-fn digit_of(byte: u8) -> Option<u16>
-    ensures found { IfSome result (λ d. (d < 10) × (byte ≡ 48 + d)) }
-    ensures none { IfNone result ((d : ℕ) → d < 10 → byte ≢ 48 + d) }
+/// The word at the front, up to a space or the end, and the text after it.
+fn cut_word(text: &[u8]) -> (&[u8], &[u8])
+    ensures parts { text.now ≡ result.0.now ++ result.1.now }
+    ensures word { All (λ b. b ≢ 32) result.0.now }
+    ensures rest { IsNextWord result.1.now }
 {
-    let digit = byte.wrapping_sub(b'0');
-    if digit < 10 {
-        Some(u16::from(digit))
-    } else {
-        None
+    let mut end = 0;
+    while end < text.len() && text[end] != b' ' {
+        end += 1;
     }
+    text.split_at(end)
 }
 
-/// The relay of two digits, of which the first isn't zero.
-fn relay_of(high: u16, low: u8) -> Option<u16>
-    requires { high < 10 }
-    ensures found { IfSome result (λ r. (10 ≤ r) × (r / 10 ≡ high) × (low ≡ 48 + r % 10)) }
-    ensures small { IfSome result (λ r. r < RELAYS) }
-    ensures none { IfNone result ((r : ℕ) → 10 ≤ r → r < RELAYS → r / 10 ≡ high → low ≢ 48 + r % 10) }
-{
-    let relay = 10 * high + digit_of(low)?;
-    if high > 0 && relay < RELAYS {
-        Some(relay)
-    } else {
-        None
-    }
-}
-
-/// Whether nothing is left, or a space comes.
-fn is_next_word(text: &[u8]) -> bool
-    ensures { IsTrue result ↔ IsNextWord text.now }
-{
-    match text.first() {
-        Some(byte) => *byte == b' ',
-        None => true,
-    }
-}
-
-/// The relay of the word at the front, in decimal without leading zeros, and the text after it.
-fn cut_number(text: &[u8]) -> Option<(u16, &[u8])>
-    ensures found { IfSome result (λ cut. text.now ≡ decimal cut.0 ++ cut.1.now) }
-    ensures small { IfSome result (λ cut. cut.0 < RELAYS) }
+/// The number behind the space at the front, in decimal without leading zeros, and the text after it.
+fn cut_number(text: &[u8]) -> Option<(u64, &[u8])>
+    ensures found { IfSome result (λ cut. text.now ≡ number_text cut.0 ++ cut.1.now) }
+    ensures small { IfSome result (λ cut. cut.0 < 2 ^ 64) }
     ensures rest { IfSome result (λ cut. IsNextWord cut.1.now) }
-    ensures none { IfNone result ((r : ℕ) (rest : List ℕ) → r < RELAYS → IsNextWord rest → text.now ≢ decimal r ++ rest) }
+    ensures none { IfNone result ((n : ℕ) (rest : List ℕ) → n < 2 ^ 64 → IsNextWord rest → text.now ≢ number_text n ++ rest) }
 {
-    let (first, rest) = text.split_first()?;
-    let high = digit_of(*first)?;
-    if is_next_word(rest) {
-        return Some((high, rest));
-    }
-    let (second, after) = rest.split_first()?;
-    let relay = relay_of(high, *second)?;
-    if is_next_word(after) {
-        Some((relay, after))
-    } else {
-        None
-    }
+    let (word, rest) = cut_word(skip_space(text)?);
+    let number = parse_number(word)?;
+    Some((number, rest))
 }
 
-/// The relay behind the space at the front, and the text after it. A relay is a number from 0 to 63 without leading
-/// zeros; none is answered where no such word stands there.
+/// The relay behind the space at the front, and the text after it. None is answered where no number of a relay stands
+/// there.
 pub fn cut_relay(text: &[u8]) -> Option<(u16, &[u8])>
-    ensures found { IfSome result (λ cut. text.now ≡ relay_text cut.0 ++ cut.1.now) }
+    ensures found { IfSome result (λ cut. text.now ≡ number_text cut.0 ++ cut.1.now) }
     ensures small { IfSome result (λ cut. cut.0 < RELAYS) }
     ensures rest { IfSome result (λ cut. IsNextWord cut.1.now) }
-    ensures none { IfNone result ((r : ℕ) (rest : List ℕ) → r < RELAYS → IsNextWord rest → text.now ≢ relay_text r ++ rest) }
+    ensures none { IfNone result ((r : ℕ) (rest : List ℕ) → r < RELAYS → IsNextWord rest → text.now ≢ number_text r ++ rest) }
 {
-    cut_number(skip_space(text)?)
+    let (number, rest) = cut_number(text)?;
+    if number < u64::from(RELAYS) {
+        Some((number as u16, rest))
+    } else {
+        None
+    }
+}
+
+/// The load behind the space at the front that a relay may begin with, and the text after it.
+pub(crate) fn cut_load(text: &[u8]) -> Option<(u64, &[u8])>
+    ensures found { IfSome result (λ cut. text.now ≡ number_text cut.0 ++ cut.1.now) }
+    ensures some { IfSome result (λ cut. 0 < cut.0) }
+    ensures small { IfSome result (λ cut. cut.0 ≤ MOST_BASE) }
+    ensures rest { IfSome result (λ cut. IsNextWord cut.1.now) }
+    ensures none { IfNone result ((n : ℕ) (rest : List ℕ) → 0 < n → n ≤ MOST_BASE → IsNextWord rest → text.now ≢ number_text n ++ rest) }
+{
+    let (number, rest) = cut_number(text)?;
+    if 0 < number && number <= MOST_BASE {
+        Some((number, rest))
+    } else {
+        None
+    }
+}
+
+/// Whether the relays of a text, each behind a space, rise; none where the text tells no relays.
+pub(crate) fn scan_relays(text: &[u8]) -> Option<bool>
+    ensures found { IfSome result (λ ok. (relays : List ℕ) × All (λ r. r < RELAYS) relays × (text.now ≡ relays_text relays) × (ok ≡ rises relays)) }
+    ensures none { IfNone result (¬ AreRelaysText text.now) }
+{
+    let mut before = None;
+    let mut ok = true;
+    let mut rest = text;
+    while !rest.is_empty() {
+        let (relay, after) = cut_relay(rest)?;
+        ok = ok && comes_next(before, relay);
+        before = Some(relay);
+        rest = after;
+    }
+    Some(ok)
 }
 
 /// The relays of a text, each behind a space. A relay takes two bytes or more, so that their list needs not grow.
 pub(crate) fn parse_relays(alloc: Global, text: &[u8]) -> Result<Option<Vec<u16>>, AllocError>
     ensures found { IfOk result (λ o. IfSome o (λ relays. text.now ≡ relays_text relays.items)) }
     ensures small { IfOk result (λ o. IfSome o (λ relays. All (λ r. r < RELAYS) relays.items)) }
-    ensures none { IfOk result (λ o. IfNone o (¬ AreRelaysText text.now)) }
 {
     let mut relays = Vec::with_capacity(alloc, text.len() / 2)?;
     let mut rest = text;

@@ -5,14 +5,38 @@ ghost use Rattle.std.specs.List.{flat_map};
 ghost use Rattle.neg_codec.specs.Keys.{IsId};
 ghost use Rattle.sharing.specs.declared.TheConstants.{RELAYS};
 ghost use Rattle.sharing.specs.Offers.{AreRelays};
-ghost use Rattle.plan_check.specs.File.{pairs_of};
+ghost use Rattle.plan_check.specs.File.{IsBase, pairs_of};
 ghost use Rattle.plan_check.specs.TextLines.{ended};
-ghost use Rattle.plan_check.specs.PlanText.{offer_line, give_line, group_line, IsTextOf};
+ghost use Rattle.plan_check.specs.PlanText.{header_line, base_line, offer_line, give_line, group_line, IsTextOf};
 
 use crate::PlanFile;
-use crate::lines::{LONGEST_LINE, set_give, set_group, set_offer};
+use crate::lines::{LONGEST_LINE, set_base, set_give, set_group, set_offer};
 use neg_codec::Id;
 use std::alloc::{AllocError, Global};
+
+/// Appends the header.
+fn put_header(text: &mut Vec<u8>, bases: &[(u16, u64)]) -> Result<(), AllocError>
+    ensures { OnOk result (text.new.items ≡ text.old.items ++ ended (header_line bases.now)) }
+{
+    if bases.is_empty() {
+        text.extend_from_slice(b"nostr-plan 1\n")
+    } else {
+        text.extend_from_slice(b"nostr-plan 2\n")
+    }
+}
+
+/// Appends the lines of bases.
+fn put_bases(text: &mut Vec<u8>, bases: &[(u16, u64)]) -> Result<(), AllocError>
+    requires { All IsBase bases.now }
+    ensures { OnOk result (text.new.items ≡ text.old.items ++ flat_map (λ b. ended (base_line b)) bases.now) }
+{
+    let mut line = [0; LONGEST_LINE];
+    for base in bases {
+        let end = set_base(&mut line, base.0, base.1);
+        text.extend_from_slice(&line[..end])?;
+    }
+    Ok(())
+}
 
 /// Appends the lines of offers.
 fn put_offers(text: &mut Vec<u8>, offers: &[(Id, Vec<u16>)]) -> Result<(), AllocError>
@@ -57,7 +81,8 @@ fn bytes_of(alloc: Global, file: &PlanFile) -> Result<Vec<u8>, AllocError>
     ensures { IfOk result (λ bytes. IsTextOf bytes.items file.now) }
 {
     let mut bytes = Vec::new(alloc);
-    bytes.extend_from_slice(b"nostr-plan 1\n")?;
+    put_header(&mut bytes, file.bases())?;
+    put_bases(&mut bytes, file.bases())?;
     put_offers(&mut bytes, file.offers())?;
     put_gives(&mut bytes, file.gives())?;
     put_group(&mut bytes, file.group())?;

@@ -1,23 +1,26 @@
 -- The offers of a text, line by line.
-use Rattle.std.proofs.Common.{◌≡◌, ℕ, ◌-◌, ◌<◌, ◌≤◌, ◌==◌, ◌||◌, Bool, true, false, List, [], ◌∷◌, ◌++◌, length, map, refl, sym, ap, ◌∙◌, subst, arith}
+use Rattle.std.proofs.Common.{if◌then◌else◌, ◌≡◌, ℕ, ◌-◌, ◌<◌, ◌≤◌, ◌==◌, ◌||◌, Bool, true, false, List, [], ◌∷◌, ◌++◌, length, map, inl, inr, refl, sym, ap, ◌∙◌, subst, arith}
 use Rattle.std.specs.Ordering.{nat_cmp, is_lt}
 use Rattle.std.specs.declared.cmp.Ordering.{Ordering}
 use Rattle.std.specs.declared.cmp.Ordering.TheVariants.{Less, Equal, Greater}
 use Rattle.std.specs.List.Sorted.{IsStrictlySortedBy}
-use Rattle.std.proofs.lemmas.Bool.{false≢true}
+use Rattle.std.proofs.lemmas.Bool.{cases_eq, eq-eqb, ne_eqb, false≢true}
 use Rattle.std.specs.List.{All}
 use Rattle.std.proofs.lemmas.List.{map-append}
-use Rattle.std.proofs.lemmas.List.Elements.{All-push, All-weaker, All-cons, All-head, All-tail, All-nil}
+use Rattle.std.proofs.lemmas.List.Elements.{All-push, All-weaker, All-cons, All-head, All-tail, All-nil, All-map}
 use Rattle.std.proofs.lemmas.List.Folds.{list_any-append}
 use Rattle.neg_codec.specs.declared.Id.{Id}
 use Rattle.sharing.specs.declared.TheConstants.{RELAYS}
+use Rattle.sharing.specs.Bases.{base_of, base_in}
 use Rattle.sharing.specs.Sharing.{is_among}
 use Rattle.sharing.specs.Offers.{AreRelays, Ascend, IsOffers, id_cmp}
 use Rattle.sharing.proofs.Orders.{same_sorted, sorted_push, less_from, head_sorted, tail_sorted, id_total}
-use Rattle.plan_check.specs.File.{File, IsFile}
+use Rattle.plan_check.specs.File.{File, AreBasesInOrder}
 use Rattle.plan_check.specs.TextLines.{lines_of, ended}
-use Rattle.plan_check.specs.PlanText.{header_line, plan_lines, IsOffer, IsOfForm}
-use Rattle.plan_check.proofs.FormLemmas.{offered, given, grouped, plan_lines-is}
+use Rattle.plan_check.specs.PlanText.{header_line, plan_lines, IsOffer}
+use Rattle.plan_check.specs.PlanParts.{IsTail}
+use Rattle.plan_check.proofs.FormLemmas.{based, offered, plan_lines-is}
+use Rattle.plan_check.proofs.Given.{base_here, base_elsewhere}
 use Rattle.plan_check.proofs.TextLemmas.{text_by_lines}
 use Rattle.plan_check.proofs.WriteLemmas.{text_split, split_front}
 use Rattle.plan_run.specs.Planned.{IsFront}
@@ -78,20 +81,37 @@ offers_push offers o is ascend relays some = record {
   some = All-push (λ p. 0 < length p.1) offers o is.some some;
 }
 
+-- one base more
+pub bases_more : (pairs : List (ℕ × ℕ)) (b : ℕ × ℕ) (old new : List ℕ) → All (λ a. a.0 < b.0) pairs → ((r : ℕ) → base_of old r ≡ base_in pairs r) → ((r : ℕ) → base_of new r ≡ (if r == b.0 then b.1 else base_of old r))
+    → (r : ℕ) → base_of new r ≡ base_in (pairs ++ b ∷ []) r
+bases_more pairs b old new below same set r =
+    elim (cases_eq r b.0) [
+      | inl is ↦ set r ∙ ap (λ t. if t then b.1 else base_of old r) (eq-eqb r b.0 is) ∙ sym (base_here pairs b r below is)
+      | inr other ↦ set r ∙ ap (λ t. if t then b.1 else base_of old r) (ne_eqb r b.0 other) ∙ same r ∙ sym (base_elsewhere pairs b r other)
+    ]
+
+pub ascend_more : (pairs : List (ℕ × ℕ)) (b : ℕ × ℕ) → All (λ a. a.0 < b.0) pairs → IsStrictlySortedBy nat_cmp (map (λ a. a.0) pairs) → IsStrictlySortedBy nat_cmp (map (λ a. a.0) (pairs ++ b ∷ []))
+ascend_more pairs b below s =
+    let first : ℕ × ℕ → ℕ = λ a. a.0 in
+    let less : All (λ (a : ℕ × ℕ). nat_cmp a.0 b.0 ≡ Less) pairs = All-weaker (λ (a : ℕ × ℕ). a.0 < b.0) (λ (a : ℕ × ℕ). nat_cmp a.0 b.0 ≡ Less) (λ a lt. less_from a.0 b.0 lt) pairs below in
+    subst (IsStrictlySortedBy nat_cmp) (sym (map-append first pairs (b ∷ []))) (sorted_push nat_cmp (map first pairs) b.0 s (All-map (λ x. nat_cmp x b.0 ≡ Less) first pairs less))
+
 -- the front of a text whose tail is that of a file
-pub front_is : (text rest : List ℕ) (offers : List (Id × List ℕ)) (tail : File) (lines : List (List ℕ)) → lines_of text ≡ ended header_line ∷ lines → lines ≡ map offered offers ++ lines_of rest
-    → All IsOffer offers → IsOffers offers → lines_of rest ≡ map given tail.gives ++ grouped tail.group ∷ [] → IsOfForm tail → IsFile tail → IsFront text offers (length text - length rest)
-front_is text rest offers tail lines first front form ok behind tail_form tail_ok =
-    let file : File = record { offers = offers; gives = tail.gives; group = tail.group } in
-    let all : lines_of text ≡ plan_lines file = first ∙ ap (λ t. ended header_line ∷ t) (front ∙ ap (λ t. map offered offers ++ t) behind) ∙ sym (plan_lines-is file) in
-    let split = text_split text rest offers lines first front in
+pub front_is : (text rest : List ℕ) (base : ℕ → ℕ) (bases : List (ℕ × ℕ)) (offers : List (Id × List ℕ)) → lines_of text ≡ ended (header_line bases) ∷ (map based bases ++ (map offered offers ++ lines_of rest))
+    → AreBasesInOrder bases → ((r : ℕ) → base r ≡ base_in bases r) → All IsOffer offers → IsOffers offers → IsTail (lines_of rest) → IsFront text base offers (length text - length rest)
+front_is text rest base bases offers whole ordered same form ok tail =
+    let relays : All (λ g. g.1 < RELAYS) tail.gives = λ k d lt. (tail.form k d lt).relay in
+    let file : File = record { bases = bases; offers = offers; gives = tail.gives; group = tail.group } in
+    let all : lines_of text ≡ plan_lines file = whole ∙ ap (λ t. ended (header_line bases) ∷ (map based bases ++ (map offered offers ++ t))) tail.told ∙ sym (plan_lines-is file) in
+    let split = text_split text rest bases offers whole in
     record {
       file = file;
       told = record {
-        form = record { offers = form; gives = tail_form.gives; group = tail_form.group };
-        ordered = record { offers_ok = ok; ascend = tail_ok.ascend; relays = tail_ok.relays; group_ok = tail_ok.group_ok };
+        form = record { bases = ordered.each; offers = form; gives = tail.form; group = tail.relays.small };
+        ordered = record { bases_ok = ordered; offers_ok = ok; ascend = tail.ascend; relays = relays; group_ok = tail.relays };
         is = text_by_lines text file all;
       };
+      bases_are = same;
       offers_are = refl;
       front = split_front text _ rest split;
       within = omega arith;

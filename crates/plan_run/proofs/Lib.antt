@@ -2,7 +2,6 @@ pub mod Gathered
 pub mod Written
 pub mod Spelled
 pub mod Fronts
-pub mod NextOffers
 pub mod Done
 pub mod Passing
 pub mod Failing

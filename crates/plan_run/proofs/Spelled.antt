@@ -5,7 +5,7 @@ use Rattle.std.proofs.lemmas.List.Elements.{All-map}
 use Rattle.neg_codec.specs.declared.Id.{Id}
 use Rattle.neg_codec.specs.Keys.{IsId}
 use Rattle.sharing.proofs.Orders.{All-unmap}
-use Rattle.plan_check.specs.File.{File, IsFile}
+use Rattle.plan_check.specs.File.{File, IsBase, IsFile}
 use Rattle.plan_check.specs.PlanText.{plan_text, IsOffer, IsOfForm, IsTextOf}
 use Rattle.plan_run.specs.Planned.{IsPlannedFrom}
 
@@ -18,6 +18,7 @@ given_ids read made form planned =
 
 form_of : (read made : File) → IsOfForm read → IsPlannedFrom read made → IsFile made → IsOfForm made
 form_of read made form planned ok = record {
+  bases = subst (All IsBase) (sym planned.bases) form.bases;
   offers = subst (All IsOffer) (sym planned.offers) form.offers;
   gives = λ k d lt. record { id = given_ids read made form planned k d lt; relay = ok.relays k d lt };
   group = ok.group_ok.small;

@@ -1,3 +1,4 @@
 pub mod Planned
+pub mod Fronts
 pub mod Jobs
 pub mod Laws

@@ -1,15 +1,15 @@
 //! The job `check`.
 
-ghost use Rattle.std.specs.Prelude.{◌≡◌, ◌≢◌, ℕ, IfOk, IfErr, OnOk, IfSome, string_bytes};
+ghost use Rattle.std.specs.Prelude.{◌≡◌, ◌≢◌, IfOk, IfErr, OnOk, IfSome, string_bytes};
 ghost use Rattle.std.specs.Io.KnownBytes.{Keeps};
+ghost use Rattle.sharing.specs.Bases.{base_in};
 ghost use Rattle.sharing.specs.Sharing.{NoneSmaller};
 ghost use Rattle.plan_run.specs.Planned.{Passes, IsRefusedAs};
-ghost use Rattle.plan_run.specs.Jobs.{IsLeastWritten, IsCheckRefusal, least_text};
+ghost use Rattle.plan_run.specs.Jobs.{ChecksAs, IsLeastWritten, IsUnchecked, IsCheckRefusal, least_text};
 
-use crate::reading::read_file;
 use crate::writing::write_text;
-use mirror_run::Refusal;
-use plan_check::{PlanFault, PlanFile, check};
+use mirror_run::{LineFault, Refusal, read_input};
+use plan_check::{PlanFault, PlanFile, check, read_plan};
 use std::alloc::{AllocError, Global};
 use std::io::{Read, Write};
 
@@ -17,7 +17,7 @@ use std::io::{Read, Write};
 /// number of what is wrong.
 fn load_of(file: &PlanFile) -> Result<u64, u8>
     ensures ok { IfOk result (Passes file.now) }
-    ensures least { IfOk result (NoneSmaller file.now.offers) }
+    ensures least { IfOk result (NoneSmaller (base_in file.now.bases) file.now.offers) }
     ensures err { IfErr result (IsRefusedAs file.now) }
 {
     match check(file) {
@@ -27,6 +27,29 @@ fn load_of(file: &PlanFile) -> Result<u64, u8>
         Err(PlanFault::Stranger) => Err(5),
         Err(PlanFault::GroupTooSmall) => Err(6),
         Err(_) => unreachable!(),
+    }
+}
+
+/// The busiest load of a plan text's gives, where they are a sharing of its offers and its group shows that none has
+/// less.
+///
+/// # Errors
+///
+/// `Line`, `Plan` (3 to 6) and `Memory`, which is told only of a plan text.
+pub fn least_of(alloc: Global, text: &str) -> Result<u64, Refusal>
+    ensures ok { IfOk result (ChecksAs text.now) }
+    ensures err { IfErr result (IsUnchecked text.now) }
+{
+    let file = match read_plan(alloc, text) {
+        Ok(file) => file,
+        Err(PlanFault::Line(n)) => return Err(Refusal::Line(n, LineFault::Form)),
+        Err(PlanFault::Order(n)) => return Err(Refusal::Line(n, LineFault::Order)),
+        Err(PlanFault::Memory) => return Err(Refusal::Memory),
+        Err(_) => unreachable!(),
+    };
+    match load_of(&file) {
+        Ok(most) => Ok(most),
+        Err(number) => Err(Refusal::Plan(number)),
     }
 }
 
@@ -54,12 +77,8 @@ pub fn run_check<R: Read, W: Write>(
     ensures err { IfErr result (λ e. IfSome (R.remaining reader.old) (λ input. IsCheckRefusal input e)) }
     ensures unwritten { IfErr result (λ e. e ≢ Refusal.Write → Keeps (W.contents writer.old) (W.contents writer.new)) }
 {
-    let file = read_file(alloc, reader)?;
-    match load_of(&file) {
-        Ok(most) => {
-            let line = line_of(alloc, most)?;
-            write_text(writer, line.as_str())
-        }
-        Err(number) => Err(Refusal::Plan(number)),
-    }
+    let text = read_input(alloc, reader)?;
+    let most = least_of(alloc, text.as_str())?;
+    let line = line_of(alloc, most)?;
+    write_text(writer, line.as_str())
 }

@@ -7,13 +7,11 @@ mod members;
 mod offers;
 mod planning;
 mod printing;
-mod reading;
 mod writing;
 
-pub use checking::run_check;
+pub use checking::{least_of, run_check};
 pub use laws::{faulty_lines_fail, faulty_texts_fail, least_texts_pass, planned_texts_pass};
-pub use planning::run_plan;
-pub use reading::read_file;
+pub use planning::{plan_of, run_plan};
 
 #[cfg(test)]
 mod tests;

@@ -1,23 +1,50 @@
-//! The offers of a plan text whose lines are in order, read as sets, without a list for each.
+//! The bases and the offers of a plan text, read as sets, without a list for each offer.
 
-ghost use Rattle.std.specs.Prelude.{◌≡◌, ◌≢◌, ◌↔◌, ◌++◌, ◌∷◌, [], ℕ, List, true, map, All, IfOk, IfSome, IfNone};
-ghost use Rattle.neg_codec.specs.declared.Id.{Id as AnId};
+ghost use Rattle.std.specs.Prelude.{◌≡◌, ◌++◌, ◌∷◌, [], ℕ, map, All, IsTrue, IfOk, IfSome};
+ghost use Rattle.sharing.specs.Bases.{base_of, base_in, AreBases};
 ghost use Rattle.sharing.specs.Offers.{AreRelays, IsOffers, Ascend};
-ghost use Rattle.plan_check.specs.File.{File};
-ghost use Rattle.plan_check.specs.TextLines.{lines_of, ended, FirstIsNot};
-ghost use Rattle.plan_check.specs.PlanText.{relays_text, offer_line, IsOffer, IsTextOf};
-ghost use Rattle.plan_run.specs.Planned.{IsFront, IsNextOffer};
+ghost use Rattle.plan_check.specs.File.{AreBasesInOrder, IsBase};
+ghost use Rattle.plan_check.specs.TextLines.{lines_of, ended};
+ghost use Rattle.plan_check.specs.PlanText.{relays_text, offer_line, IsOffer};
+ghost use Rattle.plan_run.specs.Planned.{IsFront};
 
 use neg_codec::Id;
-use offer_table::RelaySet;
-use plan_check::{cut_line, cut_offer, cut_relay, read_tail, skip_header};
+use offer_table::{Bases, RelaySet};
+use plan_check::{cut_line, cut_offer, cut_relay, is_tail, read_head};
 use std::alloc::{AllocError, Global};
+
+/// The bases and the offers of a plan text, and where their lines end.
+#[derive(Drop)]
+pub(crate) struct Front {
+    pub(crate) bases: Bases,
+    pub(crate) offers: Vec<(Id, RelaySet)>,
+    pub(crate) end: usize,
+}
+
+/// The bases of these pairs, where their relays rise.
+fn bases_of(pairs: &[(u16, u64)]) -> Option<Bases>
+    requires { All IsBase pairs.now }
+    ensures bases { IfSome result (λ bases. (r : ℕ) → base_of bases r ≡ base_in pairs.now r) }
+    ensures ordered { IfSome result (λ _. AreBasesInOrder pairs.now) }
+{
+    let mut bases = Bases::none();
+    let mut next = 0;
+    for base in pairs {
+        if base.0 < next {
+            return None;
+        }
+        let Ok(()) = bases.set(base.0, base.1) else {
+            return None;
+        };
+        next = base.0 + 1;
+    }
+    Some(bases)
+}
 
 /// The relays of a text, each behind a space, where they rise.
 fn parse_set(text: &[u8]) -> Option<RelaySet>
     ensures found { IfSome result (λ relays. text.now ≡ relays_text relays) }
     ensures relays { IfSome result AreRelays }
-    ensures none { IfNone result ((relays : List ℕ) → AreRelays relays → text.now ≢ relays_text relays) }
 {
     let mut relays = RelaySet::empty();
     let mut next = 0;
@@ -38,7 +65,6 @@ fn parse_offer(line: &[u8]) -> Option<(Id, RelaySet)>
     ensures found { IfSome result (λ o. line.now ≡ offer_line o) }
     ensures offer { IfSome result IsOffer }
     ensures relays { IfSome result (λ o. AreRelays o.1) }
-    ensures none { IfNone result ((o : AnId × List ℕ) → IsOffer o → AreRelays o.1 → line.now ≢ offer_line o) }
 {
     let (id, rest) = cut_offer(line)?;
     let relays = parse_set(rest)?;
@@ -48,7 +74,7 @@ fn parse_offer(line: &[u8]) -> Option<(Id, RelaySet)>
 /// Whether an id comes behind the ids of these offers.
 fn comes_behind(offers: &[(Id, RelaySet)], id: &Id) -> bool
     requires { Ascend (map (λ o. o.0) offers.now) }
-    ensures { (result ≡ true) ↔ Ascend (map (λ o. o.0) offers.now ++ id.now ∷ []) }
+    ensures { IsTrue result → Ascend (map (λ o. o.0) offers.now ++ id.now ∷ []) }
 {
     match offers.split_last() {
         Some((last, _)) => last.0.cmp(id).is_lt(),
@@ -61,7 +87,6 @@ fn take_offers(alloc: Global, text: &[u8]) -> Result<(Vec<(Id, RelaySet)>, &[u8]
     ensures lines { IfOk result (λ r. lines_of text.now ≡ map (λ o. ended (offer_line o)) r.0.items ++ lines_of r.1.now) }
     ensures form { IfOk result (λ r. All IsOffer r.0.items) }
     ensures offers { IfOk result (λ r. IsOffers r.0.items) }
-    ensures all { IfOk result (λ r. FirstIsNot (IsNextOffer r.0.items) (lines_of r.1.now)) }
 {
     let mut offers = Vec::new(alloc);
     let mut rest = text;
@@ -78,22 +103,23 @@ fn take_offers(alloc: Global, text: &[u8]) -> Result<(Vec<(Id, RelaySet)>, &[u8]
     Ok((offers, rest))
 }
 
-/// The offers of a plan text, and where their lines end. None where the text is no plan text.
-pub(crate) fn read_offers(
-    alloc: Global,
-    text: &str,
-) -> Result<Option<(Vec<(Id, RelaySet)>, usize)>, AllocError>
-    ensures front { IfOk result (λ o. IfSome o (λ r. IsFront text.now r.0.items r.1)) }
-    ensures offers { IfOk result (λ o. IfSome o (λ r. IsOffers r.0.items)) }
-    ensures none { IfOk result (λ o. IfNone o ((file : File) → IsTextOf text.now file → ⊥)) }
+/// The bases and the offers of a plan text. None where the text is no plan text.
+pub(crate) fn read_front(alloc: Global, text: &str) -> Result<Option<Front>, AllocError>
+    ensures front { IfOk result (λ o. IfSome o (λ f. IsFront text.now (base_of f.bases) f.offers.items f.end)) }
+    ensures bases { IfOk result (λ o. IfSome o (λ f. AreBases f.bases)) }
+    ensures offers { IfOk result (λ o. IfSome o (λ f. IsOffers f.offers.items)) }
 {
-    let Some(rest) = skip_header(text.as_bytes()) else {
+    let Some((pairs, rest)) = read_head(alloc, text.as_bytes())? else {
+        return Ok(None);
+    };
+    let Some(bases) = bases_of(&pairs) else {
         return Ok(None);
     };
     let (offers, rest) = take_offers(alloc, rest)?;
     let end = text.len() - rest.len();
-    match read_tail(alloc, rest)? {
-        Some(_) => Ok(Some((offers, end))),
-        None => Ok(None),
+    if is_tail(rest) {
+        Ok(Some(Front { bases, offers, end }))
+    } else {
+        Ok(None)
     }
 }

@@ -1,46 +1,64 @@
 //! The job `plan`.
 
-ghost use Rattle.std.specs.Prelude.{◌≡◌, ◌≢◌, ◌≤◌, ◌⊎◌, length, IfOk, IfErr, OnOk, IfSome};
+ghost use Rattle.std.specs.Prelude.{◌≡◌, ◌≢◌, IfOk, IfErr, OnOk, IfSome};
 ghost use Rattle.std.specs.Io.KnownBytes.{Keeps};
-ghost use Rattle.plan_run.specs.Planned.{IsFront};
-ghost use Rattle.plan_run.specs.Jobs.{IsPlanWritten, IsPlanRefusal};
+ghost use Rattle.plan_run.specs.Fronts.{IsPlannedText};
+ghost use Rattle.plan_run.specs.Jobs.{IsPlanWritten, IsUnplanned, IsPlanRefusal};
 
-use crate::offers::read_offers;
+use crate::offers::read_front;
 use crate::printing::write_plan;
-use crate::reading::refusal_of_text;
-use fetch_plan::plan;
-use mirror_run::{Refusal, read_input};
-use offer_table::{OfferFault, OfferTable};
-use std::alloc::Global;
+use fetch_plan::{Plan, plan};
+use mirror_run::{LineFault, Refusal, read_input};
+use offer_table::OfferTable;
+use plan_check::{PlanFault, scan_plan};
+use sharing::MOST_IDS;
+use std::alloc::{AllocError, Global};
 use std::io::{Read, Write};
 
-/// Why offers make no table.
-fn refusal_of(fault: OfferFault) -> Refusal
-    ensures { (result ≡ Refusal.Memory) ⊎ ((result ≡ Refusal.TableFull) × (fault ≡ OfferFault.TableFull)) }
+/// Where the lines of a plan text's offers end, and a least plan of them. None where the text is no plan text, or has
+/// more offers than a table takes.
+fn made_of(alloc: Global, text: &str) -> Result<Option<(usize, Plan)>, AllocError>
+    ensures { IfOk result (λ o. IfSome o (λ r. IsPlannedText text.now r.0 r.1)) }
 {
-    match fault {
-        OfferFault::TableFull => Refusal::TableFull,
-        _ => Refusal::Memory,
-    }
-}
-
-/// The table of a text's offers, and where their lines end.
-fn table_of(alloc: Global, text: &str) -> Result<(OfferTable, usize), Refusal>
-    requires { length text.now ≤ 67108864 }
-    ensures front { IfOk result (λ r. IsFront text.now r.0.offers r.1) }
-    ensures err { IfErr result (IsPlanRefusal text.now) }
-{
-    let Some((offers, end)) = read_offers(alloc, text)? else {
-        return Err(refusal_of_text(alloc, text));
+    let Some(front) = read_front(alloc, text)? else {
+        return Ok(None);
     };
-    match OfferTable::of_sets(alloc, offers) {
-        Ok(table) => Ok((table, end)),
-        Err(fault) => Err(refusal_of(fault)),
+    match OfferTable::of_sets(alloc, front.offers) {
+        Ok(table) => Ok(Some((front.end, plan(alloc, &table, &front.bases)?))),
+        Err(_) => Ok(None),
     }
 }
 
-/// Reads a plan text, and writes the plan text of the same offers with a least sharing of them. The lines of the
-/// offers are written as they stand.
+/// Why nothing was planned of a text. Takes no memory.
+fn refusal_of(text: &str) -> Refusal
+    ensures { IsUnplanned text.now result }
+{
+    match scan_plan(text) {
+        Ok(count) if count > MOST_IDS => Refusal::TableFull,
+        Ok(_) => Refusal::Memory,
+        Err(PlanFault::Line(n)) => Refusal::Line(n, LineFault::Form),
+        Err(PlanFault::Order(n)) => Refusal::Line(n, LineFault::Order),
+        Err(_) => unreachable!(),
+    }
+}
+
+/// Where the lines of a plan text's bases and offers end, and a least plan of them.
+///
+/// # Errors
+///
+/// `Line`, `TableFull` (more than 200,000 offers) and `Memory`, which is told only of a plan text with no more offers.
+pub fn plan_of(alloc: Global, text: &str) -> Result<(usize, Plan), Refusal>
+    ensures ok { IfOk result (λ r. IsPlannedText text.now r.0 r.1) }
+    ensures err { IfErr result (IsUnplanned text.now) }
+{
+    match made_of(alloc, text) {
+        Ok(Some(made)) => Ok(made),
+        _ => Err(refusal_of(text)),
+    }
+}
+
+/// Reads a plan text, and writes the plan text of the same bases and offers with a least sharing of them. The lines of
+/// the bases and the offers are written as they stand.
 ///
 /// # Errors
 ///
@@ -57,7 +75,6 @@ pub fn run_plan<R: Read, W: Write>(
     ensures unwritten { IfErr result (λ e. e ≢ Refusal.Write → Keeps (W.contents writer.old) (W.contents writer.new)) }
 {
     let text = read_input(alloc, reader)?;
-    let (table, end) = table_of(alloc, text.as_str())?;
-    let made = plan(alloc, &table)?;
+    let (end, made) = plan_of(alloc, text.as_str())?;
     write_plan(alloc, writer, &text.as_bytes()[..end], &made)
 }

@@ -1,10 +1,7 @@
 //! Plans and checks of texts from a table, readers and writers that fail.
 
-use crate::offers::read_offers;
-use crate::{read_file, run_check, run_plan};
+use crate::{least_of, plan_of, run_check, run_plan};
 use mirror_run::Refusal;
-use neg_codec::Id;
-use offer_table::OfferTable;
 use std::alloc::Global;
 use std::io;
 use std::io::{ErrorKind, Read, Write};
@@ -219,10 +216,11 @@ fn refused_texts(rt: HostRuntime) -> Result<(), Fail> {
     let table = [
         ("", "refused: line 1: form"),
         ("nostr-plan 1\n", "refused: line 2: form"),
-        ("nostr-plan 2\ngroup\n", "refused: line 1: form"),
+        ("nostr-plan 2\ngroup\n", "refused: line 2: form"),
+        ("nostr-plan 3\ngroup\n", "refused: line 1: form"),
         ("nostr-plan 1\ngroup", "refused: line 2: form"),
         ("nostr-plan 1\ngroup\ngroup\n", "refused: line 3: form"),
-        ("nostr-plan 1\ngroup 64\n", "refused: line 2: form"),
+        ("nostr-plan 1\ngroup 256\n", "refused: line 2: form"),
         ("nostr-plan 1\ngroup 1 1\n", "refused: line 2: order"),
         ("nostr-plan 1\ngroup 1 0\nmore\n", "refused: line 3: form"),
     ];
@@ -273,7 +271,7 @@ fn as_many_ids_as_a_table_takes(rt: HostRuntime) -> Result<(), Fail> {
 fn an_id_that_all_relays_offer(rt: HostRuntime) -> Result<(), Fail> {
     let alloc = rt.alloc();
     let mut all = String::new(alloc);
-    for relay in 0..64u16 {
+    for relay in 0..256u16 {
         write!(all, " {relay}")?;
     }
     let offer = format!(in alloc; "offer a{all}")?;
@@ -292,44 +290,76 @@ fn an_id_that_all_relays_offer(rt: HostRuntime) -> Result<(), Fail> {
     Ok(())
 }
 
+/// The plan text of version 2 of these lines.
+fn based_text(alloc: Global, lines: &[&str]) -> Result<String, Fail> {
+    let text = plan_text(alloc, lines)?;
+    let rest = text
+        .as_str()
+        .strip_prefix("nostr-plan 1\n")
+        .ok_or("no header")?;
+    Ok(format!(in alloc; "nostr-plan 2\n{rest}")?)
+}
+
 #[test]
-fn the_offers_of_a_text_make_a_table(rt: HostRuntime) -> Result<(), Fail> {
+fn plans_over_bases(rt: HostRuntime) -> Result<(), Fail> {
     let alloc = rt.alloc();
-    let text = plan_text(alloc, &["offer a 0 33", "offer b 33 63", "group"])?;
-    let file = read_file(alloc, &mut text.as_str().as_bytes())
-        .ok()
-        .ok_or("not read")?;
-    assert_eq!(rt; file.offers().len(), 2);
-    let (offers, end) = read_offers(alloc, text.as_str())?.ok_or("no offers")?;
-    assert_eq!(rt; text.len().checked_sub(end), Some("group\n".len()));
-    let table = OfferTable::of_sets(alloc, offers).ok().ok_or("no table")?;
-    assert_eq!(rt; table.ids().count(), 2);
-    for (byte, relays) in [(0x0a, [0, 33]), (0x0b, [33, 63])] {
-        let offered = table.offers(&Id([byte; 32]));
-        for relay in 0..66u16 {
-            let there = relay == relays[0] || relay == relays[1];
-            assert_eq!(rt; offered.has(relay), there, "relay {relay} of {byte}");
-        }
+    let table: [(&[&str], &[&str], &str); 3] = [
+        (
+            &["base 0 2", "offer a 0 1", "group"],
+            &["base 0 2", "offer a 0 1", "give a 1", "group 0"],
+            "least 2\n",
+        ),
+        (&["base 7 9", "group"], &["base 7 9", "group 7"], "least 9\n"),
+        (
+            &["base 0 5", "base 255 1", "offer a 0 1", "offer b 0 255", "group"],
+            &[
+                "base 0 5",
+                "base 255 1",
+                "offer a 0 1",
+                "offer b 0 255",
+                "give a 1",
+                "give b 255",
+                "group 0",
+            ],
+            "least 5\n",
+        ),
+    ];
+    let mut same = true;
+    for (read, made, least) in table {
+        let input = based_text(alloc, read)?;
+        let want = based_text(alloc, made)?;
+        let got = planned(alloc, input.as_str())?;
+        same = same
+            && got.as_str() == want.as_str()
+            && checked(alloc, got.as_str())?.as_str() == least;
     }
-    for relay in 0..66u16 {
-        let there = relay == 0 || relay == 33 || relay == 63;
-        assert_eq!(rt; table.reported().has(relay), there, "relay {relay}");
-    }
+    assert!(rt; same);
+    let three = based_text(
+        alloc,
+        &["base 0 2", "offer a 0 1", "offer b 0 1", "offer c 0 1", "group"],
+    )?;
+    let got = planned(alloc, three.as_str())?;
+    assert!(rt; got.as_str().ends_with("group 0 1\n"));
+    assert_eq!(rt; least_of(alloc, got.as_str()), Ok(3));
     Ok(())
 }
 
 #[test]
-fn a_text_that_is_no_plan_text_tells_no_offers(rt: HostRuntime) -> Result<(), Fail> {
+fn texts_that_are_none_are_refused_without_memory(rt: HostRuntime) -> Result<(), Fail> {
     let alloc = rt.alloc();
+    let mut refused = true;
     for lines in [
         ["offer b 0", "offer a 0", "group"],
         ["offer a 3 3", "offer b 0", "group"],
-        ["offer a 0", "give b 64", "group"],
+        ["offer a 0", "give b 256", "group"],
         ["offer a 0", "give a 0", "group 2 1"],
     ] {
         let text = plan_text(alloc, &lines)?;
-        assert!(rt; read_offers(alloc, text.as_str())?.is_none());
+        refused = refused
+            && plan_of(alloc, text.as_str()).is_err()
+            && least_of(alloc, text.as_str()).is_err();
     }
+    assert!(rt; refused);
     Ok(())
 }
 
@@ -360,6 +390,7 @@ impl Read for Slow<'_> {
 #[derive(Drop)]
 struct Narrow {
     taken: Vec<u8>,
+    flushed: usize,
     writes: u64,
     fails_at: u64,
 }
@@ -378,6 +409,7 @@ impl Write for Narrow {
     }
 
     fn flush(&mut self) -> io::Result<()> {
+        self.flushed = self.taken.len();
         Ok(())
     }
 }
@@ -385,6 +417,7 @@ impl Write for Narrow {
 fn failing_writer(alloc: Global, fails_at: u64) -> Narrow {
     Narrow {
         taken: Vec::new(alloc),
+        flushed: 0,
         writes: 0,
         fails_at,
     }
@@ -427,7 +460,7 @@ fn each_write_fails_in_turn(rt: HostRuntime) -> Result<(), Fail> {
         let done = run_plan(alloc, &mut text.as_str().as_bytes(), &mut writer);
         if n == 0 {
             assert_eq!(rt; done, Ok(()));
-            assert_eq!(rt; writer.taken.as_slice(), text.as_str().as_bytes());
+            assert_eq!(rt; &writer.taken[..writer.flushed], text.as_str().as_bytes());
         } else {
             assert_eq!(rt; done, Err(Refusal::Write), "write {n}");
         }
@@ -437,7 +470,7 @@ fn each_write_fails_in_turn(rt: HostRuntime) -> Result<(), Fail> {
         let done = run_check(alloc, &mut text.as_str().as_bytes(), &mut writer);
         if n == 0 {
             assert_eq!(rt; done, Ok(()));
-            assert_eq!(rt; writer.taken.as_slice(), b"least 1\n".as_slice());
+            assert_eq!(rt; &writer.taken[..writer.flushed], b"least 1\n".as_slice());
         } else {
             assert_eq!(rt; done, Err(Refusal::Write), "write {n}");
         }

@@ -8,6 +8,7 @@ use Rattle.std.proofs.lemmas.Bool.{false≢true, cases_lt, cases_Bool, or_right}
 use Rattle.std.specs.BTreeSet.{BTreeSet}
 use Rattle.neg_codec.specs.declared.Id.{Id}
 use Rattle.sharing.specs.declared.TheConstants.{RELAYS, MOST_IDS}
+use Rattle.sharing.specs.Bases.{base_of}
 use Rattle.sharing.specs.Sharing.{is_among, NoneSmaller}
 use Rattle.sharing.specs.Offers.{is_id, relays_of, IsOffers, AreRelays}
 use Rattle.offer_table.specs.Table.{Table, IsTable}
@@ -86,9 +87,9 @@ pub leaves_report : (lanes : List ℕ) (h : History) (s : State) (relay : ℕ) (
 leaves_report lanes h s relay need result new l m = report_by lanes h s l relay s.plan need result new refl m
 
 -- ---- the seal
-legal_sealed : (lanes : List ℕ) (o : Option Planned) (h : History) (p : Planned) (a : Answer) → o ≡ None → LegalBy lanes o h → Right lanes p h Seal a → LegalBy lanes (Some p) (h ++ (Seal, a) ∷ [])
-legal_sealed lanes None h p a e l right = legal_push lanes p [] h Seal a (l p) right
-legal_sealed lanes (Some q) h p a e l right = absurd (cc)
+legal_sealed : (bases lanes : List ℕ) (o : Option Planned) (h : History) (p : Planned) (a : Answer) → o ≡ None → LegalBy lanes o h → Right lanes p h (Seal bases) a → LegalBy lanes (Some p) (h ++ (Seal bases, a) ∷ [])
+legal_sealed bases lanes None h p a e l right = legal_push lanes p [] h (Seal bases) a (l p) right
+legal_sealed bases lanes (Some q) h p a e l right = absurd (cc)
 
 none_read : (n i : ℕ) → get_or (replicate n Free) i Free ≡ Free
 none_read n i =
@@ -101,41 +102,41 @@ no_cells : (cells : List Cell) → length cells ≡ 0 → cells ≡ []
 no_cells [] e = refl
 no_cells (c ∷ cs) e = absurd (omega arith)
 
-module _ (lanes : List ℕ) (h : History) (s : State) (l : Leaves lanes h s) where
+module _ (lanes : List ℕ) (h : History) (s : State) (l : Leaves lanes h s) (bases : List ℕ) where
   seal_by : (o : Option Planned) (result : Result Answer AllocError) (new : State) → s.plan ≡ o →
       MatchOption o
-      (MatchResult result (λ a. (p : Planned) × IsPlanOf s.table.offers p × NoneSmaller s.table.offers p.least_max × (a ≡ Sealed p.least_max) × (new ≡ record s { plan = Some p; cells = replicate (length p.gives) Free })) (λ _. new ≡ s))
+      (MatchResult result (λ a. (p : Planned) × IsPlanOf bases s.table.offers p × NoneSmaller (base_of bases) s.table.offers p.least_max × (a ≡ Sealed p.least_max) × (new ≡ record s { plan = Some p; cells = replicate (length p.gives) Free })) (λ _. new ≡ s))
       (λ _. (result ≡ Ok (Refused why.Sealed)) × (new ≡ s)) →
-      IfOk result (λ a. Leaves lanes (h ++ (Seal, a) ∷ []) new)
+      IfOk result (λ a. Leaves lanes (h ++ (Seal bases, a) ∷ []) new)
   seal_by None (Ok a) new e m =
       let p : Planned = m.0 in
       let unsealed : is_sealed h ≡ false = l.sealed ∙ ap is_some e in
       let empty : s.cells ≡ [] = no_cells s.cells (l.long ∙ ap (λ o. length (gives_in o)) e) in
-      let made : Leaves lanes (h ++ (Seal, a) ∷ []) (record s { plan = Some p; cells = replicate (length p.gives) Free }) = record {
+      let made : Leaves lanes (h ++ (Seal bases, a) ∷ []) (record s { plan = Some p; cells = replicate (length p.gives) Free }) = record {
         same_lanes = l.same_lanes;
         table = record {
           ordered = l.table.ordered;
-          offers = λ i r. l.table.offers i r ∙ sym (wants_push h Seal a r i ∙ or_false (wants h r i));
+          offers = λ i r. l.table.offers i r ∙ sym (wants_push h (Seal bases) a r i ∙ or_false (wants h r i));
           relays = l.table.relays;
-          reported = λ r. l.table.reported r ∙ sym (reported_push h Seal a r ∙ or_false (has_reported h r));
+          reported = λ r. l.table.reported r ∙ sym (reported_push h (Seal bases) a r ∙ or_false (has_reported h r));
         };
-        sealed = sealed_push h Seal a ∙ or_right (is_sealed h) (seals a) (ap seals m.3);
-        legal = legal_sealed lanes s.plan h p a e l.legal (right_open (is_sealed h) _ _ unsealed (s.table, l.table, m.1, m.2, m.3));
+        sealed = sealed_push h (Seal bases) a ∙ or_right (is_sealed h) (seals a) (ap seals m.3);
+        legal = legal_sealed bases lanes s.plan h p a e l.legal (right_open (is_sealed h) _ _ unsealed (s.table, l.table, m.1, m.2, m.3));
         long = length-replicate (length p.gives) Free;
-        cell = λ i. none_read (length p.gives) i ∙ ap (λ cs. get_or cs i Free) (sym empty) ∙ l.cell i ∙ sym (cell_push h Seal a i);
-        place = λ id. l.place id ∙ sym (placed_push h Seal a id ∙ or_false (is_placed h id));
+        cell = λ i. none_read (length p.gives) i ∙ ap (λ cs. get_or cs i Free) (sym empty) ∙ l.cell i ∙ sym (cell_push h (Seal bases) a i);
+        place = λ id. l.place id ∙ sym (placed_push h (Seal bases) a id ∙ or_false (is_placed h id));
       } in
-      subst (Leaves lanes (h ++ (Seal, a) ∷ [])) (sym m.4) made
+      subst (Leaves lanes (h ++ (Seal bases, a) ∷ [])) (sym m.4) made
   seal_by None (Err f) new e m = tt
   seal_by (Some p) (Ok a) new e m =
       let same : a ≡ Refused why.Sealed = (let x = m.0 in cc) in
-      subst (Leaves lanes (h ++ (Seal, a) ∷ [])) (sym m.1)
-      (subst (λ b. Leaves lanes (h ++ (Seal, b) ∷ []) s) (sym same)
-      (leaves_same lanes h s Seal (Refused why.Sealed) l (λ fixed. right_sealed (is_sealed h) _ _ (l.sealed ∙ ap is_some e) refl) refl (λ r i. refl) (λ r. refl) (λ i c. refl) (λ id. refl)))
+      subst (Leaves lanes (h ++ (Seal bases, a) ∷ [])) (sym m.1)
+      (subst (λ b. Leaves lanes (h ++ (Seal bases, b) ∷ []) s) (sym same)
+      (leaves_same lanes h s (Seal bases) (Refused why.Sealed) l (λ fixed. right_sealed (is_sealed h) _ _ (l.sealed ∙ ap is_some e) refl) refl (λ r i. refl) (λ r. refl) (λ i c. refl) (λ id. refl)))
   seal_by (Some p) (Err f) new e m = tt
 
-pub leaves_seal : (lanes : List ℕ) (h : History) (s : State) (result : Result Answer AllocError) (new : State) → Leaves lanes h s → SealsTo s result new → IfOk result (λ a. Leaves lanes (h ++ (Seal, a) ∷ []) new)
-leaves_seal lanes h s result new l m = seal_by lanes h s l s.plan result new refl m
+pub leaves_seal : (lanes : List ℕ) (h : History) (s : State) (bases : List ℕ) (result : Result Answer AllocError) (new : State) → Leaves lanes h s → SealsTo s bases result new → IfOk result (λ a. Leaves lanes (h ++ (Seal bases, a) ∷ []) new)
+leaves_seal lanes h s bases result new l m = seal_by lanes h s l bases s.plan result new refl m
 
 -- ---- an insert
 pub leaves_insert : (lanes : List ℕ) (h : History) (s : State) (id : Id) (result : Result Answer AllocError) (new : State) → Leaves lanes h s → InsertsTo s id result new → IfOk result (λ a. Leaves lanes (h ++ (Insert id, a) ∷ []) new)
@@ -144,7 +145,7 @@ leaves_insert lanes h s id (Err f) new l m = tt
 
 -- the history that leaves a round is legal
 nothing : Planned
-nothing = record { gives = []; least_max = 0; group = [] }
+nothing = record { bases = []; gives = []; least_max = 0; group = [] }
 
 legal_of : (lanes : List ℕ) (o : Option Planned) (h : History) → LegalBy lanes o h → Legal lanes h
 legal_of lanes None h l = (nothing, l nothing)

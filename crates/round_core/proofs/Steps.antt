@@ -26,12 +26,12 @@ use Rattle.round_core.proofs.Histories.{cell_push, sealed_push, placed_push, wan
 -- an event that is no report and no seal
 abbrev pub IsPlain : RoundEvent → Type 0
 IsPlain (Report r need) = ⊥
-IsPlain Seal = ⊥
+IsPlain (Seal bases) = ⊥
 IsPlain e = Unit {0}
 
 plain_right : (lanes : List ℕ) (fixed : Planned) (h : History) (e : RoundEvent) (a : Answer) → IsPlain e → a ≡ answer_of (is_sealed h) lanes fixed.gives (cell_after h) (is_placed h) e → Right lanes fixed h e a
 plain_right lanes fixed h (Report r need) a plain right = absurd plain
-plain_right lanes fixed h Seal a plain right = absurd plain
+plain_right lanes fixed h (Seal bases) a plain right = absurd plain
 plain_right lanes fixed h (Claim w i) a plain right = right
 plain_right lanes fixed h (Finish w i) a plain right = right
 plain_right lanes fixed h (Miss w i) a plain right = right
@@ -41,7 +41,7 @@ plain_right lanes fixed h (Insert id) a plain right = right
 -- before the seal the gives don't count
 unsealed_same : (lanes : List ℕ) (gives other : List (Id × ℕ)) (f : ℕ → Cell) (p : Id → Bool) (e : RoundEvent) → answer_of false lanes gives f p e ≡ answer_of false lanes other f p e
 unsealed_same lanes gives other f p (Report r need) = refl
-unsealed_same lanes gives other f p Seal = refl
+unsealed_same lanes gives other f p (Seal bases) = refl
 unsealed_same lanes gives other f p (Claim w i) = refl
 unsealed_same lanes gives other f p (Finish w i) = refl
 unsealed_same lanes gives other f p (Miss w i) = refl
@@ -64,7 +64,7 @@ cond_seals false a b h g = g
 
 answer_seals : (sealed : Bool) (lanes : List ℕ) (gives : List (Id × ℕ)) (f : ℕ → Cell) (p : Id → Bool) (e : RoundEvent) → seals (answer_of sealed lanes gives f p e) ≡ false
 answer_seals sealed lanes gives f p (Report r need) = refl
-answer_seals sealed lanes gives f p Seal = refl
+answer_seals sealed lanes gives f p (Seal bases) = refl
 answer_seals sealed lanes gives f p (Claim w i) = refusal_seals (barred sealed lanes gives w i) (claim_answer (f i)) (claim_seals (f i))
 answer_seals sealed lanes gives f p (Finish w i) = refusal_seals (barred sealed lanes gives w i) _ (cond_seals (is_held_by (f i) w) _ _ (cond_seals (p (get_or gives i no_give).0) Finished (Refused why.NotPlaced) refl refl) refl)
 answer_seals sealed lanes gives f p (Miss w i) = refusal_seals (barred sealed lanes gives w i) _ (cond_seals (is_held_by (f i) w) MissedIt (Refused why.NotHeld) refl refl)
@@ -73,7 +73,7 @@ answer_seals sealed lanes gives f p (Insert id) = refl
 
 plain_wants : (r : ℕ) (i : Id) (e : RoundEvent) (a : Answer) → IsPlain e → wants_in r i e a ≡ false
 plain_wants r i (Report q need) a plain = absurd plain
-plain_wants r i Seal a plain = absurd plain
+plain_wants r i (Seal bases) a plain = absurd plain
 plain_wants r i (Claim w j) a plain = refl
 plain_wants r i (Finish w j) a plain = refl
 plain_wants r i (Miss w j) a plain = refl
@@ -82,7 +82,7 @@ plain_wants r i (Insert id) a plain = refl
 
 plain_reports : (r : ℕ) (e : RoundEvent) (a : Answer) → IsPlain e → reports r e a ≡ false
 plain_reports r (Report q need) a plain = absurd plain
-plain_reports r Seal a plain = absurd plain
+plain_reports r (Seal bases) a plain = absurd plain
 plain_reports r (Claim w j) a plain = refl
 plain_reports r (Finish w j) a plain = refl
 plain_reports r (Miss w j) a plain = refl

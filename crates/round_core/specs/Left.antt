@@ -4,6 +4,7 @@ use Rattle.std.specs.declared.alloc.AllocError.{AllocError}
 use Rattle.std.specs.List.{list_any}
 use Rattle.neg_codec.specs.declared.Id.{Id}
 use Rattle.sharing.specs.Offers.{is_id, relays_of, AreRelays}
+use Rattle.sharing.specs.Bases.{base_of}
 use Rattle.sharing.specs.Sharing.{is_among, NoneSmaller}
 use Rattle.offer_table.specs.Table.{Table, IsTable}
 use Rattle.offer_table.specs.declared.faults.OfferFault.{OfferFault}
@@ -92,12 +93,12 @@ ReportsTo old relay need result new =
     MatchOption old.plan (Adds old.table relay need new.table result × (new ≡ record old { table = new.table }))
     (λ _. (result ≡ Ok (Refused why.Sealed)) × (new ≡ old))
 
--- what the seal leaves, and its answer
-abbrev pub SealsTo : State → Result Answer AllocError → State → Type 0
-SealsTo old result new =
+-- what the seal over these bases leaves, and its answer
+abbrev pub SealsTo : State → List ℕ → Result Answer AllocError → State → Type 0
+SealsTo old bases result new =
     MatchOption old.plan
     (MatchResult result
-    (λ a. (p : Planned) × IsPlanOf old.table.offers p × NoneSmaller old.table.offers p.least_max × (a ≡ Sealed p.least_max) × (new ≡ record old { plan = Some p; cells = replicate (length p.gives) Free }))
+    (λ a. (p : Planned) × IsPlanOf bases old.table.offers p × NoneSmaller (base_of bases) old.table.offers p.least_max × (a ≡ Sealed p.least_max) × (new ≡ record old { plan = Some p; cells = replicate (length p.gives) Free }))
     (λ _. new ≡ old))
     (λ _. (result ≡ Ok (Refused why.Sealed)) × (new ≡ old))
 

@@ -3,6 +3,7 @@ use Rattle.std.specs.Prelude.{◌≡◌, ℕ, ◌+◌, ◌==◌, ◌||◌, nat_l
 use Rattle.neg_codec.specs.declared.Id.{Id}
 use Rattle.sharing.specs.declared.TheConstants.{RELAYS, MOST_IDS}
 use Rattle.sharing.specs.Sharing.{is_among, NoneSmaller}
+use Rattle.sharing.specs.Bases.{base_of}
 use Rattle.sharing.specs.Offers.{beside}
 use Rattle.offer_table.specs.Table.{Table}
 use Rattle.fetch_plan.specs.Plan.{Planned, IsPlanOf}
@@ -63,14 +64,15 @@ answer_of sealed lanes gives cell placed (Release w i) = or_refused (barred seal
 answer_of sealed lanes gives cell placed (Insert id) = Placed (not (placed id))
 answer_of sealed lanes gives cell placed e = Refused why.NotSealed
 
--- The answer is the right one after the history before it. Seal fixes one plan: a least sharing of the reports so far.
+-- The answer is the right one after the history before it. Seal fixes one plan: a least
+-- sharing of the reports so far over the bases that it names, shown by a group.
 abbrev pub Right : List ℕ → Planned → History → RoundEvent → Answer → Type 0
 Right lanes fixed before (Report r need) a =
     MatchBool (is_sealed before) (a ≡ Refused why.Sealed)
     ((table : Table) × TableOf before table × (a ≡ report_answer table r need.keys))
-Right lanes fixed before Seal a =
+Right lanes fixed before (Seal bases) a =
     MatchBool (is_sealed before) (a ≡ Refused why.Sealed)
-    ((table : Table) × TableOf before table × IsPlanOf table.offers fixed × NoneSmaller table.offers fixed.least_max × (a ≡ Sealed fixed.least_max))
+    ((table : Table) × TableOf before table × IsPlanOf bases table.offers fixed × NoneSmaller (base_of bases) table.offers fixed.least_max × (a ≡ Sealed fixed.least_max))
 Right lanes fixed before e a = a ≡ answer_of (is_sealed before) lanes fixed.gives (cell_after before) (is_placed before) e
 
 -- each answer is the right one after the history before it

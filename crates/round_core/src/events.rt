@@ -2,6 +2,7 @@
 
 use fetch_plan::Cell;
 use neg_codec::Id;
+use offer_table::Bases;
 use std::collections::BTreeSet;
 
 /// One event of a round. Lanes and cells go by their numbers.
@@ -9,8 +10,8 @@ use std::collections::BTreeSet;
 pub enum RoundEvent {
     /// What a relay offers.
     Report(u16, BTreeSet<Id>),
-    /// The plan is made of the reports so far.
-    Seal,
+    /// The plan is made of the reports so far, over these bases: what each relay's load begins with.
+    Seal(Bases),
     /// The lane asks for the cell, to fetch its id.
     Claim(u16, usize),
     /// The lane has fetched the cell's id, which was placed.

@@ -13,7 +13,7 @@ use crate::rules::{add_report, answer_at, free_cells, write_cell};
 use crate::{Answer, Refusal, RoundEvent};
 use fetch_plan::{Cell, Plan, plan};
 use neg_codec::Id;
-use offer_table::OfferTable;
+use offer_table::{Bases, OfferTable};
 use std::alloc::{AllocError, Global};
 use std::collections::BTreeSet;
 use std::marker::Model;
@@ -65,7 +65,7 @@ impl Round {
     {
         match event {
             RoundEvent::Report(relay, need) => self.report(*relay, need),
-            RoundEvent::Seal => self.seal(),
+            RoundEvent::Seal(bases) => self.seal(bases),
             RoundEvent::Insert(id) => self.insert(*id),
             _ => Ok(self.touch(event)),
         }
@@ -101,13 +101,13 @@ impl Round {
         answer
     }
 
-    fn seal(&mut self) -> Result<Answer, AllocError>
-        ensures { SealsTo self.old result self.new }
+    fn seal(&mut self, bases: &Bases) -> Result<Answer, AllocError>
+        ensures { SealsTo self.old bases.now result self.new }
     {
         if self.plan.is_some() {
             return Ok(Answer::Refused(Refusal::Sealed));
         }
-        let made = plan(self.alloc, &self.table)?;
+        let made = plan(self.alloc, &self.table, bases)?;
         let least_max = made.least_max();
         let cells = free_cells(self.alloc, made.len())?;
         self.cells = cells;

@@ -112,7 +112,7 @@ pub(crate) fn answer_at(
             None => ended(cells[*cell], *lane, Answer::Released),
         },
         RoundEvent::Insert(id) => Answer::Placed(!placed.contains(id)),
-        RoundEvent::Report(_, _) | RoundEvent::Seal => Answer::Refused(Refusal::NotSealed),
+        RoundEvent::Report(_, _) | RoundEvent::Seal(_) => Answer::Refused(Refusal::NotSealed),
     }
 }
 

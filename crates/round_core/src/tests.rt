@@ -3,6 +3,7 @@
 use crate::{Answer, Refusal, Round, RoundEvent};
 use fetch_plan::Cell;
 use neg_codec::Id;
+use offer_table::Bases;
 use std::alloc::{AllocError, Global};
 use std::collections::BTreeSet;
 use std::test::Fail;
@@ -19,7 +20,7 @@ fn one(alloc: Global, id: Id) -> Result<BTreeSet<Id>, AllocError> {
 fn answers(alloc: Global, events: [RoundEvent; 7]) -> Result<Vec<Answer>, AllocError> {
     let mut all = Vec::new(alloc);
     all.push(RoundEvent::Report(0, one(alloc, A)?))?;
-    all.push(RoundEvent::Seal)?;
+    all.push(RoundEvent::Seal(Bases::none()))?;
     for event in events {
         all.push(event)?;
     }
@@ -89,7 +90,7 @@ fn events_are_refused_in_order(rt: HostRuntime) -> Result<(), Fail> {
     let got = answers(
         rt.alloc(),
         [
-            RoundEvent::Seal,
+            RoundEvent::Seal(Bases::none()),
             RoundEvent::Claim(3, 9),
             RoundEvent::Claim(2, 9),
             RoundEvent::Claim(2, 0),
@@ -125,10 +126,13 @@ fn reports_are_refused(rt: HostRuntime) -> Result<(), Fail> {
     assert_eq!(rt; round.step(&report)?, Answer::Taken);
     assert_eq!(rt; round.step(&report)?, Answer::Refused(Refusal::Double));
     assert_eq!(rt;
-        round.step(&RoundEvent::Report(64, BTreeSet::new(alloc)))?,
+        round.step(&RoundEvent::Report(256, BTreeSet::new(alloc)))?,
         Answer::Refused(Refusal::Relay)
     );
-    assert_eq!(rt; round.step(&RoundEvent::Seal)?, Answer::Sealed(1));
+    let mut bases = Bases::none();
+    bases.set(0, 4)?;
+    bases.set(255, 3)?;
+    assert_eq!(rt; round.step(&RoundEvent::Seal(bases))?, Answer::Sealed(5));
     assert_eq!(rt; round.step(&report)?, Answer::Refused(Refusal::Sealed));
     Ok(())
 }

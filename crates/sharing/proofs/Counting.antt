@@ -5,7 +5,7 @@ use Rattle.std.proofs.lemmas.List.Sums.{sum_by-cons, sum_by-le}
 use Rattle.std.proofs.lemmas.List.Elements.{All-head, All-tail}
 use Rattle.std.proofs.lemmas.Bool.{false≢true, cases_lt, or_parts, or_left, or_right, and_from, eq-eqb}
 use Rattle.std.proofs.Math.Nat.{mul-le-mul_left, mul_comm}
-use Rattle.sharing.specs.Sharing.{is_among, IsSharing, load, alone, Shows, Distinct, ShowsFrom, NoneSmaller}
+use Rattle.sharing.specs.Sharing.{is_among, IsSharing, taken, load, alone, Shows, Distinct, IsGreatest, NoneSmaller}
 
 -- a sum of sums
 pub sum_by-add : {X : Type 0} (g h : X → ℕ) (xs : List X) → sum_by (λ x. g x + h x) xs ≡ sum_by g xs + sum_by h xs
@@ -68,17 +68,17 @@ eqb_same a b h = grind arith
 module _ {A : Type 0} where
   -- the loads of a group, with one more offer
   pub loads-cons : (f : A → ℕ) (p : A × List ℕ) (offers : List (A × List ℕ)) (group : List ℕ) →
-      sum_by (load f (p ∷ offers)) group ≡ count_by (λ r. f p.0 == r) group + sum_by (load f offers) group
+      sum_by (taken f (p ∷ offers)) group ≡ count_by (λ r. f p.0 == r) group + sum_by (taken f offers) group
   loads-cons f p offers [] = refl
   loads-cons f p offers (r ∷ rs) =
-      omega (arith, loads-cons f p offers rs, sum_by-cons (load f (p ∷ offers)) r rs, sum_by-cons (λ r. unit (f p.0 == r)) r rs, sum_by-cons (load f offers) r rs, sum_by-cons (λ q. unit (f q.0 == r)) p offers)
+      omega (arith, loads-cons f p offers rs, sum_by-cons (taken f (p ∷ offers)) r rs, sum_by-cons (λ r. unit (f p.0 == r)) r rs, sum_by-cons (taken f offers) r rs, sum_by-cons (λ q. unit (f q.0 == r)) p offers)
 
   -- a sharing takes to the group all ids that are offered there alone
-  pub alone-le-loads : (f : A → ℕ) (offers : List (A × List ℕ)) (group : List ℕ) → IsSharing f offers → alone group offers ≤ sum_by (load f offers) group
+  pub alone-le-loads : (f : A → ℕ) (offers : List (A × List ℕ)) (group : List ℕ) → IsSharing f offers → alone group offers ≤ sum_by (taken f offers) group
   alone-le-loads f [] group h = omega arith
   alone-le-loads f (p ∷ offers) group h =
       let head : is_among p.1 (f p.0) ≡ true = All-head (λ p. is_among p.1 (f p.0) ≡ true) p offers h in
-      let rest : alone group offers ≤ sum_by (load f offers) group = alone-le-loads f offers group (All-tail (λ p. is_among p.1 (f p.0) ≡ true) p offers h) in
+      let rest : alone group offers ≤ sum_by (taken f offers) group = alone-le-loads f offers group (All-tail (λ p. is_among p.1 (f p.0) ≡ true) p offers h) in
       let here : unit (list_all (is_among group) p.1) ≤ count_by (λ r. f p.0 == r) group =
       elim (true_or_false (list_all (is_among group) p.1)) [
         | inl e ↦ omega (arith, unit_of_true (list_all (is_among group) p.1) e, counted (f p.0) group (among_all (is_among group) p.1 (f p.0) eqb_same e head))
@@ -86,10 +86,10 @@ module _ {A : Type 0} where
       ] in
       omega (arith, loads-cons f p offers group, sum_by-cons (λ q. unit (list_all (is_among group) q.1)) p offers)
 
-  -- the same where loads begin at a base
-  pub alone_over_base : (base : ℕ → ℕ) (f : A → ℕ) (offers : List (A × List ℕ)) (group : List ℕ) (most : ℕ) → IsSharing f offers → ((r : ℕ) → base r + load f offers r ≤ most) → sum_by base group + alone group offers ≤ length group * most
+  -- the same with what they begin with
+  pub alone_over_base : (base : ℕ → ℕ) (f : A → ℕ) (offers : List (A × List ℕ)) (group : List ℕ) (most : ℕ) → IsSharing f offers → ((r : ℕ) → base r + taken f offers r ≤ most) → sum_by base group + alone group offers ≤ length group * most
   alone_over_base base f offers group most share each =
-      omega (arith, alone-le-loads f offers group share, sum_by-add base (load f offers) group, sum_by-le (λ r. base r + load f offers r) most group (λ k d h. each _))
+      omega (arith, alone-le-loads f offers group share, sum_by-add base (taken f offers) group, sum_by-le (λ r. base r + taken f offers r) most group (λ k d h. each _))
 
 pub least_of_group : (size held least most : ℕ) → (least - 1) * size < held → held ≤ size * most → least ≤ most
 least_of_group size held least most more fits =
@@ -126,11 +126,11 @@ all_from_among test (x ∷ xs) h =
 abbrev pub KeepsWithin : {A : Type 0} → List ℕ → (A → ℕ) → List (A × List ℕ) → Type 0
 KeepsWithin group f offers = All (λ p. is_among group (f p.0) ≡ true → (r : ℕ) → is_among p.1 r ≡ true → is_among group r ≡ true) offers
 
-pub loads-le-alone : {A : Type 0} (f : A → ℕ) (offers : List (A × List ℕ)) (group : List ℕ) → Distinct group → KeepsWithin group f offers → sum_by (load f offers) group ≤ alone group offers
+pub loads-le-alone : {A : Type 0} (f : A → ℕ) (offers : List (A × List ℕ)) (group : List ℕ) → Distinct group → KeepsWithin group f offers → sum_by (taken f offers) group ≤ alone group offers
 loads-le-alone f [] group distinct keeps = omega (arith, sum_by-zero group)
 loads-le-alone {A} f (p ∷ offers) group distinct keeps =
     let P : A × List ℕ → Type 0 = λ p. is_among group (f p.0) ≡ true → (r : ℕ) → is_among p.1 r ≡ true → is_among group r ≡ true in
-    let rest : sum_by (load f offers) group ≤ alone group offers = loads-le-alone f offers group distinct (All-tail P p offers keeps) in
+    let rest : sum_by (taken f offers) group ≤ alone group offers = loads-le-alone f offers group distinct (All-tail P p offers keeps) in
     let here : count_by (λ r. f p.0 == r) group ≤ unit (list_all (is_among group) p.1) =
     elim (true_or_false (is_among group (f p.0))) [
       | inl e ↦ omega (arith, count_distinct (f p.0) group distinct, unit_of_true (list_all (is_among group) p.1) (all_from_among (is_among group) p.1 (All-head P p offers keeps e)))
@@ -158,33 +158,31 @@ some_among : (group : List ℕ) (r : ℕ) → is_among group r ≡ true → 0 < 
 some_among [] r h = absurd (false≢true h)
 some_among (x ∷ xs) r h = omega arith
 
--- a group that moves do not leave, whose relays have almost as many as the busiest one in it, shows that number
-pub shows_from_closed : {A : Type 0} (f : A → ℕ) (offers : List (A × List ℕ)) (group : List ℕ) (most one : ℕ) → Distinct group → KeepsWithin group f offers →
-    ((r : ℕ) → is_among group r ≡ true → most ≤ load f offers r + 1) → 0 < most → is_among group one ≡ true → load f offers one ≡ most → Shows group offers most
-shows_from_closed f offers group most one distinct keeps high some m e =
-    inr (
-      some_among group one m,
-      omega (arith, loads-le-alone f offers group distinct keeps, sum_over (load f offers) (most - 1) group one (λ r m. omega (arith, high r m)) m (omega (arith, e))),
-    )
-
--- and with bases
-pub shows_over_bases : {A : Type 0} (base : ℕ → ℕ) (f : A → ℕ) (offers : List (A × List ℕ)) (group : List ℕ) (most one : ℕ) → Distinct group → KeepsWithin group f offers →
-    ((r : ℕ) → is_among group r ≡ true → most ≤ base r + load f offers r + 1) → 0 < most → is_among group one ≡ true → base one + load f offers one ≡ most → ShowsFrom base group offers most
-shows_over_bases base f offers group most one distinct keeps high some m e =
+-- a group that moves do not leave, whose relays have almost as much as the busiest one in it, shows that number
+pub shows_from_closed : {A : Type 0} (base : ℕ → ℕ) (f : A → ℕ) (offers : List (A × List ℕ)) (group : List ℕ) (most one : ℕ) → Distinct group → KeepsWithin group f offers →
+    ((r : ℕ) → is_among group r ≡ true → most ≤ load base f offers r + 1) → 0 < most → is_among group one ≡ true → load base f offers one ≡ most → Shows base group offers most
+shows_from_closed base f offers group most one distinct keeps high some m e =
     inr (
       some_among group one m,
       omega (
         arith,
         loads-le-alone f offers group distinct keeps,
-        sum_by-add base (load f offers) group,
-        sum_over (λ r. base r + load f offers r) (most - 1) group one (λ r m. omega (arith, high r m)) m (omega (arith, e)),
+        sum_by-add base (taken f offers) group,
+        sum_over (load base f offers) (most - 1) group one (λ r m. omega (arith, high r m)) m (omega (arith, e)),
       ),
     )
 
 -- no sharing has a busiest load below what a group shows
-pub none_smaller : {A : Type 0} (offers : List (A × List ℕ)) (group : List ℕ) (least : ℕ) → Shows group offers least → NoneSmaller offers least
-none_smaller offers group least shows g most share greatest =
+pub none_smaller : {A : Type 0} (base : ℕ → ℕ) (offers : List (A × List ℕ)) (group : List ℕ) (least : ℕ) → Shows base group offers least → NoneSmaller base offers least
+none_smaller base offers group least shows g most share greatest =
     elim shows [
       | inl none ↦ omega arith
-      | inr more ↦ least_of_group (length group) (alone group offers) least most more.1 (omega (arith, alone_over_base (λ _. 0) g offers group most share (λ r. omega (arith, greatest.0 r)), sum_by-zero group))
+      | inr more ↦ least_of_group (length group) (sum_by base group + alone group offers) least most more.1 (alone_over_base base g offers group most share greatest.0)
     ]
+
+pub no_base : (base : ℕ → ℕ) (group : List ℕ) → ((r : ℕ) → base r ≡ 0) → sum_by base group ≡ 0
+no_base base [] none = refl
+no_base base (x ∷ xs) none = omega (arith, no_base base xs none, sum_by-cons base x xs, none x)
+
+pub same_greatest : (loads others : ℕ → ℕ) (most : ℕ) → ((r : ℕ) → loads r ≡ others r) → IsGreatest loads most → IsGreatest others most
+same_greatest loads others most same greatest = (λ r. omega (arith, same r, greatest.0 r), (greatest.1.0, omega (arith, same greatest.1.0, greatest.1.1)))

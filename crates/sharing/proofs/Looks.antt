@@ -1,5 +1,5 @@
 -- What stands beside an id, in pairs whose ids are in order.
-use Rattle.std.proofs.Common.{◌≡◌, ℕ, ◌==◌, true, cond, List, [], ◌∷◌, map, Some, get_or, refl, sym, ap, ◌∙◌, subst, arith, inl, inr}
+use Rattle.std.proofs.Common.{◌≡◌, ℕ, ◌+◌, ◌==◌, true, cond, List, [], ◌∷◌, map, Some, get_or, refl, sym, ap, ◌∙◌, subst, arith, inl, inr}
 use Rattle.std.specs.Prelude.{unwrap_or, count_by}
 use Rattle.std.specs.declared.cmp.Ordering.TheVariants.{Less}
 use Rattle.std.specs.List.{All}
@@ -7,7 +7,7 @@ use Rattle.std.proofs.lemmas.Bool.{false≢true, or_cases, eqb-true}
 use Rattle.std.proofs.lemmas.List.Elements.{All-head, All-tail, All-cons, All-nil}
 use Rattle.std.proofs.lemmas.List.Sums.{sum_by-cons}
 use Rattle.neg_codec.specs.declared.Id.{Id}
-use Rattle.sharing.specs.Sharing.{is_among, load}
+use Rattle.sharing.specs.Sharing.{is_among, load, taken}
 use Rattle.sharing.specs.Offers.{id_cmp, Ascend, beside, relay_in}
 use Rattle.sharing.proofs.Orders.{id_itself, id_apart, head_sorted, tail_sorted, All-unmap}
 
@@ -55,18 +55,21 @@ module _ {X : Type 0} where
 pub gives_agree : (gives : List (Id × ℕ)) → Ascend (map (λ p. p.0) gives) → All (λ g. relay_in gives g.0 ≡ g.1) gives
 gives_agree gives h k d lt = let found : All (λ p. beside gives p.0 ≡ Some p.1) gives = found_itself gives h in ap (λ o. unwrap_or o 0) (found k d lt)
 
--- where the gives are of the offers' ids, a relay's load is the number of gives to it
-pub load_by_gives : (f : Id → ℕ) (offers : List (Id × List ℕ)) (gives : List (Id × ℕ)) (r : ℕ) → map (λ p. p.0) offers ≡ map (λ p. p.0) gives → All (λ g. f g.0 ≡ g.1) gives → load f offers r ≡ count_by (λ g. g.1 == r) gives
-load_by_gives f [] [] r same agrees = refl
-load_by_gives f [] (g ∷ gs) r same agrees = absurd (cc)
-load_by_gives f (o ∷ os) [] r same agrees = absurd (cc)
-load_by_gives f (o ∷ os) (g ∷ gs) r same agrees =
+-- where the gives are of the offers' ids, a relay has as many ids as gives
+pub taken_by_gives : (f : Id → ℕ) (offers : List (Id × List ℕ)) (gives : List (Id × ℕ)) (r : ℕ) → map (λ p. p.0) offers ≡ map (λ p. p.0) gives → All (λ g. f g.0 ≡ g.1) gives → taken f offers r ≡ count_by (λ g. g.1 == r) gives
+taken_by_gives f [] [] r same agrees = refl
+taken_by_gives f [] (g ∷ gs) r same agrees = absurd (cc)
+taken_by_gives f (o ∷ os) [] r same agrees = absurd (cc)
+taken_by_gives f (o ∷ os) (g ∷ gs) r same agrees =
     let head : o.0 ≡ g.0 = cc in
     let tail : map (λ p. p.0) os ≡ map (λ p. p.0) gs = cc in
     omega (
       arith,
-      load_by_gives f os gs r tail (All-tail (λ (g : Id × ℕ). f g.0 ≡ g.1) g gs agrees),
+      taken_by_gives f os gs r tail (All-tail (λ (g : Id × ℕ). f g.0 ≡ g.1) g gs agrees),
       sum_by-cons (λ (p : Id × List ℕ). cond (f p.0 == r) 1 0) o os,
       sum_by-cons (λ (p : Id × ℕ). cond (p.1 == r) 1 0) g gs,
       ap {B = ℕ} (λ x. cond (x == r) 1 0) (ap f head ∙ All-head (λ (g : Id × ℕ). f g.0 ≡ g.1) g gs agrees),
     )
+
+pub load_by_gives : (base : ℕ → ℕ) (f : Id → ℕ) (offers : List (Id × List ℕ)) (gives : List (Id × ℕ)) (r : ℕ) → map (λ p. p.0) offers ≡ map (λ p. p.0) gives → All (λ g. f g.0 ≡ g.1) gives → load base f offers r ≡ base r + count_by (λ g. g.1 == r) gives
+load_by_gives base f offers gives r same agrees = ap (λ n. base r + n) (taken_by_gives f offers gives r same agrees)

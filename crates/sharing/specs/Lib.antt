@@ -1,3 +1,4 @@
 pub mod Sharing
+pub mod Bases
 pub mod Reached
 pub mod Offers

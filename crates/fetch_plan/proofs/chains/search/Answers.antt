@@ -1,35 +1,28 @@
-use Rattle.std.proofs.Common.{◌<◌, ◌≤◌, ◌+◌, ◌*◌, ℕ, List, arith, sym, get_or, length, subst}
-use Rattle.std.specs.List.{All}
-use Rattle.std.proofs.lemmas.List.Elements.{All-from_get_or}
-use Rattle.sharing.specs.declared.TheConstants.{RELAYS}
-use Rattle.fetch_plan.specs.declared.chains.Step.{Step}
-use Rattle.fetch_plan.specs.Trail.{relay_at, no_step}
-use Rattle.fetch_plan.proofs.Trails.{searching_step, extends_refl, all_closed}
+use Rattle.std.proofs.Common.{◌≡◌, ◌<◌, ◌≤◌, ◌+◌, ℕ, true, arith, ap, get_or, set, length}
+use Rattle.std.specs.List.{count_by}
+use Rattle.std.specs.Prelude.{not}
+use Rattle.fetch_plan.proofs.Readers.{count_done}
+use Rattle.fetch_plan.proofs.Reached.{searching_none, searching_step, reach_later, is_closed}
 use Rattle.fetch_plan.proofs.chains.search.Goals as goal
-use Rattle.fetch_plan.proofs.chains.search.Goals.{then-len-lt-SLOTS+in_ok-add_from, else-len-lt-SLOTS}
 
-pub low_step-requires-clause-small : goal.low_step-requires-clause-small
-unfolding relay_at
-low_step-requires-clause-small c =
-    subst (All (λ (s : Step). s.relay < RELAYS)) (sym c.deref.ensures.value) (All-from_get_or (λ (s : Step). s.relay < RELAYS) c.loop-next.steps.items no_step c.loop-next.invariant.trail.small)
+pub turns-init : goal.turns-init
+turns-init c = searching_none _ _ _ _ _ _ c.requires.reach
 
-pub returns-in-Some-clause-low : goal.returns-in-Some-clause-low
-returns-in-Some-clause-low c = rw (← c.deref.ensures.value) c.in-Some.ensures.low
+pub turns-smaller : goal.turns-smaller
+turns-smaller c =
+    let inv = c.turns.invariant in
+    let n = c.in-Some.ensures.next in
+    omega (arith, inv.counted, count_done c.turns.done c.in-Some.relay (omega (arith, n.0, inv.wide)) n.2)
 
-pub loop-next-preserved : goal.loop-next-preserved
-loop-next-preserved c =
-    let inv = c.loop-next.invariant in
-    let next : ℕ = c.loop-next.next in
-    let lt : next < length c.loop-next.steps.items = omega arith in
-    let high : c.args.most < get_or c.args.loads.now (relay_at c.loop-next.steps.items next) 0 + 2 * c.args.level.now.some =
-    subst (λ (steps : List Step). c.args.most < get_or c.args.loads.now (relay_at steps next) 0 + 2 * c.args.level.now.some) c.deref.ensures.value (c.in_default.ensures.high next (subst (λ (steps : List Step). next < length steps) (sym c.deref.ensures.value) lt)) in
-    elim c.if-len-lt-SLOTS.branch [
-      | then-len-lt-SLOTS+in_ok-add_from w ↦
-          (let said = w.in_ok-add_from.ensures in
-          rw (w.steps-is, w.marked-is) (searching_step _ _ _ _ _ _ _ _ _ _ next inv lt high said.trail said.marks said.extends said.stay said.closed))
-      | else-len-lt-SLOTS w ↦
-          (let all : RELAYS ≤ length c.loop-next.steps.items = omega (arith, w.if-len-lt-SLOTS.false) in
-          rw (w.steps-is, w.marked-is)
-          (searching_step _ _ _ _ _ _ _ _ _ _ next inv lt high inv.trail inv.marks (extends_refl _) (λ r m. m)
-          (all_closed _ c.args.groups.now (length c.args.groups.now) _ c.loop-next.steps.items _ c.requires.given.groups_ok (omega arith) inv.marks all)))
-    ]
+pub turns-preserved : goal.turns-preserved
+turns-preserved c =
+    let inv = c.turns.invariant in
+    let n = c.in-Some.ensures.next in
+    let lt : c.in-Some.relay < length c.turns.done = omega (arith, n.0, inv.wide) in
+    let high : c.args.most ≤ get_or c.args.loads.now c.in-Some.relay 0 + 1 = omega (arith, c.if-most-loads-gt1.false, ap (λ r. get_or c.args.loads.now r 0) c.from-slot.ensures) in
+    rw c.from-slot.ensures
+    (searching_step _ _ _ _ _ _ _ _ _ _ _ c.in-Some.relay inv lt n.2 (count_done c.turns.done c.in-Some.relay lt n.2) high
+    (c.reach_from.ensures.reach c.args.loads.now c.args.most (reach_later _ _ _ _ _ _ _ inv.reach)) c.reach_from.ensures.stay c.reach_from.ensures.closed)
+
+pub returns-clause-closed : goal.returns-clause-closed
+returns-clause-closed c = is_closed _ _ _ _ _ _ _ _ c.turns.invariant c.in_default.ensures.none

@@ -1,10 +1,10 @@
 use Rattle.std.proofs.Common.{◌-◌}
 use Rattle.sharing.specs.declared.TheConstants.{RELAYS}
-use Rattle.fetch_plan.proofs.Trails.{Searching}
+use Rattle.fetch_plan.proofs.Reached.{Searching}
 use Rattle.fetch_plan.proofs.chains.search.Given as goal
 
-abbrev pub invariant-loop-next : goal.invariant-loop-next
-invariant-loop-next l = Searching l.level.some l.groups l.loads l.most l.initial.steps.items l.initial.marked l.steps.items l.marked l.next
+abbrev pub invariant-turns : goal.invariant-turns
+invariant-turns l = Searching l.beyond l.loads l.most l.reached l.froms l.turns l.done l.turn
 
-abbrev pub decreases-loop-next : goal.decreases-loop-next
-decreases-loop-next l = RELAYS - l.next
+abbrev pub decreases-turns : goal.decreases-turns
+decreases-turns l = RELAYS - l.turn

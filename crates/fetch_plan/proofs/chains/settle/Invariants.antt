@@ -1,12 +1,12 @@
-use Rattle.fetch_plan.specs.Groups.{AreLoadsOf, AreGiven, AreSame}
+use Rattle.fetch_plan.specs.Takers.{AreOffered, KeepPace}
+use Rattle.fetch_plan.specs.Chains.{squares}
 use Rattle.fetch_plan.proofs.chains.settle.Given as goal
 
-abbrev pub invariant-loop-some : goal.invariant-loop-some
-invariant-loop-some l = record {
-  loads : AreLoadsOf l.groups l.loads;
-  given : AreGiven l.groups;
-  same : AreSame l.initial.groups l.groups;
+abbrev pub invariant-chains : goal.invariant-chains
+invariant-chains l = record {
+  offered : AreOffered l.offers l.takers;
+  loads : KeepPace l.initial.takers l.initial.loads l.takers l.loads;
 }
 
-abbrev pub decreases-loop-some : goal.decreases-loop-some
-decreases-loop-some l = l.some
+abbrev pub decreases-chains : goal.decreases-chains
+decreases-chains l = squares l.loads

@@ -1,38 +1,20 @@
-use Rattle.std.proofs.Common.{◌+◌, ◌<◌, ℕ, true, false, Some, None, sym, ap, ◌∙◌, refl, length, arith, Vec, Global}
-use Rattle.plan_check.specs.Lines.{first_out, rises}
-use Rattle.plan_check.proofs.Files.{none_left, misplaced_is}
+use Rattle.std.proofs.Common.{◌≡◌, ◌||◌, not, true, ℕ, None, Vec, Global, length, ap, sym, ◌∙◌, arith}
+use Rattle.std.specs.Prelude.{nat_lt}
+use Rattle.std.specs.Ordering.{nat_cmp}
+use Rattle.sharing.specs.declared.TheConstants.{RELAYS}
+use Rattle.sharing.specs.Offers.{id_cmp}
+use Rattle.plan_check.specs.Lines.{first_at, first_out, first_place, is_base, is_empty, are_relays, rises}
+use Rattle.plan_check.proofs.Files.{misplaced_is, place_same}
 use Rattle.plan_check.proofs.file.misplaced.Goals as goal
 
-pub returns-in-Some : goal.returns-in-Some
-returns-in-Some c =
-    misplaced_is (λ (v : Vec ℕ Global). v.items) c.args.offers.now.items c.args.gives.now.items c.args.group.now.items (Some c.in-Some.place) _ _
-    (sym c.in-Some.is ∙ c.requires) refl refl
-
-pub overflow_add-result : goal.overflow_add-result
-overflow_add-result c =
-    let lt = rw c.in-Some-misplaced_give.is at c.misplaced_give.ensures.within in
-    let within : c.in-Some-misplaced_give.place < length c.args.gives.now.items = omega (arith, lt, ap length c.deref.ensures.value) in
-    omega (arith, within, c.len.ensures, c.args.offers.now.ok, c.args.offers.now.small, c.args.gives.now.ok, c.args.gives.now.small)
-
-pub returns-in-Some-misplaced_give : goal.returns-in-Some-misplaced_give
-returns-in-Some-misplaced_give c =
-    ap (λ n. Some (n + c.in-Some-misplaced_give.place)) (c.len.ensures ∙ c.args.offers.now.ok.0)
-    ∙ misplaced_is (λ (v : Vec ℕ Global). v.items) c.args.offers.now.items c.args.gives.now.items c.args.group.now.items None (Some c.in-Some-misplaced_give.place) _
-    (sym (none_left c.args.first c.in_default.not-Some) ∙ c.requires)
-    (sym c.in-Some-misplaced_give.is ∙ c.misplaced_give.ensures.place ∙ ap (first_out (λ g. g.0) (λ _. true) None 0) c.deref.ensures.value) refl
-
-pub returns-then-do_rise : goal.returns-then-do_rise
-returns-then-do_rise c =
-    misplaced_is (λ (v : Vec ℕ Global). v.items) c.args.offers.now.items c.args.gives.now.items c.args.group.now.items None None true
-    (sym (none_left c.args.first c.in_default.not-Some) ∙ c.requires)
-    (sym (none_left c.misplaced_give.result c.in_default-misplaced_give.not-Some) ∙ c.misplaced_give.ensures.place ∙ ap (first_out (λ g. g.0) (λ _. true) None 0) c.deref.ensures.value)
-    (sym c.if-do_rise.true ∙ c.do_rise.ensures ∙ ap rises c.deref-2.ensures.value)
-
-pub returns-else-do_rise : goal.returns-else-do_rise
-returns-else-do_rise c =
-    ap (λ n. Some (n + c.len-else-do_rise-2.result)) (c.len-else-do_rise.ensures ∙ c.args.offers.now.ok.0)
-    ∙ ap (λ n. Some (length c.args.offers.now.items + n)) (c.len-else-do_rise-2.ensures ∙ c.args.gives.now.ok.0)
-    ∙ misplaced_is (λ (v : Vec ℕ Global). v.items) c.args.offers.now.items c.args.gives.now.items c.args.group.now.items None None false
-    (sym (none_left c.args.first c.in_default.not-Some) ∙ c.requires)
-    (sym (none_left c.misplaced_give.result c.in_default-misplaced_give.not-Some) ∙ c.misplaced_give.ensures.place ∙ ap (first_out (λ g. g.0) (λ _. true) None 0) c.deref.ensures.value)
-    (sym c.if-do_rise.false ∙ c.do_rise.ensures ∙ ap rises c.deref-2.ensures.value)
+pub returns : goal.returns
+returns c =
+    let bs = c.args.bases.now in
+    let os = c.args.offers.now in
+    let gs = c.args.gives.now in
+    let b = c.misplaced_base.ensures ∙ ap (first_out nat_cmp (λ b. b.0) (λ _. true) None 0) c.deref.ensures.value in
+    let o = c.misplaced_offer.ensures.place ∙ ap (first_out id_cmp (λ o. o.0) (λ o. rises o.1.items) None 0) c.deref-2.ensures.value in
+    let g = c.misplaced_give.ensures.place ∙ ap (first_out id_cmp (λ g. g.0) (λ _. true) None 0) c.deref-3.ensures.value in
+    let r = c.do_rise.ensures ∙ ap rises c.deref-4.ensures.value in
+    c.first_place.ensures ∙ place_same (c.len.ensures ∙ bs.ok.0) (c.len-2.ensures ∙ os.ok.0) (c.len-3.ensures ∙ gs.ok.0) b o g r
+    ∙ misplaced_is (λ (v : Vec ℕ Global). v.items) bs.items os.items gs.items c.args.group.now.items

@@ -3,20 +3,14 @@ use Rattle.std.proofs.lemmas.List.Elements.{All-push}
 use Rattle.neg_codec.specs.declared.Id.{Id}
 use Rattle.plan_check.specs.TextLines.{ended}
 use Rattle.plan_check.specs.PlanText.{give_line, IsGive}
-use Rattle.plan_check.proofs.KindLemmas.{no_give, other_give, more_lines}
+use Rattle.plan_check.proofs.KindLemmas.{more_lines}
 use Rattle.plan_check.proofs.reading.take_gives.Goals as goal
-
-pub returns-in_default-parse_give-clause-all : goal.returns-in_default-parse_give-clause-all
-returns-in_default-parse_give-clause-all c = other_give c.in-Some.line.now _ _ c.in-Some.ensures.lines c.in_default-parse_give.ensures.none
-
-pub returns-clause-all : goal.returns-clause-all
-returns-clause-all c = no_give _ c.in_default.ensures.none
 
 pub loop-line-preserved : goal.loop-line-preserved
 loop-line-preserved c =
     let gives = c.loop-line.gives.items in
     let give = c.in-Some-parse_give.give in
-    let line = λ (g : Id × ℕ). ended (give_line g) in
+    let line = λ (x : Id × ℕ). ended (give_line x) in
     let pushed : c.push.new.self.items ≡ gives ++ give ∷ [] = c.in_ok-push.ensures.items in
     record {
       lines = rw pushed (more_lines line gives give c.in-Some.line.now _ _ _ c.loop-line.invariant.lines c.in-Some.ensures.lines (ap ended (sym c.in-Some-parse_give.ensures.found)));

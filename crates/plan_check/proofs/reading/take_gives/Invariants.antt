@@ -5,7 +5,7 @@ use Rattle.plan_check.proofs.reading.take_gives.Given as goal
 
 abbrev pub invariant-loop-line : goal.invariant-loop-line
 invariant-loop-line l = record {
-  lines : lines_of l.text ≡ map (λ g. ended (give_line g)) l.gives.items ++ lines_of l.rest;
+  lines : lines_of l.text ≡ map (λ x. ended (give_line x)) l.gives.items ++ lines_of l.rest;
   gives : All IsGive l.gives.items;
 }
 

@@ -1,4 +1,4 @@
-use Rattle.std.proofs.Common.{◌≡◌, ◌++◌, ◌∷◌, [], ℕ, List, sym, ap, ◌∙◌, None}
+use Rattle.std.proofs.Common.{◌≡◌, ◌++◌, ◌∷◌, [], ℕ, List, sym, ap, ◌∙◌}
 use Rattle.std.specs.Global.{Vec}
 use Rattle.std.proofs.lemmas.List.{map-append}
 use Rattle.std.proofs.lemmas.List.Elements.{All-push}
@@ -6,18 +6,8 @@ use Rattle.neg_codec.specs.declared.Id.{Id}
 use Rattle.plan_check.specs.File.{pairs_of}
 use Rattle.plan_check.specs.TextLines.{ended}
 use Rattle.plan_check.specs.PlanText.{offer_line, IsOffer}
-use Rattle.plan_check.proofs.Files.{none_left}
-use Rattle.plan_check.proofs.KindLemmas.{no_offer, other_offer, more_lines}
+use Rattle.plan_check.proofs.KindLemmas.{more_lines}
 use Rattle.plan_check.proofs.reading.take_offers.Goals as goal
-
-pub returns-in_default-2-clause-all : goal.returns-in_default-2-clause-all
-returns-in_default-2-clause-all c =
-    let is : c.in_ok-offer.field-0 ≡ None = none_left c.in_ok-offer.field-0 c.in_default-2.not-Some in
-    let none = rw is at c.in_ok-offer.ensures.none in
-    other_offer c.in-Some.line.now _ _ c.in-Some.ensures.lines none
-
-pub returns-clause-all : goal.returns-clause-all
-returns-clause-all c = no_offer _ c.in_default.ensures.none
 
 pub loop-line-preserved : goal.loop-line-preserved
 loop-line-preserved c =

@@ -3,7 +3,7 @@ use Rattle.std.proofs.lemmas.Bool.Decides.{nat_tests}
 use Rattle.hex.specs.Hex.{encode_lower}
 use Rattle.plan_check.specs.PlanText.{relays_text}
 use Rattle.plan_check.proofs.IdLemmas.{after_id}
-use Rattle.plan_check.proofs.RelayLemmas.{some_text}
+use Rattle.plan_check.proofs.NumberLemmas.{some_text}
 use Rattle.plan_check.proofs.records.cut_offer.Goals as goal
 
 pub returns-then-is_empty-clause-none : goal.returns-then-is_empty-clause-none

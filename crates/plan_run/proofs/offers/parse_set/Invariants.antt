@@ -2,7 +2,6 @@ use Rattle.std.proofs.Common.{◌≡◌, ◌<◌, ◌≤◌, ◌++◌, length, A
 use Rattle.sharing.specs.declared.TheConstants.{RELAYS}
 use Rattle.sharing.specs.Offers.{AreRelays}
 use Rattle.plan_check.specs.PlanText.{relays_text}
-use Rattle.plan_run.proofs.NextOffers.{TellsFrom}
 use Rattle.plan_run.proofs.offers.parse_set.Given as goal
 
 abbrev pub invariant-loop-relay : goal.invariant-loop-relay
@@ -11,7 +10,6 @@ invariant-loop-relay l = record {
   ordered : AreRelays l.relays;
   below : All (λ r. r < l.next) l.relays;
   small : l.next ≤ RELAYS;
-  whole : TellsFrom 0 l.text → TellsFrom l.next l.rest;
 }
 
 abbrev pub decreases-loop-relay : goal.decreases-loop-relay

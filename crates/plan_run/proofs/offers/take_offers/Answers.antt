@@ -1,17 +1,13 @@
-use Rattle.std.proofs.Common.{◌≡◌, ◌++◌, ◌∷◌, [], ℕ, List, true, map, sym, ap, subst, ◌∙◌}
+use Rattle.std.proofs.Common.{◌≡◌, ◌++◌, ◌∷◌, [], ℕ, List, map, sym, ap, subst, ◌∙◌}
 use Rattle.std.specs.List.{All}
-use Rattle.std.proofs.lemmas.Bool.{false≢true}
 use Rattle.std.proofs.lemmas.List.Elements.{All-nil, All-push}
 use Rattle.neg_codec.specs.declared.Id.{Id}
 use Rattle.sharing.specs.Offers.{IsOffers, Ascend}
-use Rattle.plan_check.specs.TextLines.{lines_of, ended, IsEnded}
-use Rattle.plan_check.specs.PlanText.{offer_line, IsOffer}
+use Rattle.plan_check.specs.TextLines.{lines_of, ended}
+use Rattle.plan_check.specs.PlanText.{IsOffer}
 use Rattle.plan_check.proofs.FormLemmas.{offered}
-use Rattle.plan_check.proofs.KindLemmas.{more_lines, first_weaker}
-use Rattle.plan_check.proofs.OneText.{same_offer}
+use Rattle.plan_check.proofs.KindLemmas.{more_lines}
 use Rattle.plan_run.proofs.Fronts.{no_offers, offers_push}
-use Rattle.plan_run.specs.Planned.{IsNextOffer}
-use Rattle.plan_run.proofs.NextOffers.{other_next}
 use Rattle.plan_run.proofs.offers.take_offers.Goals as goal
 
 pub loop-line-init : goal.loop-line-init
@@ -34,23 +30,5 @@ loop-line-preserved c =
     record {
       lines = rw pushed (more_lines offered offers offer c.in-Some.line.now _ _ _ h.lines c.in-Some.ensures.lines (ap ended (sym told.found)));
       form = rw pushed (All-push IsOffer offers offer h.form told.offer);
-      ordered = rw pushed (offers_push offers offer h.ordered (subst (λ os. Ascend (map (λ (o : Id × List ℕ). o.0) os ++ offer.0 ∷ [])) c.deref.ensures.value (c.comes_behind.ensures.0 c.if-not-comes_behind.false)) told.relays told.offer.some);
+      ordered = rw pushed (offers_push offers offer h.ordered (subst (λ os. Ascend (map (λ (o : Id × List ℕ). o.0) os ++ offer.0 ∷ [])) c.deref.ensures.value (c.comes_behind.ensures c.if-not-comes_behind.false)) told.relays told.offer.some);
     }
-
-pub returns-in_default-parse_offer-clause-all : goal.returns-in_default-parse_offer-clause-all
-returns-in_default-parse_offer-clause-all c =
-    other_next c.loop-line.offers.items c.in-Some.line.now _ _ c.in-Some.ensures.lines (λ o is relays ascend. c.in_default-parse_offer.ensures.none o is relays)
-
-pub returns-then-not-comes_behind-clause-all : goal.returns-then-not-comes_behind-clause-all
-returns-then-not-comes_behind-clause-all c =
-    let offers : List (Id × List ℕ) = c.loop-line.offers.items in
-    let offer : Id × List ℕ = c.in-Some-parse_offer.offer in
-    let told = c.in-Some-parse_offer.ensures in
-    other_next offers c.in-Some.line.now _ _ c.in-Some.ensures.lines (λ o is relays ascend same.
-    let one : o ≡ offer = same_offer o offer is told.offer (ap ended (sym same ∙ told.found)) in
-    let next : Ascend (map (λ (o : Id × List ℕ). o.0) offers ++ offer.0 ∷ []) = subst (λ (p : Id × List ℕ). Ascend (map (λ (o : Id × List ℕ). o.0) offers ++ p.0 ∷ [])) one ascend in
-    let behind : c.comes_behind.result ≡ true = c.comes_behind.ensures.1 (subst (λ os. Ascend (map (λ (o : Id × List ℕ). o.0) os ++ offer.0 ∷ [])) (sym c.deref.ensures.value) next) in
-    false≢true (sym c.if-not-comes_behind.true ∙ behind))
-
-pub returns-clause-all : goal.returns-clause-all
-returns-clause-all c = first_weaker IsEnded (IsNextOffer c.loop-line.offers.items) (λ l h. (offer_line h.0, h.4)) _ c.in_default.ensures.none

@@ -3,20 +3,15 @@ use Rattle.std.specs.Prelude.{slice_get}
 use Rattle.sharing.specs.Offers.{IsOffers}
 use Rattle.offer_table.specs.Table.{Table}
 use Rattle.offer_table.specs.Groups.{groups_of}
-use Rattle.offer_table.proofs.RowEdits.{Rows}
-use Rattle.offer_table.proofs.Grouped.{rows_are_groups}
+use Rattle.offer_table.proofs.Rows.{Rows}
 use Rattle.offer_table.proofs.Partition.{are_groups}
 use Rattle.offer_table.proofs.table.OfferTable.group_at.Goals as goal
 
 pub at-requires : goal.at-requires
-at-requires c =
-    let are : c.self.inside.groups ≡ groups_of c.self.inside.offers = rows_are_groups c.self.inside.offers c.self.inside.groups c.self.invariant.table.offers_ok.relays c.self.invariant.rows c.self.invariant.grouped in
-    subst (λ (n : ℕ). c.args.k < n) (sym (ap length are ∙ ap (λ (t : Table). length (groups_of t.offers)) c.self.view_is)) c.requires
+at-requires c = subst (λ (n : ℕ). c.args.k < n) (sym (ap (λ (g : Rows). length g) c.self.invariant.groups ∙ ap (λ (t : Table). length (groups_of t.offers)) c.self.view_is)) c.requires
 
 pub returns-clause-value : goal.returns-clause-value
-returns-clause-value c =
-    let are : c.self.inside.groups ≡ groups_of c.self.inside.offers = rows_are_groups c.self.inside.offers c.self.inside.groups c.self.invariant.table.offers_ok.relays c.self.invariant.rows c.self.invariant.grouped in
-    sym (ap (λ (g : Rows). slice_get g c.args.k) are ∙ ap (λ (t : Table). slice_get (groups_of t.offers) c.args.k) c.self.view_is) ∙ c.at.ensures.value
+returns-clause-value c = sym (ap (λ (g : Rows). slice_get g c.args.k) c.self.invariant.groups ∙ ap (λ (t : Table). slice_get (groups_of t.offers) c.args.k) c.self.view_is) ∙ c.at.ensures
 
 pub returns-clause-groups : goal.returns-clause-groups
 returns-clause-groups c = are_groups c.args.self.now.offers (subst (λ (t : Table). IsOffers t.offers) c.self.view_is c.self.invariant.table.offers_ok)

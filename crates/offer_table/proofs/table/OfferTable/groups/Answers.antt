@@ -1,15 +1,13 @@
 use Rattle.std.proofs.Common.{◌≡◌, length, ap, ◌∙◌, subst}
+use Rattle.sharing.specs.Offers.{IsOffers}
 use Rattle.offer_table.specs.Table.{Table}
 use Rattle.offer_table.specs.Groups.{groups_of}
-use Rattle.sharing.specs.Offers.{IsOffers}
-use Rattle.offer_table.proofs.Grouped.{rows_are_groups}
+use Rattle.offer_table.proofs.Rows.{Rows}
 use Rattle.offer_table.proofs.Partition.{are_groups}
 use Rattle.offer_table.proofs.table.OfferTable.groups.Goals as goal
 
 pub returns-clause-count : goal.returns-clause-count
-returns-clause-count c =
-    let are : c.self.inside.groups ≡ groups_of c.self.inside.offers = rows_are_groups c.self.inside.offers c.self.inside.groups c.self.invariant.table.offers_ok.relays c.self.invariant.rows c.self.invariant.grouped in
-    c.len.ensures.count ∙ ap length are ∙ ap (λ (t : Table). length (groups_of t.offers)) c.self.view_is
+returns-clause-count c = c.len.ensures ∙ ap (λ (g : Rows). length g) c.self.invariant.groups ∙ ap (λ (t : Table). length (groups_of t.offers)) c.self.view_is
 
 pub returns-clause-groups : goal.returns-clause-groups
 returns-clause-groups c = are_groups c.args.self.now.offers (subst (λ (t : Table). IsOffers t.offers) c.self.view_is c.self.invariant.table.offers_ok)

@@ -7,16 +7,16 @@ use Rattle.std.proofs.lemmas.Map.Iter.{iter_end}
 use Rattle.std.proofs.lemmas.List.{map-append}
 use Rattle.neg_codec.specs.declared.Id.{Id}
 use Rattle.sharing.specs.Offers.{AreRelays, Ascend}
-use Rattle.offer_table.proofs.Tables.{each_with, ids-each_with, All-each_with, length-each_with, just_one}
+use Rattle.offer_table.proofs.Tables.{each_with, ids-each_with, All-each_with, length-each_with}
 use Rattle.offer_table.proofs.table.OfferTable.of_report.Goals as goal
 
 pub loop-id-preserved : goal.loop-id-preserved
 loop-id-preserved c =
     let k : Id = c.in-Some.id.now in
     c.in_ok-push.ensures.items
-    ∙ ap (λ es. es ++ (k, c.with-relays.result) ∷ []) c.loop-id.invariant
-    ∙ sym (map-append (λ i. (i, c.with-relays.result)) (map deref c.loop-id.yielded) (k ∷ []))
-    ∙ ap (each_with c.with-relays.result) (sym (map-append deref c.loop-id.yielded (c.in-Some.id ∷ [])))
+    ∙ ap (λ es. es ++ (k, c.one-relays.result) ∷ []) c.loop-id.invariant
+    ∙ sym (map-append (λ i. (i, c.one-relays.result)) (map deref c.loop-id.yielded) (k ∷ []))
+    ∙ ap (each_with c.one-relays.result) (sym (map-append deref c.loop-id.yielded (c.in-Some.id ∷ [])))
 
 pub loop-id-init : goal.loop-id-init
 loop-id-init c = c.in_ok-offers.ensures.items
@@ -32,24 +32,21 @@ whole relays relay ids offers ordered one ascend few e =
       few = omega (arith, length-each_with relays ids);
     })
 
-only : (relay : ℕ) (none relays : List ℕ) → none ≡ [] → AreRelays relays → ((r : ℕ) → is_among relays r ≡ ((r == relay) || is_among none r)) → relays ≡ relay ∷ []
-only relay none relays e ordered member = just_one relays relay ordered (λ r. member r ∙ ap (λ s. (r == relay) || is_among s r) e)
-
 pub of_list-requires : goal.of_list-requires
 of_list-requires c =
     let start = c.into_iter-id-iterator.ensures.into_iter_gives in
     let end = iter_end deref c.args.need.now.keys c.loop-id.yielded c.into_iter-id-iterator.result c.loop-id.id-iterator c.next.new.self c.next.result start.0 c.loop-id.yielded_by c.in-None.is c.next.ensures.steps in
-    whole c.with-relays.result c.args.relay c.args.need.now.keys c.loop-id.offers.items c.with-relays.ensures.relays (only c.args.relay c.empty.result c.with-relays.result c.empty.ensures c.with-relays.ensures.relays c.with-relays.ensures.member)
-    start.4 (omega (arith, c.if-len-gt-MOST_IDS.false, c.len.ensures.len)) (c.loop-id.invariant ∙ ap (each_with c.with-relays.result) end.0)
+    whole c.one-relays.result c.args.relay c.args.need.now.keys c.loop-id.offers.items c.one-relays.ensures.relays c.one-relays.ensures.value
+    start.4 (omega (arith, c.if-len-gt-MOST_IDS.false, c.len.ensures.len)) (c.loop-id.invariant ∙ ap (each_with c.one-relays.result) end.0)
 
 pub returns-clause-reported : goal.returns-clause-reported
 returns-clause-reported c =
-    ap (λ (t : Table). t.reported) c.in_ok-of_list.ensures ∙ only c.args.relay c.empty.result c.with-relays.result c.empty.ensures c.with-relays.ensures.relays c.with-relays.ensures.member
+    ap (λ (t : Table). t.reported) c.in_ok-of_list.ensures ∙ c.one-relays.ensures.value
 
 pub returns-clause-offers : goal.returns-clause-offers
 returns-clause-offers c =
     let start = c.into_iter-id-iterator.ensures.into_iter_gives in
     let end = iter_end deref c.args.need.now.keys c.loop-id.yielded c.into_iter-id-iterator.result c.loop-id.id-iterator c.next.new.self c.next.result start.0 c.loop-id.yielded_by c.in-None.is c.next.ensures.steps in
     ap (λ (t : Table). t.offers) c.in_ok-of_list.ensures
-    ∙ c.loop-id.invariant ∙ ap (each_with c.with-relays.result) end.0
-    ∙ ap (λ rs. each_with rs c.args.need.now.keys) (only c.args.relay c.empty.result c.with-relays.result c.empty.ensures c.with-relays.ensures.relays c.with-relays.ensures.member)
+    ∙ c.loop-id.invariant ∙ ap (each_with c.one-relays.result) end.0
+    ∙ ap (λ rs. each_with rs c.args.need.now.keys) c.one-relays.ensures.value

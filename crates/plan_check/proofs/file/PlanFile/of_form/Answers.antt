@@ -1,6 +1,9 @@
-use Rattle.std.proofs.Common.{ap, ◌∙◌, None}
-use Rattle.plan_check.specs.Lines.{first_out, rises}
+use Rattle.std.proofs.Common.{sym, ◌∙◌}
+use Rattle.plan_check.proofs.Files.{none_left, file_ok}
 use Rattle.plan_check.proofs.file.PlanFile.of_form.Goals as goal
 
-pub in_order-requires-clause-first : goal.in_order-requires-clause-first
-in_order-requires-clause-first c = c.misplaced_offer-first.ensures ∙ ap (first_out (λ o. o.0) (λ o. rises o.1.items) None 0) c.deref.ensures.value
+pub invariant_of-result : goal.invariant_of-result
+invariant_of-result c = file_ok _ c.requires (sym c.misplaced.ensures ∙ none_left c.misplaced.result c.in_default.not-Some)
+
+pub returns-clause-file : goal.returns-clause-file
+returns-clause-file c = invariant_of-result c

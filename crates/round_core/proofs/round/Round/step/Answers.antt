@@ -38,7 +38,7 @@ pub returns-in-Seal-clause-leaves : goal.returns-in-Seal-clause-leaves
 returns-in-Seal-clause-leaves c =
     let old : State = c.args.self.now in
     subst (λ (e : RoundEvent). IfOk c.seal.result (λ a. (h : History) → Leaves old.lanes h old → Leaves old.lanes (h ++ (e, a) ∷ []) c.seal.new.self)) (sym c.in-Seal.is)
-    (steps old.lanes old c.seal.new.self _ c.seal.result (λ h l. leaves_seal old.lanes h old c.seal.result c.seal.new.self l c.seal.ensures))
+    (steps old.lanes old c.seal.new.self _ c.seal.result (λ h l. leaves_seal old.lanes h old _ c.seal.result c.seal.new.self l c.seal.ensures))
 
 pub returns-in-Seal-clause-legal : goal.returns-in-Seal-clause-legal
 returns-in-Seal-clause-legal c = legals c.args.self.now.lanes c.args.self.now c.seal.new.self c.args.event.now c.seal.result (returns-in-Seal-clause-leaves c)
@@ -53,9 +53,9 @@ pub returns-in-Insert-clause-legal : goal.returns-in-Insert-clause-legal
 returns-in-Insert-clause-legal c = legals c.args.self.now.lanes c.args.self.now c.insert.new.self c.args.event.now c.insert.result (returns-in-Insert-clause-leaves c)
 
 -- what is left is an event on a cell
-on_cell : (e : RoundEvent) → ((r : ℕ) (n : BTreeSet Id) → e ≡ Report r n → ⊥) → (e ≡ Seal → ⊥) → ((id : Id) → e ≡ Insert id → ⊥) → IsPlain e × ((id : Id) → places id e ≡ false)
+on_cell : (e : RoundEvent) → ((r : ℕ) (n : BTreeSet Id) → e ≡ Report r n → ⊥) → ((b : List ℕ) → e ≡ Seal b → ⊥) → ((id : Id) → e ≡ Insert id → ⊥) → IsPlain e × ((id : Id) → places id e ≡ false)
 on_cell (Report r n) a b d = absurd (a r n refl)
-on_cell Seal a b d = absurd (b refl)
+on_cell (Seal bases) a b d = absurd (b bases refl)
 on_cell (Claim w i) a b d = (tt, λ id. refl)
 on_cell (Finish w i) a b d = (tt, λ id. refl)
 on_cell (Miss w i) a b d = (tt, λ id. refl)
@@ -65,7 +65,7 @@ on_cell (Insert id) a b d = absurd (d id refl)
 touched : (c : goal.After-touch) (h : History) → Leaves c.args.self.now.lanes h c.args.self.now → Leaves c.args.self.now.lanes (h ++ (c.args.event.now, c.touch.result) ∷ []) c.touch.new.self
 touched c h l =
     let s : State = c.args.self.now in
-    let plain = on_cell c.args.event.now (λ r n e. c.in_default.not-Report r n e) (λ e. c.in_default.not-Seal e) (λ id e. c.in_default.not-Insert id e) in
+    let plain = on_cell c.args.event.now (λ r n e. c.in_default.not-Report r n e) (λ b e. c.in_default.not-Seal b e) (λ id e. c.in_default.not-Insert id e) in
     subst (Leaves s.lanes (h ++ (c.args.event.now, c.touch.result) ∷ [])) (sym c.touch.ensures.after)
     (leaves_plain s.lanes h s c.args.event.now c.touch.result s.placed plain.0 l c.touch.ensures.answer
     (λ id. sym (ap (λ b. list_any (is_id id) s.placed || b) (plain.1 id) ∙ or_false (list_any (is_id id) s.placed))))

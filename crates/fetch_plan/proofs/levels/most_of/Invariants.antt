@@ -1,5 +1,0 @@
-use Rattle.std.proofs.Common.{◌<◌, ◌≤◌, ℕ, get_or}
-use Rattle.fetch_plan.proofs.levels.most_of.Given as goal
-
-abbrev pub invariant-loop-count : goal.invariant-loop-count
-invariant-loop-count l = (k : ℕ) → k < l.count-index → get_or l.counts k 0 ≤ l.most

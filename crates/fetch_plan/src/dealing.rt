@@ -1,0 +1,82 @@
+//! Dealing: the pieces that relays hold as single ids.
+
+use crate::evening::Evening;
+use offer_table::{Bases, OfferTable};
+use sharing::RELAYS;
+use std::alloc::{AllocError, Global};
+
+/// Some ids of a group that a relay holds, and where the group's next part stands: one more than its place, or 0.
+#[derive(Clone, Copy)]
+struct Part {
+    relay: u16,
+    count: u32,
+    next: u32,
+}
+
+/// The parts of all groups, and for each group where the first one stands.
+#[derive(Drop)]
+struct Parts {
+    firsts: Vec<u32>,
+    parts: Vec<Part>,
+}
+
+impl Parts {
+    /// Adds some ids of a group that a relay holds.
+    fn add(&mut self, group: u32, relay: u16, count: u32) -> Result<(), AllocError> {
+        if let Some(first) = self.firsts.get_mut(group as usize) {
+            self.parts.push(Part {
+                relay,
+                count,
+                next: *first,
+            })?;
+            *first = u32::try_from(self.parts.len()).unwrap_or(0);
+        }
+        Ok(())
+    }
+
+    /// The relay for the next id of a group.
+    fn next(&mut self, group: u32) -> Option<u16> {
+        let first = self.firsts.get_mut(group as usize)?;
+        let place = first.checked_sub(1)?;
+        let part = self.parts.get_mut(place as usize)?;
+        part.count = part.count.saturating_sub(1);
+        if part.count == 0 {
+            *first = part.next;
+        }
+        Some(part.relay)
+    }
+}
+
+/// The parts of all groups.
+fn parts_of(alloc: Global, evening: &Evening, groups: usize) -> Result<Parts, AllocError> {
+    let mut all = Parts {
+        firsts: vec![in alloc; 0u32; groups]?,
+        parts: Vec::with_capacity(alloc, groups)?,
+    };
+    for relay in 0..RELAYS {
+        if let Some(pieces) = evening.held.get(usize::from(relay)) {
+            for piece in pieces {
+                if piece.count > 0 {
+                    all.add(piece.group, relay, piece.count)?;
+                }
+            }
+        }
+    }
+    Ok(all)
+}
+
+/// The relay that each id is meant for, in the order of the ids.
+pub(crate) fn meant(
+    alloc: Global,
+    table: &OfferTable,
+    bases: &Bases,
+) -> Result<Vec<u16>, AllocError> {
+    let evening = Evening::of(alloc, table, bases)?;
+    let mut parts = parts_of(alloc, &evening, table.groups())?;
+    let numbers = table.numbers();
+    let mut relays = Vec::with_capacity(alloc, numbers.len())?;
+    for group in numbers {
+        relays.push(parts.next(*group).unwrap_or(0))?;
+    }
+    Ok(relays)
+}
