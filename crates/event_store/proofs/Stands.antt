@@ -1,0 +1,85 @@
+-- What finds the events of a store, with one more of them.
+use Rattle.std.proofs.Common.{◌≡◌, ℕ, ◌+◌, ◌<◌, ◌≤◌, ◌&&◌, inl, inr, ltb, leb, true, false, List, [], ◌∷◌, ◌++◌, length, map, None, Some, Option, refl, ap, sym, subst, arith, append_assoc, length-append, ◌∙◌}
+use Rattle.std.specs.Prelude.{All, IsPermutation, filter, bytes_eq, if◌then◌else◌}
+use Rattle.std.proofs.lemmas.Bool.{cases_lt, lt-ltb, le-ltb, le-leb, lt-leb}
+use Rattle.std.proofs.lemmas.List.{map-append}
+use Rattle.std.proofs.lemmas.List.Elements.{All-head, All-tail}
+use Rattle.std.proofs.lemmas.List.Sorted.{IsPermutation-refl, IsPermutation-cons, IsPermutation-sym, IsPermutation-trans, IsPermutation-append_left, IsPermutation-to_front}
+use Rattle.neg_codec.specs.declared.Id.{Id}
+use Rattle.neg_codec.specs.declared.Item.{Item}
+use Rattle.neg_codec.specs.Keys.{place, least, infinity, IsKey}
+use Rattle.neg_codec.proofs.Stretches.{key_below}
+use Rattle.nostr_event.specs.EventView.{EventView, item_of}
+use Rattle.item_roll.specs.Parts.{IsRoll, is_between, part}
+use Rattle.id_map.specs.declared.map.IdMap.{IdMap}
+use Rattle.id_map.specs.Places.{place_of, SetsPlace}
+use Rattle.newest.specs.Newest.{AreOf}
+use Rattle.event_store.specs.Events.{has_id, place_in, Distinct}
+use Rattle.event_store.specs.States.{IsState}
+use Rattle.event_store.proofs.Ids.{distinct_push, place_push}
+
+least_below : (k : Item) → place least ≤ place k
+unfolding place
+least_below k = omega arith
+
+moved_past : (xs ys : List Item) (x : Item) → IsPermutation (x ∷ (xs ++ ys)) (xs ++ x ∷ ys)
+moved_past xs ys x =
+    subst (λ (zs : List Item). IsPermutation (x ∷ (xs ++ ys)) zs) (append_assoc xs (x ∷ []) ys)
+    (IsPermutation-append_left ys (x ∷ xs) (xs ++ x ∷ []) (IsPermutation-sym (xs ++ x ∷ []) (x ∷ xs) (IsPermutation-to_front xs x)))
+
+-- the items below another, then those above
+cut_in_two : (k : Item) (items : List Item) → All IsKey items → IsPermutation items (part items least k ++ part items k infinity)
+unfolding part
+cut_in_two k [] keys = IsPermutation-refl []
+cut_in_two k (x ∷ items) keys =
+    let front = filter (is_between least k) items in
+    let back = filter (is_between k infinity) items in
+    let rest : IsPermutation items (front ++ back) = cut_in_two k items (All-tail IsKey x items keys) in
+    let a : leb (place least) (place x) ≡ true = le-leb _ _ (least_below x) in
+    elim (cases_lt (place x) (place k)) [
+      | inl low ↦
+          let b : ltb (place x) (place k) ≡ true = lt-ltb _ _ low in
+          let c : leb (place k) (place x) ≡ false = lt-leb _ _ low in
+          rw (a, b, c) (IsPermutation-cons x items (front ++ back) rest)
+      | inr high ↦
+          let b : ltb (place x) (place k) ≡ false = le-ltb _ _ high in
+          let c : leb (place k) (place x) ≡ true = le-leb _ _ high in
+          let d : ltb (place x) (place infinity) ≡ true = lt-ltb _ _ (key_below x (All-head IsKey x items keys)) in
+          rw (a, b, c, d) (IsPermutation-trans (x ∷ items) (x ∷ (front ++ back)) (front ++ x ∷ back) (IsPermutation-cons x items (front ++ back) rest) (moved_past front back x))
+    ]
+
+items_push : (events : List EventView) (e : EventView) (roll : List Item) (k : Item) → k ≡ item_of e → All IsKey roll → IsPermutation (map item_of events) roll
+    → IsPermutation (map item_of (events ++ e ∷ [])) (part roll least k ++ k ∷ part roll k infinity)
+items_push events e roll k is keys moved =
+    let all = map item_of events in
+    let front = part roll least k in
+    let back = part roll k infinity in
+    let last : map item_of (events ++ e ∷ []) ≡ all ++ k ∷ [] = map-append item_of events (e ∷ []) ∙ ap (λ (x : Item). all ++ x ∷ []) (sym is) in
+    let first : IsPermutation (k ∷ all) (k ∷ (front ++ back)) = IsPermutation-cons k all (front ++ back) (IsPermutation-trans all roll (front ++ back) moved (cut_in_two k roll keys)) in
+    subst (λ (xs : List Item). IsPermutation xs (front ++ k ∷ back)) (sym last)
+    (IsPermutation-trans (all ++ k ∷ []) (k ∷ all) (front ++ k ∷ back) (IsPermutation-to_front all k)
+    (IsPermutation-trans (k ∷ all) (k ∷ (front ++ back)) (front ++ k ∷ back) first (moved_past front back k)))
+
+pub nothing_stands : (events : List EventView) (ids : IdMap) (roll : List Item) (newest : List (ℕ × EventView)) → events ≡ [] → ((id : Id) → place_of ids id ≡ None) → IsPermutation [] roll → newest ≡ []
+    → IsState events ids roll newest
+nothing_stands events ids roll newest is none moved empty = subst (λ (xs : List EventView). IsState xs ids roll newest) (sym is) (record {
+  distinct = λ i j d lt within. absurd (omega arith);
+  finds = none;
+  items = moved;
+  ordered = subst (λ (xs : List (ℕ × EventView)). AreOf [] xs) (sym empty) (IsPermutation-refl []);
+  counted = ap length empty;
+})
+
+-- a new event behind all others
+pub more_stands : (events more : List EventView) (ids new : IdMap) (roll longer : List Item) (newest newer : List (ℕ × EventView)) (e : EventView) (k : Item) → IsState events ids roll newest → has_id e.id events ≡ false
+    → more ≡ events ++ e ∷ [] → SetsPlace e.id (length events) ids new → IsRoll roll → k ≡ item_of e → longer ≡ part roll least k ++ k ∷ part roll k infinity
+    → AreOf (events ++ e ∷ []) newer → length newer ≡ length newest + 1 → IsState more new longer newer
+more_stands events more ids new roll longer newest newer e k h none is sets ordered item put among counted =
+    subst (λ (xs : List EventView). IsState xs new longer newer) (sym is) (record {
+      distinct = distinct_push events e h.distinct none;
+      finds = λ id. sets id ∙ ap (λ (o : Option ℕ). if bytes_eq e.id.0 id.0 then Some (length events) else o) (h.finds id)
+          ∙ sym (place_push 0 (length events) id e events (omega arith) none);
+      items = subst (λ (xs : List Item). IsPermutation (map item_of (events ++ e ∷ [])) xs) (sym put) (items_push events e roll k item ordered.keys h.items);
+      ordered = among;
+      counted = omega (arith, counted, h.counted, length-append events (e ∷ []));
+    })

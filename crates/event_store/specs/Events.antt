@@ -1,0 +1,50 @@
+-- Lists of events, as a store has them.
+use Rattle.std.specs.Prelude.{◌≢◌, ℕ, ◌+◌, Bool, List, [], ◌∷◌, AllPairs, filter, filter_map, Option, None, Some, bytes_eq, if◌then◌else◌}
+use Rattle.std.specs.List.{list_any}
+use Rattle.neg_codec.specs.declared.Id.{Id}
+use Rattle.neg_codec.specs.declared.Item.{Item}
+use Rattle.nostr_event.specs.EventView.{EventView}
+use Rattle.nostr_filter.specs.declared.filter.Filter.{Filter}
+use Rattle.nostr_filter.specs.Matching.{matches_of}
+
+-- the events that the filter matches, in the order of the list; its limit has no part in it
+abbrev pub matching : Filter → List EventView → List EventView
+matching f events = filter (matches_of f) events
+
+-- whether an event of the list has this id
+abbrev pub has_id : Id → List EventView → Bool
+has_id id events = list_any (λ (e : EventView). bytes_eq e.id.0 id.0) events
+
+-- no two have one id
+abbrev pub Distinct : List EventView → Type 0
+Distinct events = AllPairs (λ (x y : EventView). x.id ≢ y.id) events
+
+-- the place of the first event with this id, where the first event stands at the place n
+abbrev pub place_from : ℕ → Id → List EventView → Option ℕ
+place_from n id [] = None
+place_from n id (e ∷ events) = if bytes_eq e.id.0 id.0 then Some n else place_from (n + 1) id events
+
+abbrev pub place_in : List EventView → Id → Option ℕ
+place_in events id = place_from 0 id events
+
+-- the places of those of the ids that events have
+abbrev pub places_in : List EventView → List Id → List ℕ
+places_in events ids = filter_map (place_in events) ids
+
+-- an event with this id is published, and this is the published list up to the front
+pub record Placing : Type 0 where
+  pub id : Id
+  pub fresh : Bool
+  pub list : List EventView
+
+abbrev pub placing : Id → Bool → List EventView → Placing
+placing id fresh list = record { id = id; fresh = fresh; list = list }
+
+-- what was pinned: the published list, its events that match, and their items
+pub record Pinned : Type 0 where
+  pub all : List EventView
+  pub events : List EventView
+  pub roll : List Item
+
+abbrev pub pinned : List EventView → List EventView → List Item → Pinned
+pinned all events roll = record { all = all; events = events; roll = roll }

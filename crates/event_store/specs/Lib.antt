@@ -1,0 +1,9 @@
+pub mod Events
+pub mod Chunks
+pub mod States
+pub mod Picking
+pub mod Marks
+pub mod History
+pub mod Rules
+pub mod Faults
+pub mod Opening

@@ -1,0 +1,130 @@
+//! The history of a store, before and after it has its name.
+ghost use Rattle.std.specs.Prelude.{◌≡◌, ◌<◌, ◌≤◌, ◌^◌, [], ◌∷◌, ◌++◌, length, MatchBool};
+ghost use mathlib.Core.List.{IsPrefix};
+ghost use Rattle.event_store.specs.History.{head_of};
+
+use crate::mark::Mark;
+use crate::name::{Law, Naming};
+use logbook::{Seen, Start, Word};
+use nostr_event::Event;
+use std::marker::{Model, PhantomData};
+
+/// A history with no events, which has no name yet. Contracts see it as its book.
+#[derive(Drop)]
+pub struct Blank {
+    word: Word<Event, u64, Law>,
+    seen: Seen<Event, u64, Law>,
+}
+
+impl Model for Blank {
+    ghost use Rattle.std.specs.Prelude.{◌≡◌, []};
+    ghost use Rattle.logbook.specs.Pages.{Book, book_coded};
+    ghost use Rattle.event_store.specs.History.{head_of};
+
+    ghost Value = { Book };
+
+    ghost coded = { book_coded };
+
+    ghost view = { λ b. b.seen.book };
+
+    ghost invariant = { λ b. (b.word ≡ head_of b.seen.book) × (b.seen.log ≡ []) };
+}
+
+impl Blank {
+    pub fn new() -> Blank {
+        let (seen, mut first, _second) = Seen::open(Start::alone(), 0, 0);
+        Blank {
+            word: Word::tracked(0, &mut first),
+            seen,
+        }
+    }
+
+    /// The end of the history of that name, and that nothing was seen of it.
+    pub(crate) fn named<J: Naming>(self) -> (Head<J>, Front<J>)
+        requires { self ≡ J.book }
+        ensures { result.1 ≡ [] }
+    {
+        let Blank { word, seen } = self;
+        let head = Head {
+            word,
+            of: PhantomData,
+        };
+        (head, Front::of(Mark::new(seen)))
+    }
+}
+
+/// Where the history goes on.
+#[derive(Drop)]
+pub struct Head<J: Naming> {
+    word: Word<Event, u64, Law>,
+    of: PhantomData<J>,
+    ghost word_is: { word ≡ head_of J.book },
+}
+
+/// A beginning of the history of that name, which was seen. Contracts see it as its events.
+#[derive(Drop)]
+pub struct Front<J: Naming> {
+    mark: Mark,
+    of: PhantomData<J>,
+}
+
+impl<J: Naming> Model for Front<J> {
+    ghost use Rattle.std.specs.Prelude.{◌≡◌, List};
+    ghost use Rattle.nostr_event.specs.EventView.{EventView};
+
+    ghost Value = { List EventView };
+
+    ghost view = { λ f. f.mark.list };
+
+    ghost invariant = { λ f. f.mark.book ≡ J.book };
+}
+
+impl<J: Naming> Front<J> {
+    pub fn of(mark: Mark) -> Front<J>
+        requires { mark.book ≡ J.book }
+        ensures { result ≡ mark.list }
+    {
+        Front {
+            mark,
+            of: PhantomData,
+        }
+    }
+
+    pub fn into_mark(self) -> Mark
+        ensures { (result.book ≡ J.book) × (result.list ≡ self) }
+    {
+        let Front { mark, of: _ } = self;
+        mark
+    }
+
+    pub fn len(&self) -> u64
+        ensures { result ≡ length self.now }
+    {
+        self.mark.len()
+    }
+
+    /// A copy.
+    pub fn again(&self) -> Front<J>
+        ensures { result ≡ self.now }
+    {
+        Front {
+            mark: self.mark.again(),
+            of: PhantomData,
+        }
+    }
+
+    /// A beginning of the history begins each one that is no shorter.
+    pub fn compare(&self, other: &Front<J>)
+        ensures { length self.now ≤ length other.now → IsPrefix self.now other.now }
+    {
+        self.mark.compare(&other.mark);
+    }
+
+    /// Adds an event to all that was seen, and says whether it did. It did not where the history is longer.
+    pub fn add(&mut self, head: &Head<J>, event: &Event) -> bool
+        requires { length self.old < 2 ^ 62 }
+        ensures { MatchBool result (self.new ≡ self.old ++ event.now ∷ []) (length self.old < length self.new) }
+    {
+        self.mark.add(&head.word, event)
+    }
+}

@@ -1,0 +1,110 @@
+//! The events of a store that filters choose (NIP-01).
+ghost use Rattle.std.specs.Prelude.{◌≡◌, ◌++◌, ◌∷◌, [], List, Some, IfOk, OnOk, map, take};
+ghost use Rattle.std.specs.Arc.{arc_value};
+ghost use Rattle.std.specs.declared.alloc.Global.{Global as AGlobal};
+ghost use Rattle.std.specs.declared.sync.Arc.{Arc as AnArc};
+ghost use Rattle.nostr_event.specs.EventView.{EventView};
+ghost use Rattle.nostr_filter.specs.Choice.{newest_first, in_order, cut_of, picked, chosen};
+ghost use Rattle.event_store.specs.Picking.{HaveMatching, ranks_from};
+
+use crate::list::EventList;
+use crate::picking::{listed, places_of};
+use crate::state::State;
+use nostr_event::Event;
+use nostr_filter::{Bytes32List, Filter, Rank, cut, put_in_order, rank_at};
+use std::alloc::{AllocError, Global};
+use std::sync::Arc;
+
+/// The places of the events that the filters choose, in the order in which they are sent. A filter with ids looks these up. Each
+/// other one walks from the newest on, and ends once it has as many as it may.
+pub fn choose_of(alloc: Global, state: &State, filters: &[Filter]) -> Result<Vec<usize>, AllocError>
+    ensures { (events : List (AnArc EventView AGlobal)) → map arc_value events ≡ state.now → IfOk result (λ v. v.items ≡ chosen filters.now events) }
+{
+    let mut all = Vec::new(alloc);
+    for filter in filters {
+        all.append(&mut pick_ranks(alloc, state, filter)?)?;
+    }
+    put_in_order(&mut all);
+    all.iter().map(|rank| rank.place).collect(alloc)
+}
+
+// What orders the events that the filter chooses.
+fn pick_ranks(alloc: Global, state: &State, filter: &Filter) -> Result<Vec<Rank>, AllocError>
+    ensures { (events : List (AnArc EventView AGlobal)) → map arc_value events ≡ state.now → IfOk result (λ v. v.items ≡ picked events filter.now) }
+{
+    match &filter.ids {
+        Some(ids) => pick_by_ids(alloc, state, filter, ids),
+        None => state.newest().pick(alloc, filter),
+    }
+}
+
+fn pick_by_ids(
+    alloc: Global,
+    state: &State,
+    filter: &Filter,
+    ids: &Bytes32List,
+) -> Result<Vec<Rank>, AllocError>
+    requires { filter.now.ids ≡ Some ids.now }
+    ensures { (events : List (AnArc EventView AGlobal)) → map arc_value events ≡ state.now → IfOk result (λ v. v.items ≡ picked events filter.now) }
+{
+    let ids = listed(alloc, ids)?;
+    let places = places_of(alloc, state, ids.as_slice())?;
+    let mut ranks = ranks_at(alloc, state.events(), filter, places.as_slice())?;
+    keep_first(&mut ranks, filter);
+    Ok(ranks)
+}
+
+// Puts the ranks in order, and keeps as many as the filter chooses at most.
+fn keep_first(ranks: &mut Vec<Rank>, filter: &Filter)
+    ensures { ranks.new.items ≡ take (cut_of filter.now) (in_order newest_first ranks.old.items) }
+{
+    put_in_order(ranks);
+    ranks.truncate(cut(filter));
+}
+
+// What orders the events that the filter matches, of those at the places.
+fn ranks_at(
+    alloc: Global,
+    events: &EventList,
+    filter: &Filter,
+    places: &[usize],
+) -> Result<Vec<Rank>, AllocError>
+    requires { HaveMatching filter.now events.now places.now }
+    ensures { IfOk result (λ v. v.items ≡ ranks_from 0 filter.now events.now) }
+{
+    let mut ranks = Vec::new(alloc);
+    for place in places {
+        put_rank(&mut ranks, filter, *place, events.get(*place))?;
+    }
+    Ok(ranks)
+}
+
+// Puts what orders the event behind the others, if the filter matches it.
+fn put_rank(
+    ranks: &mut Vec<Rank>,
+    filter: &Filter,
+    place: usize,
+    event: &Arc<Event>,
+) -> Result<(), AllocError>
+    ensures { OnOk result (ranks.new.items ≡ ranks.old.items ++ ranks_from place filter.now (arc_value event.now ∷ [])) }
+{
+    if filter.matches(event) {
+        ranks.push(rank_at(place, event))?;
+    }
+    Ok(())
+}
+
+/// The same for a list of events, each of which is looked at for each filter.
+pub fn choose_among(
+    alloc: Global,
+    list: &EventList,
+    filters: &[Filter],
+) -> Result<Vec<usize>, AllocError>
+    ensures { (events : List (AnArc EventView AGlobal)) → map arc_value events ≡ list.now → IfOk result (λ v. v.items ≡ chosen filters.now events) }
+{
+    let mut all = Vec::with_capacity(alloc, list.len())?;
+    for place in 0..list.len() {
+        all.push(Arc::try_clone(list.get(place))?)?;
+    }
+    nostr_filter::choose(alloc, filters, all.as_slice())
+}

@@ -1,0 +1,183 @@
+//! The one who inserts.
+ghost use Rattle.std.specs.Prelude.{◌≡◌, ◌<◌, ◌≤◌, not, false, [], ◌∷◌, ◌++◌, length, IfOk, IfErr, OnErr, if◌then◌else◌};
+ghost use Rattle.std.specs.Arc.{arc_value};
+ghost use Rattle.event_store.specs.Events.{has_id, Distinct};
+ghost use Rattle.event_store.specs.Faults.{RefusesRightly};
+
+use crate::blank::{Front, Head};
+use crate::name::Naming;
+use crate::placed::Placed;
+use crate::reader::Reader;
+use crate::rule::Pen;
+use crate::shown::Shown;
+use crate::state::State;
+use crate::steps::publish;
+use core::mem::replace_with;
+use left_right::writer::Writer;
+use nostr_event::Event;
+use std::alloc::{AllocError, Global};
+use std::marker::Model;
+use std::sync::{Arc, Wait};
+
+/// The published list, which has as many events as the store takes.
+#[derive(Drop)]
+pub struct Filled<J: Naming> {
+    told: Front<J>,
+}
+
+impl<J: Naming> Model for Filled<J> {
+    ghost use Rattle.std.specs.Prelude.{◌≡◌, List, length};
+    ghost use Rattle.nostr_event.specs.EventView.{EventView};
+
+    ghost Value = { List EventView };
+
+    ghost view = { λ f. f.told };
+
+    ghost invariant = { λ f. length f.told ≡ J.most };
+}
+
+impl<J: Naming> Filled<J> {
+    fn new(told: Front<J>) -> Filled<J>
+        requires { length told ≡ J.most }
+        ensures { result ≡ told }
+    {
+        Filled { told }
+    }
+
+    /// How many events are published.
+    pub fn front(&self) -> u64
+        ensures count { result ≡ length self.now }
+        ensures full { result ≡ J.most }
+    {
+        self.told.len()
+    }
+}
+
+/// Why nothing was inserted.
+#[derive(Drop)]
+pub enum InsertFault<J: Naming> {
+    /// The store has as many events as it takes, and the event is none of them.
+    Full(Filled<J>),
+    /// A growth was refused.
+    Memory,
+}
+
+/// Where events are put in. Contracts see it as the published list.
+pub struct Desk<J: Naming, R: Wait + Drop> {
+    pen: Pen<J>,
+    head: Head<J>,
+    most: usize,
+    alloc: Global,
+    rt: R,
+}
+
+impl<J: Naming, R: Wait + Drop> Model for Desk<J, R> {
+    ghost use Rattle.std.specs.Prelude.{◌≡◌, ◌≤◌, List, length};
+    ghost use Rattle.nostr_event.specs.EventView.{EventView};
+
+    ghost Value = { List EventView };
+
+    ghost view = { λ d. d.pen.desk.shown.value.list };
+
+    ghost invariant = { λ d. (d.pen.desk.shown.value.book ≡ J.book) × (length d.pen.desk.shown.value.list ≤ d.most) × (d.most ≡ J.most) × (d.most ≤ 1000000) };
+}
+
+/// Ends the readers, whose pins answer `Gone` from then on.
+impl<J: Naming, R: Wait + Drop> Drop for Desk<J, R> {
+    fn drop(self) {
+        let Self {
+            pen,
+            head: _,
+            most: _,
+            alloc: _,
+            rt,
+        } = self;
+        drop(pen.take(&rt));
+    }
+}
+
+impl<J: Naming, R: Wait + Drop> Desk<J, R> {
+    pub(crate) fn open(
+        rt: R,
+        alloc: Global,
+        head: Head<J>,
+        front: &Front<J>,
+        readers: usize,
+        most: usize,
+    ) -> Result<Desk<J, R>, AllocError>
+        requires most { (most ≡ J.most) × (most ≤ 1000000) }
+        requires readers { (0 < readers) × (readers ≤ 1024) }
+        requires front { front.now ≡ [] }
+        ensures { IfOk result (λ d. d ≡ []) }
+    {
+        let state = Arc::new(alloc, State::new(alloc)?)?;
+        let first = Shown::new(state, front.again().into_mark());
+        let second = first.again()?;
+        let third = first.again()?;
+        let pen = Writer::new(alloc, first, second, readers)?;
+        // The log of the two copies grows here once, and never in an insert.
+        let (pen, done) = publish(pen, &rt, third);
+        let desk = Desk {
+            pen,
+            head,
+            most,
+            alloc,
+            rt,
+        };
+        done?;
+        Ok(desk)
+    }
+
+    /// A reader that has seen nothing.
+    pub(crate) fn reader(&self, front: &Front<J>) -> Result<Reader<J>, AllocError>
+        ensures { IfOk result (λ r. r ≡ front.now) }
+    {
+        let side = self.pen.factory().reader()?;
+        Ok(Reader::new(side, front.again()))
+    }
+
+    /// Publishes the event behind all others, unless its id is published already. After a fault nothing has changed, and the
+    /// event is handed back.
+    pub fn insert<W: Wait>(
+        &mut self,
+        rt: &W,
+        event: Arc<Event>,
+    ) -> Result<Placed<J>, (InsertFault<J>, Arc<Event>)>
+        ensures placed { IfOk result (λ p. (p.id ≡ (arc_value event).id) × (p.list ≡ self.new) × (p.fresh ≡ not (has_id p.id self.old))) }
+        ensures list { IfOk result (λ p. self.new ≡ (if p.fresh then self.old ++ arc_value event ∷ [] else self.old)) }
+        ensures refused { IfErr result (λ e. (e.1 ≡ event) × (self.new ≡ self.old) × RefusesRightly J.most (arc_value event) self.old e.0) }
+    {
+        let shown = self.pen.published();
+        let state = shown.state();
+        if state.has(&event.id()) {
+            return Ok(Placed::new(event.id(), false, Front::of(shown.mark().again())));
+        }
+        if state.events().len() >= self.most {
+            let filled = Filled::new(Front::of(shown.mark().again()));
+            return Err((InsertFault::Full(filled), event));
+        }
+        match self.put(rt, &event) {
+            Ok(front) => Ok(Placed::new(event.id(), true, front)),
+            Err(_) => Err((InsertFault::Memory, event)),
+        }
+    }
+
+    fn put<W: Wait>(&mut self, rt: &W, event: &Arc<Event>) -> Result<Front<J>, AllocError>
+        requires fresh { has_id (arc_value event.now).id self.old ≡ false }
+        requires room { length self.old < J.most }
+        ensures ok { IfOk result (λ f. (f ≡ self.new) × (self.new ≡ self.old ++ arc_value event.now ∷ [])) }
+        ensures err { OnErr result (self.new ≡ self.old) }
+    {
+        let shown = self.pen.published();
+        let state = shown.state().with(self.alloc, event)?;
+        let state = Arc::new(self.alloc, state)?;
+        // From here on nothing takes memory.
+        let mut front = Front::of(shown.mark().again());
+        if !front.add(&self.head, event) {
+            return Err(AllocError);
+        }
+        let next = Shown::new(state, front.again().into_mark());
+        replace_with(&mut self.pen, next, |pen, next| publish(pen, rt, next))?;
+        Ok(front)
+    }
+}

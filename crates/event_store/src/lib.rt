@@ -1,0 +1,30 @@
+//! A store of events: one desk that inserts, and readers that pin what is published and never wait.
+#![tactic(auto)]
+
+mod blank;
+mod choosing;
+mod desk;
+mod list;
+mod mark;
+mod name;
+mod open;
+mod picking;
+mod placed;
+mod reader;
+mod rule;
+mod shown;
+mod snapshot;
+mod state;
+mod steps;
+
+pub use blank::Blank;
+pub use desk::{Desk, Filled, InsertFault};
+pub use list::EventList;
+pub use name::Naming;
+pub use open::{StoreFault, open_small, open_store};
+pub use placed::Placed;
+pub use reader::{PinFault, Reader};
+pub use snapshot::Snapshot;
+
+#[cfg(test)]
+mod tests;

@@ -1,0 +1,183 @@
+//! The events of a store that a filter matches.
+ghost use Rattle.std.specs.Prelude.{◌≡◌, ◌≤◌, ◌<◌, ◌+◌, ◌^◌, ◌++◌, ◌∷◌, [], List, ℕ, map, length, true, option_to_list, IsTrue, IfOk, IfSome, OnOk};
+ghost use Rattle.std.specs.Arc.{arc_value};
+ghost use Rattle.std.specs.Ordering.{nat_cmp};
+ghost use Rattle.neg_codec.specs.declared.Item.{Item};
+ghost use Rattle.neg_codec.specs.Keys.{id_of_bytes, place, IsKey};
+ghost use Rattle.neg_codec.specs.Ranges.{edge_of};
+ghost use Rattle.nostr_event.specs.EventView.{EventView};
+ghost use Rattle.nostr_filter.specs.Matching.{matches_of, within_of};
+ghost use Rattle.nostr_filter.specs.Choice.{in_order};
+ghost use Rattle.event_store.specs.Events.{matching, places_in};
+ghost use Rattle.event_store.specs.Picking.{AreAsked, AreWithin, HaveMatching};
+
+use crate::list::EventList;
+use crate::state::State;
+use item_roll::Roll;
+use neg_codec::{Bound, Id, Key};
+use nostr_event::Event;
+use nostr_filter::{Bytes32List, Filter};
+use std::alloc::{AllocError, Global};
+use std::sync::Arc;
+
+// Where fewer events than one in so many stand between two times, their ids are looked up. Else all events are read.
+const FEW: usize = 8;
+
+/// Whether a filter has no condition.
+pub fn leaves_none_out(filter: &Filter) -> bool
+    ensures { IsTrue result → (e : EventView) → matches_of filter.now e ≡ true }
+{
+    filter.ids.is_none()
+        && filter.authors.is_none()
+        && filter.kinds.is_none()
+        && filter.tags.as_slice().is_empty()
+        && filter.since.is_none()
+        && filter.until.is_none()
+}
+
+/// The events that the filter matches, in the order in which they were published.
+pub fn pick(alloc: Global, state: &State, filter: &Filter) -> Result<EventList, AllocError>
+    ensures { IfOk result (λ l. l ≡ matching filter.now state.now) }
+{
+    match ids_asked(alloc, state, filter)? {
+        Some(ids) => {
+            let places = places_of(alloc, state, ids.as_slice())?;
+            pick_at(alloc, state.events(), filter, places.as_slice())
+        }
+        None => pick_all(alloc, state.events(), filter),
+    }
+}
+
+// The ids among which are those of all events that the filter matches, where they are few.
+fn ids_asked(alloc: Global, state: &State, filter: &Filter) -> Result<Option<Vec<Id>>, AllocError>
+    ensures { IfOk result (λ o. IfSome o (λ ids. AreAsked filter.now state.now ids.items)) }
+{
+    if let Some(ids) = &filter.ids {
+        return Ok(Some(listed(alloc, ids)?));
+    }
+    ids_within(alloc, state.roll(), filter)
+}
+
+// The ids of the items from the filter's first time on, up to its last, where they are few.
+fn ids_within(alloc: Global, roll: &Roll, filter: &Filter) -> Result<Option<Vec<Id>>, AllocError>
+    ensures { IfOk result (λ o. IfSome o (λ ids. AreWithin filter.now roll.now ids.items)) }
+{
+    let lower = first_bound(filter);
+    let upper = last_bound(filter);
+    let hi = roll.find(&upper);
+    if upper.is_below(&lower) {
+        return Ok(None);
+    }
+    let lo = roll.find(&lower);
+    if lo <= hi && hi - lo < roll.len() / FEW {
+        Ok(Some(roll.ids(alloc, lo, hi)?))
+    } else {
+        Ok(None)
+    }
+}
+
+// The bound at the filter's first time.
+fn first_bound(filter: &Filter) -> Bound
+    ensures { (k : Item) → within_of filter.now k.time ≡ true → place (edge_of result) ≤ place k }
+{
+    match filter.since {
+        Some(since) if since < u64::MAX => Bound::At(Key::new(since, Id([0; 32]))),
+        _ => Bound::lowest(),
+    }
+}
+
+// The bound behind the filter's last time.
+fn last_bound(filter: &Filter) -> Bound
+    ensures { (k : Item) → IsKey k → within_of filter.now k.time ≡ true → place k < place (edge_of result) }
+{
+    match filter.until {
+        Some(until) if until < u64::MAX - 1 => Bound::At(Key::new(until + 1, Id([0; 32]))),
+        _ => Bound::Infinite,
+    }
+}
+
+pub fn listed(alloc: Global, ids: &Bytes32List) -> Result<Vec<Id>, AllocError>
+    ensures { IfOk result (λ v. v.items ≡ map id_of_bytes ids.now) }
+{
+    ids.as_slice().iter().map(|bytes| Id(*bytes)).collect(alloc)
+}
+
+/// The places of the events with these ids, in order.
+pub fn places_of(alloc: Global, state: &State, ids: &[Id]) -> Result<Vec<usize>, AllocError>
+    ensures { IfOk result (λ v. v.items ≡ in_order nat_cmp (places_in state.now ids.now)) }
+{
+    let mut places = found(alloc, state, ids)?;
+    put_in_order(&mut places);
+    Ok(places)
+}
+
+fn found(alloc: Global, state: &State, ids: &[Id]) -> Result<Vec<usize>, AllocError>
+    ensures { IfOk result (λ v. v.items ≡ places_in state.now ids.now) }
+{
+    let mut places = Vec::new(alloc);
+    for id in ids {
+        put_place(&mut places, state.place(id))?;
+    }
+    Ok(places)
+}
+
+// Puts the place behind the others, if there is one.
+fn put_place(places: &mut Vec<usize>, place: Option<usize>) -> Result<(), AllocError>
+    ensures { OnOk result (places.new.items ≡ places.old.items ++ option_to_list place) }
+{
+    if let Some(place) = place {
+        places.push(place)?;
+    }
+    Ok(())
+}
+
+// Puts the places in order, each once.
+fn put_in_order(places: &mut Vec<usize>)
+    ensures { places.new.items ≡ in_order nat_cmp places.old.items }
+{
+    places.sort_unstable();
+    places.dedup();
+}
+
+// The events that the filter matches, of those at the places.
+fn pick_at(
+    alloc: Global,
+    events: &EventList,
+    filter: &Filter,
+    places: &[usize],
+) -> Result<EventList, AllocError>
+    requires { HaveMatching filter.now events.now places.now }
+    ensures { IfOk result (λ l. l ≡ matching filter.now events.now) }
+{
+    let mut all = EventList::new(alloc)?;
+    for place in places {
+        put_matching(&mut all, alloc, filter, events.get(*place))?;
+    }
+    Ok(all)
+}
+
+// Puts the event behind the others, if the filter matches it.
+fn put_matching(
+    all: &mut EventList,
+    alloc: Global,
+    filter: &Filter,
+    event: &Arc<Event>,
+) -> Result<(), AllocError>
+    requires { length all.old + 1 < 2 ^ 64 }
+    ensures { OnOk result (all.new ≡ all.old ++ matching filter.now (arc_value event.now ∷ [])) }
+{
+    if filter.matches(event) {
+        all.push(alloc, event)?;
+    }
+    Ok(())
+}
+
+fn pick_all(alloc: Global, events: &EventList, filter: &Filter) -> Result<EventList, AllocError>
+    ensures { IfOk result (λ l. l ≡ matching filter.now events.now) }
+{
+    let mut all = EventList::new(alloc)?;
+    for place in 0..events.len() {
+        put_matching(&mut all, alloc, filter, events.get(place))?;
+    }
+    Ok(all)
+}

@@ -1,0 +1,104 @@
+//! The readers, which never wait.
+ghost use Rattle.std.specs.Prelude.{◌≡◌, ◌⊎◌, map, IfOk, IsPermutation};
+ghost use Rattle.std.specs.Arc.{arc_value};
+ghost use mathlib.Core.List.{IsPrefix};
+ghost use Rattle.left_right.specs.Sides.{view};
+ghost use Rattle.nostr_event.specs.EventView.{item_of};
+ghost use Rattle.item_roll.specs.Parts.{IsRoll};
+ghost use Rattle.event_store.specs.Events.{matching, Distinct};
+
+use crate::blank::Front;
+use crate::name::Naming;
+use crate::placed::Placed;
+use crate::rule::Side;
+use crate::snapshot::Snapshot;
+use crate::state::State;
+use crate::steps::look;
+use core::mem::replace_with;
+use nostr_filter::Filter;
+use std::alloc::Global;
+use std::marker::Model;
+use std::sync::Arc;
+
+/// Why nothing was pinned.
+#[derive(Clone, Copy, Debug, PartialEq, Eq)]
+pub enum PinFault {
+    /// There was no view, as once the desk is gone.
+    Gone,
+    /// A growth was refused.
+    Memory,
+}
+
+/// Contracts see it as the list that it has seen or learnt.
+#[derive(Drop)]
+pub struct Reader<J: Naming> {
+    side: Side<J>,
+    front: Front<J>,
+}
+
+impl<J: Naming> Model for Reader<J> {
+    ghost use Rattle.std.specs.Prelude.{List};
+    ghost use mathlib.Core.List.{IsPrefix};
+    ghost use Rattle.left_right.specs.Sides.{view as client};
+    ghost use Rattle.nostr_event.specs.EventView.{EventView};
+
+    ghost Value = { List EventView };
+
+    ghost view = { λ r. r.front };
+
+    ghost invariant = { λ r. IsPrefix (client r.side.place).seen r.front };
+}
+
+impl<J: Naming> Reader<J> {
+    pub(crate) fn new(side: Side<J>, front: Front<J>) -> Reader<J>
+        requires { IsPrefix (view side.place).seen front }
+        ensures { result ≡ front }
+    {
+        Reader { side, front }
+    }
+
+    /// Takes in what a desk told. The next pin has it.
+    pub fn learn(&mut self, placed: &Placed<J>)
+        ensures kept { IsPrefix self.old self.new }
+        ensures learnt { IsPrefix placed.now.list self.new }
+        ensures one { (self.new ≡ self.old) ⊎ (self.new ≡ placed.now.list) }
+    {
+        let told = placed.told();
+        if self.front.len() < told.len() {
+            self.front.compare(told);
+            self.front = told.again();
+        } else {
+            told.compare(&self.front);
+        }
+    }
+
+    /// Pins the events that match, of the list that is published. That list begins with all that was seen or learnt. The
+    /// filter's limit has no part in it. A filter that leaves nothing out takes no memory.
+    pub fn pin(&mut self, alloc: Global, filter: &Filter) -> Result<Snapshot, PinFault>
+        ensures kept { IsPrefix self.old self.new }
+        ensures all { IfOk result (λ s. s.all ≡ self.new) }
+        ensures distinct { IfOk result (λ s. Distinct s.all) }
+        ensures events { IfOk result (λ s. s.events ≡ matching filter.now self.new) }
+        ensures items { IfOk result (λ s. IsPermutation (map item_of s.events) s.roll) }
+        ensures sorted { IfOk result (λ s. IsRoll s.roll) }
+    {
+        let state = self.see()?;
+        Snapshot::of(alloc, state, filter).map_err(|_| PinFault::Memory)
+    }
+
+    fn see(&mut self) -> Result<Arc<State>, PinFault>
+        ensures kept { IsPrefix self.old self.new }
+        ensures seen { IfOk result (λ p. arc_value p ≡ self.new) }
+    {
+        let Some((front, state)) = replace_with(&mut self.side, (), |side, _| look(side)) else {
+            return Err(PinFault::Gone);
+        };
+        if front.len() < self.front.len() {
+            front.compare(&self.front);
+            return Err(PinFault::Gone);
+        }
+        self.front.compare(&front);
+        self.front = front;
+        state.map_err(|_| PinFault::Memory)
+    }
+}

@@ -1,0 +1,122 @@
+//! What a pin gives.
+ghost use Rattle.std.specs.Prelude.{◌≡◌, List, length, map, IfOk, IsPermutation};
+ghost use Rattle.std.specs.declared.alloc.Global.{Global as AGlobal};
+ghost use Rattle.std.specs.declared.sync.Arc.{Arc as AnArc};
+ghost use Rattle.std.specs.Arc.{arc_value};
+ghost use Rattle.nostr_event.specs.EventView.{EventView, item_of};
+ghost use Rattle.nostr_filter.specs.Choice.{chosen};
+ghost use Rattle.item_roll.specs.Parts.{IsRoll};
+ghost use Rattle.event_store.specs.Events.{matching, Distinct};
+
+use crate::choosing::{choose_among, choose_of};
+use crate::list::EventList;
+use crate::picking::{leaves_none_out, pick};
+use crate::state::State;
+use item_roll::Roll;
+use nostr_filter::Filter;
+use std::alloc::{AllocError, Global};
+use std::marker::Model;
+use std::sync::Arc;
+
+/// The matching ones of the first events of a store. Contracts see it as a `Pinned`. It never changes.
+#[derive(Drop)]
+pub struct Snapshot {
+    state: Arc<State>,
+    // Whether the pinned events are all that were published.
+    whole: bool,
+    events: EventList,
+    roll: Arc<Roll>,
+}
+
+impl Model for Snapshot {
+    ghost use Rattle.std.specs.Prelude.{◌≡◌, true};
+    ghost use Rattle.std.specs.Arc.{arc_value};
+    ghost use Rattle.event_store.specs.Events.{Pinned, pinned};
+
+    ghost Value = { Pinned };
+
+    ghost view = { λ s. pinned (arc_value s.state) s.events (arc_value s.roll) };
+
+    ghost invariant = { λ s. s.whole ≡ true → s.events ≡ arc_value s.state };
+}
+
+impl Snapshot {
+    pub(crate) fn of(
+        alloc: Global,
+        state: Arc<State>,
+        filter: &Filter,
+    ) -> Result<Snapshot, AllocError>
+        ensures all { IfOk result (λ s. s.all ≡ arc_value state) }
+        ensures distinct { IfOk result (λ s. Distinct s.all) }
+        ensures events { IfOk result (λ s. s.events ≡ matching filter.now (arc_value state)) }
+        ensures items { IfOk result (λ s. IsPermutation (map item_of s.events) s.roll) }
+        ensures sorted { IfOk result (λ s. IsRoll s.roll) }
+    {
+        let all = state.events();
+        if leaves_none_out(filter) {
+            let events = all.share()?;
+            let roll = Arc::try_clone(state.roll())?;
+            roll.len();
+            return Ok(Snapshot {
+                state,
+                whole: true,
+                events,
+                roll,
+            });
+        }
+        let events = pick(alloc, &state, filter)?;
+        let roll = roll_of(alloc, &events)?;
+        roll.len();
+        let roll = Arc::new(alloc, roll)?;
+        Ok(Snapshot {
+            state,
+            whole: false,
+            events,
+            roll,
+        })
+    }
+
+    /// How many events were published.
+    pub fn front(&self) -> usize
+        ensures { result ≡ length self.now.all }
+    {
+        self.state.events().len()
+    }
+
+    /// The matching events, in the order in which they were published.
+    pub fn events(&self) -> &EventList
+        ensures { result.now ≡ self.now.events }
+    {
+        &self.events
+    }
+
+    /// Their items, in order.
+    pub fn roll(&self) -> &Roll
+        ensures { result.now ≡ self.now.roll }
+    {
+        &self.roll
+    }
+
+    /// The places in `events` of those that the filters choose, in the order in which they are sent: each filter chooses the newest
+    /// that it matches, as many as the lesser of its limit and 5,000, and each event comes once. Where nothing was left out of the
+    /// snapshot, a filter with ids looks these up, and each other one reads from the newest event on until it has its number.
+    pub fn choose(&self, alloc: Global, filters: &[Filter]) -> Result<Vec<usize>, AllocError>
+        ensures { (events : List (AnArc EventView AGlobal)) → map arc_value events ≡ self.now.events → IfOk result (λ v. v.items ≡ chosen filters.now events) }
+    {
+        if self.whole {
+            choose_of(alloc, &self.state, filters)
+        } else {
+            choose_among(alloc, &self.events, filters)
+        }
+    }
+}
+
+fn roll_of(alloc: Global, events: &EventList) -> Result<Roll, AllocError>
+    ensures { IfOk result (λ r. IsPermutation (map item_of events.now) r) }
+{
+    let mut items = Vec::with_capacity(alloc, events.len())?;
+    for place in 0..events.len() {
+        items.push(events.get(place).item())?;
+    }
+    Roll::from_items(alloc, items.as_slice()).map_err(|_| AllocError)
+}
