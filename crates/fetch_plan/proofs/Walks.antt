@@ -15,9 +15,6 @@ pub record Walking (offers : List (Id × List ℕ)) (old reached turns : List �
   pub moved : IsMoved old now here end
   pub kept : AreOffered offers now
 
-pub walking_none : (offers : List (Id × List ℕ)) (old reached turns : List ℕ) (end : ℕ) → is_among reached end ≡ true → AreOffered offers old → Walking offers old reached turns end old end
-walking_none offers old reached turns end known kept = record { known = known; untouched = λ k lt. refl; moved = λ r. refl; kept = kept }
-
 module _ (offers : List (Id × List ℕ)) (old : List ℕ) (beyond : List (List ℕ)) (loads : List ℕ) (most : ℕ) (reached froms turns : List ℕ) (turn end : ℕ) (now : List ℕ) (here : ℕ) (is_beyond : IsBeyond offers old (length old) beyond)
     (reach : AreReached beyond loads most reached froms turns turn) (long : length now ≡ length old) (h : Walking offers old reached turns end now here) (low : at loads here < most) where
   pub way : IsWay beyond reached froms turns here

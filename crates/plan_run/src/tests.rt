@@ -309,9 +309,19 @@ fn plans_over_bases(rt: HostRuntime) -> Result<(), Fail> {
             &["base 0 2", "offer a 0 1", "give a 1", "group 0"],
             "least 2\n",
         ),
-        (&["base 7 9", "group"], &["base 7 9", "group 7"], "least 9\n"),
         (
-            &["base 0 5", "base 255 1", "offer a 0 1", "offer b 0 255", "group"],
+            &["base 7 9", "group"],
+            &["base 7 9", "group 7"],
+            "least 9\n",
+        ),
+        (
+            &[
+                "base 0 5",
+                "base 255 1",
+                "offer a 0 1",
+                "offer b 0 255",
+                "group",
+            ],
             &[
                 "base 0 5",
                 "base 255 1",
@@ -336,7 +346,13 @@ fn plans_over_bases(rt: HostRuntime) -> Result<(), Fail> {
     assert!(rt; same);
     let three = based_text(
         alloc,
-        &["base 0 2", "offer a 0 1", "offer b 0 1", "offer c 0 1", "group"],
+        &[
+            "base 0 2",
+            "offer a 0 1",
+            "offer b 0 1",
+            "offer c 0 1",
+            "group",
+        ],
     )?;
     let got = planned(alloc, three.as_str())?;
     assert!(rt; got.as_str().ends_with("group 0 1\n"));
