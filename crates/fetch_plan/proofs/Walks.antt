@@ -1,5 +1,5 @@
 -- A walk back along ways, which moves one id at each.
-use Rattle.std.proofs.Common.{◌≡◌, ◌≢◌, ℕ, ◌+◌, ◌<◌, ◌≤◌, ◌==◌, true, cond, List, length, get_or, set, refl, sym, ap, ◌∙◌, subst, arith, inl, inr}
+use Rattle.std.proofs.Common.{◌≡◌, ◌≢◌, ℕ, ◌+◌, ◌<◌, ◌≤◌, ◌==◌, true, cond, List, length, get_or, set, sym, ap, ◌∙◌, subst, arith, inl, inr}
 use Rattle.sharing.specs.declared.TheConstants.{RELAYS}
 use Rattle.std.proofs.lemmas.List.{length-set, get_or-set_other}
 use Rattle.sharing.specs.Sharing.{is_among}
