@@ -139,6 +139,27 @@ fn events_are_refused_in_order(rt: HostRuntime) -> Result<(), Fail> {
 }
 
 #[test]
+fn an_id_goes_where_the_base_is_less(rt: HostRuntime) -> Result<(), Fail> {
+    let alloc = rt.alloc();
+    let events = [
+        RoundEvent::Report(0, ids(alloc, &[A])?),
+        RoundEvent::Report(1, ids(alloc, &[A])?),
+        RoundEvent::Seal(with_base(0, 2)),
+        RoundEvent::Claim(0, 0),
+        RoundEvent::Claim(1, 0),
+    ];
+    let answers = [
+        Answer::Taken,
+        Answer::Taken,
+        Answer::Sealed(2),
+        Answer::Refused(Refusal::OtherRelay),
+        Answer::Won,
+    ];
+    assert!(rt; are_answered(alloc, &[0, 1], &events, &answers)?);
+    Ok(())
+}
+
+#[test]
 fn a_missed_id_goes_to_another_relay(rt: HostRuntime) -> Result<(), Fail> {
     let alloc = rt.alloc();
     let events = [
