@@ -191,6 +191,7 @@ stays d le = ap (λ (b : Bool). record { limit = d.limit; spans = d.spans; end =
 pub read_until : (limit : ℕ) (a : List Item) (front back : List Span) (until : Item) (old f : Findings) (d : Written) → Ascends least (front ++ back) → All IsSpan (front ++ back) → Stepped limit a (front ++ back) front until old f d
     → place infinity ≤ place d.end → IsRead limit a (front ++ back) old f until d
 read_until limit a front back until old f d up fits s over = record {
+  ascends = up;
   bytes = s.bytes;
   found = s.found;
   covers = subst (λ (w : Written). Covers (IsTrueOf a) (MayDrop a (front ++ back) until f) (MustDrop a (front ++ back)) w) (stays d over) s.covers;
@@ -215,14 +216,15 @@ read_until limit a front back until old f d up fits s over = record {
     all_back P (x ∷ xs) ys h = all_back P xs ys (All-tail P x (xs ++ ys) h)
 
 -- or to its end
-pub read_whole : (limit : ℕ) (a : List Item) (answered : List Span) (old f : Findings) (d : Written) → IsDraft d → Progress limit a answered answered old f d → IsRead limit a answered old f infinity d
-read_whole limit a answered old f d draft was =
+pub read_whole : (limit : ℕ) (a : List Item) (answered : List Span) (old f : Findings) (d : Written) → Ascends least answered → IsDraft d → Progress limit a answered answered old f d → IsRead limit a answered old f infinity d
+read_whole limit a answered old f d up draft was =
     let now : Covers (IsTrueOf a) (MayDrop a answered infinity f) (MustDrop a answered) d = record {
       told = was.covers.told;
       may = λ k key lt out. further a answered (end_of least answered) infinity f k (omega (arith, was.reached, draft.low)) (was.covers.may k key lt out);
       must = was.covers.must;
     } in
     record {
+      ascends = up;
       bytes = was.bytes;
       found = was.found;
       covers = covers_passes (IsTrueOf a) (MayDrop a answered infinity f) (MustDrop a answered) d infinity draft draft.low now

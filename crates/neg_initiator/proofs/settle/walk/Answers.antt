@@ -79,8 +79,9 @@ loop-range-preserved c =
 pub returns-clause-read : goal.returns-clause-read
 returns-clause-read c =
     let le : length c.ranges-range-items.result.now ≤ c.loop-range.range-index = omega arith in
+    let up : Ascends least (map span_of c.ranges-range-items.result.now) = rw c.ranges-range-items.ensures.value c.ranges-range-items.ensures.ordered.ascends in
     rw (← c.ranges-range-items.ensures.value)
-    (read_whole c.args.limit c.args.roll.now (map span_of c.ranges-range-items.result.now) (findings_of c.args.found.now) (findings_of c.loop-range.found) c.loop-range.draft c.end.ensures.draft
+    (read_whole c.args.limit c.args.roll.now (map span_of c.ranges-range-items.result.now) (findings_of c.args.found.now) (findings_of c.loop-range.found) c.loop-range.draft up c.end.ensures.draft
     (rw (take_all c.loop-range.range-index c.ranges-range-items.result.now le) at c.loop-range.invariant.progress))
 
 pub returns-clause-most : goal.returns-clause-most
