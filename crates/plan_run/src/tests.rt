@@ -467,6 +467,11 @@ fn each_read_fails_in_turn(rt: HostRuntime) -> Result<(), Fail> {
     Ok(())
 }
 
+/// Whether just these bytes were written, and flushed.
+fn has_written(writer: &Narrow, want: &[u8]) -> bool {
+    writer.flushed == writer.taken.len() && writer.taken.as_slice() == want
+}
+
 #[test]
 fn each_write_fails_in_turn(rt: HostRuntime) -> Result<(), Fail> {
     let alloc = rt.alloc();
@@ -476,7 +481,7 @@ fn each_write_fails_in_turn(rt: HostRuntime) -> Result<(), Fail> {
         let done = run_plan(alloc, &mut text.as_str().as_bytes(), &mut writer);
         if n == 0 {
             assert_eq!(rt; done, Ok(()));
-            assert_eq!(rt; &writer.taken[..writer.flushed], text.as_str().as_bytes());
+            assert!(rt; has_written(&writer, text.as_str().as_bytes()));
         } else {
             assert_eq!(rt; done, Err(Refusal::Write), "write {n}");
         }
@@ -486,7 +491,7 @@ fn each_write_fails_in_turn(rt: HostRuntime) -> Result<(), Fail> {
         let done = run_check(alloc, &mut text.as_str().as_bytes(), &mut writer);
         if n == 0 {
             assert_eq!(rt; done, Ok(()));
-            assert_eq!(rt; &writer.taken[..writer.flushed], b"least 1\n".as_slice());
+            assert!(rt; has_written(&writer, b"least 1\n"));
         } else {
             assert_eq!(rt; done, Err(Refusal::Write), "write {n}");
         }
