@@ -10,14 +10,14 @@ use Rattle.neg_codec.specs.Keys.{place, least, infinity, IsKey}
 use Rattle.neg_codec.specs.Ranges.{Claim, skip, print, ids, Span, Stretch, stretches, Lies, IsSkip, Ascends, IsSpan}
 use Rattle.neg_codec.specs.Encoding.{text_of}
 use Rattle.item_roll.specs.Closed.{closed_from}
-use Rattle.item_roll.specs.Truth.{IsTrueOf, Meet}
-use Rattle.neg_draft.specs.Coverage.{begun_at, Written, end_of, passed, IsDraft, Covers, Whole, Cut, Told, HasKeys, gap, all_left}
+use Rattle.item_roll.specs.Truth.{IsTrueOf}
+use Rattle.neg_draft.specs.Coverage.{begun_at, Written, end_of, passed, IsDraft, Covers, Told, HasKeys, gap, all_left}
 use Rattle.neg_draft.proofs.Covering.{closed-append, edge_low, covers_none, covers_passes, covers_whole, covers_cut, end-append, stretch_of, beyond, told_whole, skipped_left_out, left_out_skipped, passed_place}
 use Rattle.neg_draft.proofs.Walking.{ascends_after}
 use Rattle.neg_initiator.specs.Session.{IsAnswered, NotAskedAgain}
 use Rattle.neg_initiator.specs.Settling.{Findings, AccountsFor, Finds, Settles}
 use Rattle.neg_initiator.specs.Settling as settling
-use Rattle.neg_initiator.specs.Trusting.{bounds_of, below, TrustsSkipped}
+use Rattle.neg_initiator.specs.Trusting.{TrustsSkipped}
 use Rattle.neg_initiator.specs.Walked.{IsBelow, MayDrop, MustDrop, Found, IsOver, Remains, IsRead}
 use Rattle.neg_initiator.proofs.Trusts.{earlier_above}
 use Rattle.neg_initiator.proofs.Step.{Accounts, Accounted}

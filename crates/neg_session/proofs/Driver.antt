@@ -24,7 +24,7 @@ use Rattle.neg_initiator.proofs.Ends.{settled_first, settled_last}
 use Rattle.neg_session.specs.Exchange.{Exchange, exchange, gained, answered_bytes}
 use Rattle.neg_session.specs.Explaining.{IsExplained, Explains}
 use Rattle.neg_session.specs.Asking.{Resumes, Linked, Chained, MayResume, MayAsk}
-use Rattle.neg_session.specs.Ran.{trusted_of, IsRight, LastAnswer, IsRefused, IsOffered, OffersMore, AsksForFew, EndsIn, IsShown, IsDue, Ran}
+use Rattle.neg_session.specs.Ran.{trusted_of, IsRight, LastAnswer, IsRefused, IsOffered, OffersMore, AsksForFew, IsShown, IsDue, Ran}
 use Rattle.neg_session.specs.Going.{Knows, IsRead, Going}
 use Rattle.neg_session.specs.Faults.{fault_of}
 use Rattle.neg_session.specs.declared.peer.PeerFault.{PeerFault}

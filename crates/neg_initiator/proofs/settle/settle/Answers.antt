@@ -1,6 +1,5 @@
-use Rattle.std.proofs.Common.{◌≡◌, List, map, refl, sym, ap, ◌∙◌}
-use Rattle.neg_codec.specs.Keys.{least}
-use Rattle.neg_codec.specs.Ranges.{Span, Ascends, edge_of}
+use Rattle.std.proofs.Common.{map, refl}
+use Rattle.neg_codec.specs.Ranges.{edge_of}
 use Rattle.neg_initiator.specs.Findings.{findings_of}
 use Rattle.neg_initiator.specs.Pairs.{pair_of}
 use Rattle.neg_initiator.specs.Settling.{Findings}

@@ -1,16 +1,15 @@
-use Rattle.std.proofs.Common.{◌≡◌, ◌<◌, ◌≤◌, List, [], ◌∷◌, length, map, take, refl, sym, ap, ◌∙◌, arith, Result, Err}
+use Rattle.std.proofs.Common.{◌≡◌, ◌<◌, ◌≤◌, [], ◌∷◌, length, map, take, refl, sym, ap, ◌∙◌, arith, Result, Err}
 use Rattle.std.proofs.lemmas.List.{take_all}
 use Rattle.neg_codec.specs.declared.Bound.{Bound}
 use Rattle.neg_codec.specs.Keys.{place, least}
-use Rattle.neg_codec.specs.Ranges.{Span, Ascends, edge_of, span_of}
+use Rattle.neg_codec.specs.Ranges.{Ascends, span_of}
 use Rattle.neg_draft.specs.declared.draft.Draft.{Draft}
 use Rattle.neg_draft.proofs.Covering.{end-append}
 use Rattle.neg_draft.proofs.Walking.{ranges_upto}
 use Rattle.neg_initiator.specs.Findings.{findings_of}
-use Rattle.neg_initiator.specs.Walked.{IsRead}
 use Rattle.neg_initiator.specs.declared.fault.InitFault.{InitFault}
 use Rattle.neg_initiator.specs.declared.fault.InitFault.TheVariants as fault
-use Rattle.neg_initiator.proofs.Stepping.{Stepped, progress_none, read_whole}
+use Rattle.neg_initiator.proofs.Stepping.{progress_none, read_whole}
 use Rattle.neg_initiator.proofs.Taking.{stepped_at, progress_at, read_at, too_many_at}
 use Rattle.neg_initiator.proofs.Trusts.{reaches_upper}
 use Rattle.neg_initiator.proofs.settle.walk.Goals as goal
