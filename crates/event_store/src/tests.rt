@@ -11,10 +11,8 @@ use nostr_filter::{Bytes32List, Filter};
 use serde_json::Value;
 use std::alloc::{AllocError, Global};
 use std::marker::Brand;
-use std::sync::atomic::{AtomicU64, Ordering};
 use std::sync::{Arc, Mutex, Wait};
 use std::test::*;
-use std::thread::{Threads, join};
 
 const KEY: &str = "0101010101010101010101010101010101010101010101010101010101010101";
 
@@ -313,23 +311,13 @@ fn insert_and_pin<J: Naming, D: Wait + Drop, R: Wait>(
 
 #[test]
 fn told_reader(rt: HostRuntime) -> Result<(), Fail> {
-    let seen = tells::<Brand, _, _>(&rt, &rt, rt.alloc(), Blank::new());
-    let (_, told) = seen.unwrap_or((1, 0));
-    assert_eq!(rt; told, 100);
+    let told = tells::<Brand, _, _>(&rt, &rt, rt.alloc(), Blank::new());
+    assert_eq!(rt; told, Some((0, 100)));
     Ok(())
 }
 
-#[test]
-fn snapshots_while_events_come(rt: HostRuntime) -> Result<(), Fail> {
-    let seen = tells::<Brand, _, _>(&rt, &rt, rt.alloc(), Blank::new());
-    let (back, _) = seen.unwrap_or((1, 0));
-    assert_eq!(rt; back, 0);
-    Ok(())
-}
-
-// While one thread inserts a hundred events, another pins: how many of its snapshots aren't a beginning of the next, and how many
-// events a reader then has that learnt the last.
-fn tells<J: Naming + Send + Sync, D: Wait + Drop + Send, R: Threads + Wait + Sync>(
+// How many pins went back while events were inserted, and how many events another reader has that learnt the last.
+fn tells<J: Naming, D: Wait + Drop, R: Wait>(
     rt: &R,
     keep: D,
     alloc: Global,
@@ -340,46 +328,31 @@ fn tells<J: Naming + Send + Sync, D: Wait + Drop + Send, R: Threads + Wait + Syn
 {
     let (mut desk, mut readers) = open_store::<J, D>(keep, alloc, blank, 2).ok()?;
     let mut told = readers.pop()?;
-    let mut watcher = readers.pop()?;
-    let stop = AtomicU64::new(0);
-    let (last, back) = join(
-        rt,
-        || fill(rt, alloc, &mut desk, &stop),
-        || watch(alloc, &mut watcher, &stop),
-    );
-    told.learn(&last?);
+    let (last, back) = watched(rt, alloc, &mut desk, &mut readers.pop()?)?;
+    told.learn(&last);
     let all = told.pin(alloc, &Filter::all()).ok()?;
-    Some((back?, all.events().len()))
+    Some((back, all.events().len()))
 }
 
-// Inserts a hundred events, and answers the last.
-fn fill<J: Naming, D: Wait + Drop, R: Wait>(
+// Inserts a hundred events, and pins after each: the last one, and how many pins aren't a beginning of the next.
+fn watched<J: Naming, D: Wait + Drop, R: Wait>(
     rt: &R,
     alloc: Global,
     desk: &mut Desk<J, D>,
-    stop: &AtomicU64,
-) -> Option<Placed<J>> {
-    let last = insert_all(rt, alloc, desk, 0, 100);
-    stop.store(1, Ordering::SeqCst);
-    last
-}
-
-// Pins until it is told to stop, and counts the snapshots that aren't a beginning of the next, or none where a pin failed.
-fn watch<J: Naming>(alloc: Global, reader: &mut Reader<J>, stop: &AtomicU64) -> Option<u64> {
+    reader: &mut Reader<J>,
+) -> Option<(Placed<J>, u64)> {
     let mut back = 0u64;
+    let mut placed = insert_all(rt, alloc, desk, 0, 1)?;
     let mut last = reader.pin(alloc, &Filter::all()).ok()?;
-    for _ in 0..u64::MAX {
-        let done = stop.load(Ordering::SeqCst) == 1;
+    for number in 1..100 {
+        placed = insert_all(rt, alloc, desk, number, 1)?;
         let next = reader.pin(alloc, &Filter::all()).ok()?;
         if !begins(last.events(), next.events()) {
             back = back.wrapping_add(1);
         }
         last = next;
-        if done {
-            break;
-        }
     }
-    Some(back)
+    Some((placed, back))
 }
 
 fn begins(first: &EventList, next: &EventList) -> bool {

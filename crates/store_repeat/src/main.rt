@@ -84,7 +84,7 @@ fn inserted<J: Naming, D: Wait + Drop, R: Wait>(
     for event in events {
         let placed = match desk.insert(rt, event) {
             Ok(placed) => Some(placed),
-            Err((_, event)) => insert_again(rt, alloc, desk, reader, event, fresh),
+            Err((_fault, event)) => insert_again(rt, alloc, desk, reader, event, fresh),
         };
         if placed.is_some_and(|placed| placed.is_fresh()) {
             fresh = fresh.saturating_add(1);
@@ -194,14 +194,15 @@ fn run<J: Naming, D: Wait + Drop, R: Wait + CpuClock>(
     requires most { J.most ≡ 1000000 }
 {
     let (mut desk, mut readers) = open_store::<J, D>(keep, alloc, blank, 1).ok()?;
-    let mut rows = Vec::new(alloc);
+    let mut reader = readers.pop()?;
+    let mut rows = Vec::with_capacity(alloc, 8).ok()?;
     let times = events.len();
     let start = rt.process_cpu_time().ok()?;
-    let fresh = inserted(rt, &mut desk, events)?;
+    let fresh = inserted(rt, alloc, &mut desk, &mut reader, events);
     rows.push(measured(rt, "insert", times, fresh, start)?)
         .ok()?;
     if is_whole {
-        reads(rt, alloc, &mut readers.pop()?, &mut rows)?;
+        reads(rt, alloc, &mut reader, &mut rows)?;
     }
     Some(rows)
 }
