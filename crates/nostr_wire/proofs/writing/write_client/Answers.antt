@@ -16,4 +16,4 @@ pub returns-clause-reads_back : goal.returns-clause-reads_back
 returns-clause-reads_back c =
     let same : view c.in_ok-value.value ≡ array_of (client_form c.args.message.now) = c.in_ok-value.ensures.value in
     let plain = array_of-plain (client_form c.args.message.now) in
-    (view c.in_ok-value.value, (c.in_ok-text.ensures.reads_back (rw same plain.1), c.in_ok-value.ensures.message))
+    (view c.in_ok-value.value, c.in_ok-text.ensures.reads_back (rw same plain.1), c.in_ok-value.ensures.message)

@@ -10,4 +10,4 @@ returns-clause-reads_back c =
     let digits : c.as_str.result.now ≡ encode_lower c.args.self.now = search rules in
     let bytes : IsBytes c.args.self.now = subst IsBytes c.as_slice.ensures c.read_each.ensures in
     let back : decode_of (encode_lower c.args.self.now) ≡ Ok c.args.self.now = decode_of-encode_lower c.args.self.now bytes in
-    IfOk-weaker c.try_from_str.result _ _ (λ v is. (encode_lower c.args.self.now, (is ∙ ap string digits, back))) c.try_from_str.ensures
+    IfOk-weaker c.try_from_str.result _ _ (λ v is. (encode_lower c.args.self.now, is ∙ ap string digits, back)) c.try_from_str.ensures
