@@ -1,0 +1,4 @@
+pub mod Elements
+pub mod Forms
+pub mod Reading
+pub mod Writing

@@ -1,0 +1,254 @@
+// Messages read from their texts.
+ghost use Rattle.std.specs.Prelude.{◌≡◌, ◌≢◌, ◌⊎◌, ◌∷◌, [], Some, None, true, map, IfOk, IfErr, IfSome};
+ghost use Rattle.std.specs.List.{list_all};
+ghost use Rattle.serde_json.specs.Read.{read};
+ghost use Rattle.serde_json.specs.View.{view};
+ghost use Rattle.nostr_wire.specs.declared.fault.WireFault.{WireFault};
+ghost use Rattle.nostr_wire.specs.Elements.{a_filter, has_type, sub, filter};
+ghost use Rattle.nostr_wire.specs.Forms.{Form, client_form, relay_form, client_table, relay_table, request_parts};
+ghost use Rattle.nostr_wire.specs.Reading.{name_in, behind_name, AreRead, IsMessage, Reads, AreRefused, IsRefused, Refuses};
+
+use crate::elements::Element;
+use crate::fault::WireFault;
+use crate::lists::{Filters, Sub};
+use crate::messages::{FromClient, FromRelay};
+use nostr_filter::Filter;
+use serde_json::Value;
+use std::alloc::Global;
+
+// The first element, if it is a string, and those behind it.
+fn name_and_rest(value: &Value) -> Option<(&str, &[Value])>
+    ensures found { IfSome result (λ p. (name_in (view value.now) ≡ Some p.0.now) × (behind_name (view value.now) ≡ map view p.1.now)) }
+    ensures none { result ≡ None → name_in (view value.now) ≡ None }
+{
+    let Some(list) = value.as_array() else {
+        return None;
+    };
+    let [first, rest @ ..] = list.as_slice() else {
+        return None;
+    };
+    match first.as_str() {
+        Some(name) => Some((name, rest)),
+        None => None,
+    }
+}
+
+// What the only element says.
+fn one<A: Element + Drop>(alloc: Global, rest: &[Value]) -> Result<A, WireFault>
+    ensures ok { IfOk result (λ a. AreRead (A.part ∷ []) (A.said a ∷ []) (map view rest.now)) }
+    ensures err { IfErr result (λ f. (f ≡ WireFault.Memory) ⊎ AreRefused (A.part ∷ []) (map view rest.now) f) }
+{
+    let [first, ..] = rest else {
+        return Err(WireFault::Arity);
+    };
+    if !A::fits(first) {
+        return Err(WireFault::Arity);
+    }
+    let first = A::read(alloc, first)?;
+    Ok(first)
+}
+
+// What the two elements say.
+fn two<A: Element + Drop, B: Element + Drop>(
+    alloc: Global,
+    rest: &[Value],
+) -> Result<(A, B), WireFault>
+    ensures ok { IfOk result (λ p. AreRead (A.part ∷ B.part ∷ []) (A.said p.0 ∷ B.said p.1 ∷ []) (map view rest.now)) }
+    ensures err { IfErr result (λ f. (f ≡ WireFault.Memory) ⊎ AreRefused (A.part ∷ B.part ∷ []) (map view rest.now) f) }
+{
+    let [first, second, ..] = rest else {
+        return Err(WireFault::Arity);
+    };
+    if !A::fits(first) || !B::fits(second) {
+        return Err(WireFault::Arity);
+    }
+    let first = A::read(alloc, first)?;
+    let second = B::read(alloc, second)?;
+    Ok((first, second))
+}
+
+// What the three elements say.
+fn three<A: Element + Drop, B: Element + Drop, C: Element + Drop>(
+    alloc: Global,
+    rest: &[Value],
+) -> Result<(A, B, C), WireFault>
+    ensures ok { IfOk result (λ p. AreRead (A.part ∷ B.part ∷ C.part ∷ []) (A.said p.0 ∷ B.said p.1 ∷ C.said p.2 ∷ []) (map view rest.now)) }
+    ensures err { IfErr result (λ f. (f ≡ WireFault.Memory) ⊎ AreRefused (A.part ∷ B.part ∷ C.part ∷ []) (map view rest.now) f) }
+{
+    let [first, second, third, ..] = rest else {
+        return Err(WireFault::Arity);
+    };
+    if !A::fits(first) || !B::fits(second) || !C::fits(third) {
+        return Err(WireFault::Arity);
+    }
+    let first = A::read(alloc, first)?;
+    let second = B::read(alloc, second)?;
+    let third = C::read(alloc, third)?;
+    Ok((first, second, third))
+}
+
+// Whether each value is an object.
+fn are_objects(values: &[Value]) -> bool
+    ensures { result ≡ list_all (λ v. has_type a_filter (view v)) values.now }
+{
+    values.iter().all(|value| value.is_object())
+}
+
+// The filters that the objects are.
+fn filters_of(alloc: Global, values: &[Value]) -> Result<Vec<Filter>, WireFault>
+    requires { list_all (λ v. has_type a_filter (view v)) values.now ≡ true }
+    ensures ok { IfOk result (λ v. AreRead (map (λ _. a_filter) values.now) (map filter v.items) (map view values.now)) }
+    ensures err { IfErr result (λ f. (f ≡ WireFault.Memory) ⊎ AreRefused (map (λ _. a_filter) values.now) (map view values.now) f) }
+{
+    let mut filters = Vec::new(alloc);
+    for value in values {
+        filters.push(Filter::read(alloc, value)?)?;
+    }
+    Ok(filters)
+}
+
+// The name of a subscription, and one filter or more.
+fn request(alloc: Global, rest: &[Value]) -> Result<(Sub, Filters), WireFault>
+    ensures ok { IfOk result (λ p. AreRead (request_parts (map view rest.now)) (sub p.0 ∷ map filter p.1) (map view rest.now)) }
+    ensures err { IfErr result (λ f. (f ≡ WireFault.Memory) ⊎ AreRefused (request_parts (map view rest.now)) (map view rest.now) f) }
+{
+    let [first, filters @ ..] = rest else {
+        return Err(WireFault::Arity);
+    };
+    if filters.is_empty() || !Sub::fits(first) || !are_objects(filters) {
+        return Err(WireFault::Arity);
+    }
+    let sub = Sub::read(alloc, first)?;
+    match Filters::new(filters_of(alloc, filters)?) {
+        Ok(filters) => Ok((sub, filters)),
+        Err(_) => unreachable!(),
+    }
+}
+
+fn client_of(alloc: Global, value: &Value) -> Result<FromClient, WireFault>
+    ensures ok { IfOk result (λ m. IsMessage client_table (view value.now) (client_form m)) }
+    ensures err { IfErr result (λ f. (f ≡ WireFault.Memory) ⊎ IsRefused client_table (view value.now) f) }
+{
+    let Some((name, rest)) = name_and_rest(value) else {
+        return Err(WireFault::Kind);
+    };
+    match name {
+        "EVENT" => Ok(FromClient::Event(one(alloc, rest)?)),
+        "REQ" => {
+            let (sub, filters) = request(alloc, rest)?;
+            Ok(FromClient::Req { sub, filters })
+        }
+        "CLOSE" => Ok(FromClient::Close {
+            sub: one(alloc, rest)?,
+        }),
+        "NEG-OPEN" => {
+            let (sub, filter, message) = three(alloc, rest)?;
+            Ok(FromClient::NegOpen {
+                sub,
+                filter,
+                message,
+            })
+        }
+        "NEG-MSG" => {
+            let (sub, message) = two(alloc, rest)?;
+            Ok(FromClient::NegMsg { sub, message })
+        }
+        "NEG-CLOSE" => Ok(FromClient::NegClose {
+            sub: one(alloc, rest)?,
+        }),
+        _ => Err(WireFault::Kind),
+    }
+}
+
+fn relay_of(alloc: Global, value: &Value) -> Result<FromRelay, WireFault>
+    ensures ok { IfOk result (λ m. IsMessage relay_table (view value.now) (relay_form m)) }
+    ensures err { IfErr result (λ f. (f ≡ WireFault.Memory) ⊎ IsRefused relay_table (view value.now) f) }
+{
+    let Some((name, rest)) = name_and_rest(value) else {
+        return Err(WireFault::Kind);
+    };
+    match name {
+        "EVENT" => {
+            let (sub, event) = two(alloc, rest)?;
+            Ok(FromRelay::Event { sub, event })
+        }
+        "OK" => {
+            let (id, taken, text) = three(alloc, rest)?;
+            Ok(FromRelay::Okay { id, taken, text })
+        }
+        "EOSE" => Ok(FromRelay::Eose {
+            sub: one(alloc, rest)?,
+        }),
+        "CLOSED" => {
+            let (sub, text) = two(alloc, rest)?;
+            Ok(FromRelay::Closed { sub, text })
+        }
+        "NOTICE" => Ok(FromRelay::Notice {
+            text: one(alloc, rest)?,
+        }),
+        "NEG-MSG" => {
+            let (sub, message) = two(alloc, rest)?;
+            Ok(FromRelay::NegMsg { sub, message })
+        }
+        "NEG-ERR" => {
+            let (sub, reason) = two(alloc, rest)?;
+            Ok(FromRelay::NegErr { sub, reason })
+        }
+        _ => Err(WireFault::Kind),
+    }
+}
+
+// The value of the text.
+fn value_of(alloc: Global, text: &str) -> Result<Value, WireFault>
+    ensures ok { IfOk result (λ v. read text.now ≡ Some (view v)) }
+    ensures err { IfErr result (λ f. (f ≡ WireFault.Memory) ⊎ ((f ≡ WireFault.Json) × (read text.now ≡ None))) }
+{
+    match Value::from_str(alloc, text) {
+        Ok(value) => Ok(value),
+        Err(error) => Err(if error.is_memory() {
+            WireFault::Memory
+        } else {
+            WireFault::Json
+        }),
+    }
+}
+
+fn client_text(alloc: Global, text: &str) -> Result<FromClient, WireFault>
+    ensures ok { IfOk result (λ m. Reads client_table text.now (client_form m)) }
+    ensures err { IfErr result (λ f. Refuses client_table text.now f) }
+{
+    let value = value_of(alloc, text)?;
+    let message = client_of(alloc, &value)?;
+    Ok(message)
+}
+
+fn relay_text(alloc: Global, text: &str) -> Result<FromRelay, WireFault>
+    ensures ok { IfOk result (λ m. Reads relay_table text.now (relay_form m)) }
+    ensures err { IfErr result (λ f. Refuses relay_table text.now f) }
+{
+    let value = value_of(alloc, text)?;
+    let message = relay_of(alloc, &value)?;
+    Ok(message)
+}
+
+/// What a client says in the text, or the text's first fault.
+pub fn read_client(alloc: Global, text: &str) -> Result<FromClient, WireFault>
+    ensures message { IfOk result (λ m. Reads client_table text.now (client_form m)) }
+    ensures no_other { IfOk result (λ m. (other : Form) → Reads client_table text.now other → other ≡ client_form m) }
+    ensures fault { IfErr result (λ f. Refuses client_table text.now f) }
+    ensures no_message { IfErr result (λ f. f ≢ WireFault.Memory → (m : Form) → ¬ Reads client_table text.now m) }
+{
+    let read = client_text(alloc, text);
+    read
+}
+
+/// What a relay says in the text, or the text's first fault.
+pub fn read_relay(alloc: Global, text: &str) -> Result<FromRelay, WireFault>
+    ensures message { IfOk result (λ m. Reads relay_table text.now (relay_form m)) }
+    ensures no_other { IfOk result (λ m. (other : Form) → Reads relay_table text.now other → other ≡ relay_form m) }
+    ensures fault { IfErr result (λ f. Refuses relay_table text.now f) }
+    ensures no_message { IfErr result (λ f. f ≢ WireFault.Memory → (m : Form) → ¬ Reads relay_table text.now m) }
+{
+    let read = relay_text(alloc, text);
+    read
+}
