@@ -1,8 +1,8 @@
 //! `store_repeat`: puts events into a store and reads them, for measuring. It reads events from standard input, one JSON
 //! object a line, and inserts them. With the word `reads` it then pins all of them, those of a hundred ids, of a day and of
 //! a kind, and chooses the newest hundred. It prints how many events each of these gives, and tells on standard error how
-//! often it did it and the processor time of all in microseconds. With each allocation refused in turn (`rt try
-//! --fail-alloc 1..`), it shows that an insert that is refused leaves no trace and that the next one goes through.
+//! often it did it and the processor time of all in microseconds. An insert that is refused is made once more, so that a
+//! run with allocations refused shows whether it left a trace and whether the next one goes through.
 #![tactic(auto)]
 
 ghost use Rattle.std.specs.Prelude.{◌≡◌};
