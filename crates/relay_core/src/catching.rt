@@ -1,5 +1,5 @@
 //! What was published since the subscriptions were last served.
-ghost use Rattle.std.specs.Prelude.{◌≡◌, ◌≤◌, ◌++◌, map, length, IfOk, OnOk};
+ghost use Rattle.std.specs.Prelude.{◌≡◌, ◌≤◌, ◌∷◌, ◌++◌, [], map, length, IfOk, OnOk};
 ghost use Rattle.std.specs.List.{AllByRecursion};
 ghost use Rattle.std.specs.Arc.{arc_value};
 ghost use mathlib.Core.List.{IsPrefix};
@@ -43,6 +43,22 @@ fn is_due(sub: &Subscription, place: usize, event: &Event) -> bool
             .any(|filter| filter.matches(event))
 }
 
+// Puts the event at the place behind the others, if it is due to the subscription.
+fn put_if_due(
+    out: &mut Vec<FromRelay>,
+    alloc: Global,
+    sub: &Subscription,
+    place: usize,
+    event: &Arc<Event>,
+) -> Result<(), AllocError>
+    ensures { OnOk result (map relay_form out.new.items ≡ map relay_form out.old.items ++ sent_at place (arc_value event.now) (sub.now ∷ [])) }
+{
+    if is_due(sub, place, event) {
+        out.push(event_for(alloc, &sub.name, event)?)?;
+    }
+    Ok(())
+}
+
 // Puts the event at the place behind the others, once for each subscription that it is due to.
 fn put_due(
     out: &mut Vec<FromRelay>,
@@ -54,9 +70,7 @@ fn put_due(
     ensures { OnOk result (map relay_form out.new.items ≡ map relay_form out.old.items ++ sent_at place (arc_value event.now) subs.now) }
 {
     for sub in subs {
-        if is_due(sub, place, event) {
-            out.push(event_for(alloc, &sub.name, event)?)?;
-        }
+        put_if_due(out, alloc, sub, place, event)?;
     }
     Ok(())
 }

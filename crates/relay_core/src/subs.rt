@@ -1,7 +1,7 @@
 //! Subscriptions, in the byte order of their names.
-ghost use Rattle.std.specs.Prelude.{◌≡◌, ◌≤◌, false, length, bytes_eq, OnOk, OnErr};
-ghost use Rattle.std.specs.List.{list_any};
-ghost use Rattle.relay_core.specs.Kept.{is_before, other_subs, put as put_in_place, InOrder};
+ghost use Rattle.std.specs.Prelude.{◌≡◌, ◌≤◌, length, OnOk};
+ghost use Rattle.std.specs.List.{insert};
+ghost use Rattle.relay_core.specs.Kept.{is_before, other_subs, put as put_in_place};
 ghost use Rattle.relay_core.specs.Due.{marked};
 
 use nostr_wire::{Filters, Sub};
@@ -25,7 +25,8 @@ pub fn end(subs: &mut Vec<Subscription>, name: &Sub)
 
 // The first place whose name is above this one.
 fn place_of(subs: &[Subscription], name: &Sub) -> usize
-    ensures { result ≤ length subs.now }
+    ensures within { result ≤ length subs.now }
+    ensures put { (s : Subscription) → s.name ≡ name.now → insert subs.now result s ≡ put_in_place s subs.now }
 {
     for place in 0..subs.len() {
         if is_below(name, &subs[place].name) {
@@ -54,7 +55,7 @@ pub fn put(subs: &mut Vec<Subscription>, sub: Subscription) -> Result<(), AllocE
 pub fn mark_all(subs: &mut [Subscription], front: usize)
     ensures { subs.new ≡ marked front subs.old }
 {
-    for sub in subs {
+    for sub in subs.iter_mut() {
         sub.mark = front;
     }
 }

@@ -4,7 +4,9 @@ ghost use Rattle.std.specs.Prelude.{◌≡◌, ◌≤◌};
 
 use super::*;
 use event_store::{Blank, Desk, Naming, Reader, open_store};
-use neg_codec::{CodecFault, Id, decode};
+use item_roll::Roll;
+use neg_codec::{CodecFault, Id, Item, decode};
+use neg_responder::answer;
 use nostr_event::{Draft, Event, Spelling, Tags, Text, id_of};
 use nostr_wire::{FromClient, FromRelay, write_client, write_relay};
 use serde_json::Value;
@@ -380,5 +382,106 @@ fn scripts(rt: HostRuntime) -> Result<(), Fail> {
         let steps = played::<Brand, _, _>(&rt, &rt, alloc, Blank::new(), limits, script);
         assert_eq!(rt; (name, steps), (name, Some(script.len())));
     }
+    Ok(())
+}
+
+/// Whether a message is answered, and not refused as a bad one.
+fn is_answered(out: &[FromRelay]) -> Option<bool> {
+    match out {
+        [FromRelay::NegMsg { .. }] => Some(true),
+        [FromRelay::NegErr { sub: _, reason }] if reason.as_str() == "invalid: bad message" => {
+            Some(false)
+        }
+        _ => None,
+    }
+}
+
+/// Whether a session is answered and ended as it should be, where its first message is this one, and where its second is.
+fn is_right<J: Naming>(
+    alloc: Global,
+    reader: &mut Reader<J>,
+    conn: &mut Conn,
+    query: &[u8],
+) -> Option<bool> {
+    let good = match decode(alloc, query) {
+        Ok(_) | Err(CodecFault::Version(_)) => true,
+        Err(_) => false,
+    };
+    let hex = hex::encode(alloc, query).ok()?;
+    let open = format!(in alloc; "[\"NEG-OPEN\",\"s\",{{}},\"{hex}\"]").ok()?;
+    let next = format!(in alloc; "[\"NEG-MSG\",\"s\",\"{hex}\"]").ok()?;
+    let first = conn.serve(reader, open.as_str()).ok()?;
+    let after = conn.serve(reader, PLAIN).ok()?;
+    conn.serve(reader, r##"["NEG-OPEN","s",{},"61"]"##).ok()?;
+    let second = conn.serve(reader, next.as_str()).ok()?;
+    let behind = conn.serve(reader, PLAIN).ok()?;
+    let stays = is_answered(after.out.as_slice()) == Some(true);
+    let goes_on = is_answered(behind.out.as_slice()) == Some(true);
+    Some(
+        is_answered(first.out.as_slice()) == Some(good)
+            && is_answered(second.out.as_slice()) == Some(good)
+            && stays == good
+            && goes_on == good,
+    )
+}
+
+const PLAIN: &str = r##"["NEG-MSG","s","61"]"##;
+
+/// How many of the message's beginnings, itself among them, are answered as they should be.
+fn fronts<J: Naming, D: Wait + Drop>(
+    keep: D,
+    alloc: Global,
+    blank: Blank,
+    whole: &[u8],
+) -> Option<usize>
+    requires book { blank ≡ J.book }
+    requires most { J.most ≡ 1000000 }
+{
+    let (_desk, mut readers) = open_store::<J, D>(keep, alloc, blank, 1).ok()?;
+    let mut reader = readers.pop()?;
+    let mut conn = Conn::new(alloc, RelayLimits::default());
+    let mut right = 0;
+    for len in 0..=whole.len() {
+        if is_right(alloc, &mut reader, &mut conn, &whole[..len])? {
+            right += 1;
+        }
+    }
+    Some(right)
+}
+
+/// Messages of which some are bad, and some have bad beginnings.
+static BAD: [&str; 6] = [
+    "6100000000",
+    "61060002010101010101010101010101010101010101010101010101010101010101010101",
+    "610601020001010100",
+    "610601020001010200",
+    "610001ff00",
+    "6200000200",
+];
+
+/// 400 items of distinct ids at the times from 0 on.
+fn many(alloc: Global) -> Result<Roll, Fail> {
+    let mut items = Vec::new(alloc);
+    for time in 0..400 {
+        let mut id = [7; 32];
+        id[0] = (time % 256) as u8;
+        id[1] = (time / 256) as u8;
+        items.push(Item { time, id: Id(id) })?;
+    }
+    Ok(Roll::from_items(alloc, &items)?)
+}
+
+#[test]
+fn bad_messages(rt: HostRuntime) -> Result<(), Fail> {
+    let alloc = rt.alloc();
+    for text in BAD {
+        let whole = hex::decode(alloc, text.as_bytes())?;
+        let right = fronts::<Brand, _>(&rt, alloc, Blank::new(), &whole);
+        assert_eq!(rt; (text, right), (text, Some(whole.len() + 1)));
+    }
+    let reply = answer(alloc, &many(alloc)?, b"\x61\x00\x00\x02\x00", 4_096)?;
+    assert_eq!(rt; reply.len(), 3_992);
+    let right = fronts::<Brand, _>(&rt, alloc, Blank::new(), &reply);
+    assert_eq!(rt; right, Some(3_993));
     Ok(())
 }

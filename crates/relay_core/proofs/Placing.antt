@@ -1,0 +1,121 @@
+-- Subscriptions in the order of their names.
+use Rattle.std.proofs.Common.{◌≡◌, ℕ, zero, suc, ◌+◌, ◌<◌, ◌≤◌, ◌||◌, Bool, true, false, true≢false, cond, List, [], ◌∷◌, ◌++◌, length, get_or, take, drop, map, refl, ap, sym, subst, ◌∙◌, arith, tt, ⊥, absurd}
+use Rattle.std.specs.Prelude.{filter, bytes_eq, not}
+use Rattle.std.specs.List.{list_any, AllByRecursion, insert}
+use Rattle.std.specs.Ordering.{nat_cmp, is_lt, ordering_reverse}
+use Rattle.std.specs.Cmp.Lexicographic.{slice_cmp}
+use Rattle.std.specs.declared.cmp.Ordering.{Ordering}
+use Rattle.std.specs.declared.cmp.Ordering.TheVariants.{Less, Equal, Greater}
+use Rattle.std.proofs.lemmas.Cmp.{nat_list_cmp_total}
+use Rattle.std.proofs.lemmas.Map.Lookups.{exact_bytes}
+use Rattle.std.proofs.lemmas.Slice.Eq.{bytes_eq-Decides}
+use Rattle.relay_core.specs.declared.subs.Subscription.{Subscription}
+use Rattle.relay_core.specs.Kept.{is_before, InOrder, put, other_subs}
+use Rattle.relay_core.specs.Due.{marked}
+
+-- ---- the order of names
+
+less_is : (o : Ordering) → is_lt o ≡ true → o ≡ Less
+less_is Less h = refl
+less_is Equal h = absurd (true≢false (sym h))
+less_is Greater h = absurd (true≢false (sym h))
+
+before_trans : (a b c : List ℕ) → is_before a b ≡ true → is_before b c ≡ true → is_before a c ≡ true
+before_trans a b c h k = ap is_lt (nat_list_cmp_total.trans a b c (less_is _ h) (less_is _ k))
+
+turned : (o : Ordering) → is_lt o ≡ false → (o ≡ Equal → ⊥) → is_lt (ordering_reverse o) ≡ true
+turned Less h other = absurd (true≢false h)
+turned Equal h other = absurd (other refl)
+turned Greater h other = refl
+
+apart : (a b : List ℕ) → a ≡ b → bytes_eq b a ≡ false → ⊥
+apart a b same other = true≢false (sym ((bytes_eq-Decides b a).1 (sym same)) ∙ other)
+
+is_after : (a b : List ℕ) → is_before a b ≡ false → bytes_eq b a ≡ false → is_before b a ≡ true
+is_after a b h other = ap is_lt (nat_list_cmp_total.antisymm b a) ∙ turned (slice_cmp nat_cmp a b) h (λ e. apart a b (exact_bytes a b e) other)
+
+-- ---- in order
+
+all_kept : (P : Subscription → Type 0) (p : Subscription → Bool) (subs : List Subscription) → AllByRecursion P subs → AllByRecursion P (filter p subs)
+all_kept P p [] h = tt
+all_kept P p (s ∷ subs) h = elim (p s) as (λ b. AllByRecursion P (cond b (s ∷ filter p subs) (filter p subs))) [
+  | true ↦ (h.0, all_kept P p subs h.1)
+  | false ↦ all_kept P p subs h.1
+]
+
+-- some of those that are in order are
+pub in_order_kept : (p : Subscription → Bool) (subs : List Subscription) → InOrder subs → InOrder (filter p subs)
+in_order_kept p [] h = tt
+in_order_kept p (s ∷ subs) h = elim (p s) as (λ b. InOrder (cond b (s ∷ filter p subs) (filter p subs))) [
+  | true ↦ (all_kept _ p subs h.0, in_order_kept p subs h.1)
+  | false ↦ in_order_kept p subs h.1
+]
+
+all_marked : (a : List ℕ) (n : ℕ) (subs : List Subscription) → AllByRecursion (λ (t : Subscription). is_before a t.name ≡ true) subs → AllByRecursion (λ (t : Subscription). is_before a t.name ≡ true) (marked n subs)
+all_marked a n [] h = tt
+all_marked a n (s ∷ subs) h = (h.0, all_marked a n subs h.1)
+
+pub in_order_marked : (n : ℕ) (subs : List Subscription) → InOrder subs → InOrder (marked n subs)
+in_order_marked n [] h = tt
+in_order_marked n (s ∷ subs) h = (all_marked s.name n subs h.0, in_order_marked n subs h.1)
+
+all_put : (P : Subscription → Type 0) (s : Subscription) (subs : List Subscription) → P s → AllByRecursion P subs → AllByRecursion P (put s subs)
+all_put P s [] one h = (one, tt)
+all_put P s (t ∷ subs) one h = elim (is_before s.name t.name) as (λ b. AllByRecursion P (cond b (s ∷ t ∷ subs) (t ∷ put s subs))) [
+  | true ↦ (one, h)
+  | false ↦ (h.0, all_put P s subs one h.1)
+]
+
+all_behind : (a b : List ℕ) (subs : List Subscription) → is_before a b ≡ true → AllByRecursion (λ (u : Subscription). is_before b u.name ≡ true) subs → AllByRecursion (λ (u : Subscription). is_before a u.name ≡ true) subs
+all_behind a b [] lt h = tt
+all_behind a b (u ∷ subs) lt h = (before_trans a b u.name lt h.0, all_behind a b subs lt h.1)
+
+or_first : (a b : Bool) → (a || b) ≡ false → a ≡ false
+or_first true b h = absurd (true≢false h)
+or_first false b h = refl
+
+or_last : (a b : Bool) → (a || b) ≡ false → b ≡ false
+or_last true b h = absurd (true≢false h)
+or_last false b h = h
+
+put_at : (b : Bool) (s t : Subscription) (subs : List Subscription) → is_before s.name t.name ≡ b → bytes_eq t.name s.name ≡ false → InOrder (t ∷ subs) → InOrder (put s subs) → InOrder (cond b (s ∷ t ∷ subs) (t ∷ put s subs))
+put_at true s t subs is other h later = ((is, all_behind s.name t.name subs is h.0), h)
+put_at false s t subs is other h later = (all_put _ s subs (is_after s.name t.name is other) h.0, later)
+
+-- one of a new name in its place
+pub in_order_put : (s : Subscription) (subs : List Subscription) → list_any (λ (t : Subscription). bytes_eq t.name s.name) subs ≡ false → InOrder subs → InOrder (put s subs)
+in_order_put s [] other h = (tt, tt)
+in_order_put s (t ∷ subs) other h =
+    put_at (is_before s.name t.name) s t subs refl (or_first _ _ other) h (in_order_put s subs (or_last (bytes_eq t.name s.name) _ other) h.1)
+
+left_at : (b : Bool) (name : List ℕ) (t : Subscription) (rest : List Subscription) → bytes_eq t.name name ≡ b → list_any (λ (u : Subscription). bytes_eq u.name name) rest ≡ false → list_any (λ (u : Subscription). bytes_eq u.name name) (cond (not b) (t ∷ rest) rest) ≡ false
+left_at true name t rest is h = h
+left_at false name t rest is h = rw is h
+
+-- without those of a name there is none of it
+pub none_left : (name : List ℕ) (subs : List Subscription) → list_any (λ (t : Subscription). bytes_eq t.name name) (other_subs name subs) ≡ false
+none_left name [] = refl
+none_left name (t ∷ subs) = left_at (bytes_eq t.name name) name t (other_subs name subs) refl (none_left name subs)
+
+-- ---- the place of a name
+
+pub put_here : (s t : Subscription) (subs : List Subscription) (i : ℕ) → i < length subs → get_or subs i t ≡ t → is_before s.name t.name ≡ true → put s (drop i subs) ≡ s ∷ drop i subs
+put_here s t [] i lt is before = absurd (omega arith)
+put_here s t (u ∷ subs) zero lt is before =
+    let yes : is_before s.name u.name ≡ true = ap (λ (x : Subscription). is_before s.name x.name) is ∙ before in
+    ap (λ b. cond b (s ∷ u ∷ subs) (u ∷ put s subs)) yes
+put_here s t (u ∷ subs) (suc i) lt is before = put_here s t subs i (omega arith) is before
+
+next_of : (s t : Subscription) (subs : List Subscription) (i : ℕ) → i < length subs → get_or subs i t ≡ t → is_before s.name t.name ≡ false → take i subs ++ put s (drop i subs) ≡ take (suc i) subs ++ put s (drop (suc i) subs)
+next_of s t [] i lt is after = absurd (omega arith)
+next_of s t (u ∷ subs) zero lt is after =
+    let not_yet : is_before s.name u.name ≡ false = ap (λ (x : Subscription). is_before s.name x.name) is ∙ after in
+    ap (λ b. cond b (s ∷ u ∷ subs) (u ∷ put s subs)) not_yet
+next_of s t (u ∷ subs) (suc i) lt is after = ap (λ xs. u ∷ xs) (next_of s t subs i (omega arith) is after)
+
+pub put_next : (s t : Subscription) (subs : List Subscription) (i k : ℕ) → k ≡ suc i → i < length subs → get_or subs i t ≡ t → is_before s.name t.name ≡ false → take i subs ++ put s (drop i subs) ≡ take k subs ++ put s (drop k subs)
+put_next s t subs i k is lt item after = next_of s t subs i lt item after ∙ ap (λ n. take n subs ++ put s (drop n subs)) (sym is)
+
+pub put_last : (s : Subscription) (subs : List Subscription) → put s (drop (length subs) subs) ≡ s ∷ drop (length subs) subs
+put_last s [] = refl
+put_last s (t ∷ subs) = put_last s subs
