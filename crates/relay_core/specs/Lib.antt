@@ -1,4 +1,5 @@
 pub mod Limits
+pub mod Most
 pub mod Messages
 pub mod Kept
 pub mod Turns

@@ -25,7 +25,7 @@ pub struct RelayLimits {
 
 impl RelayLimits {
     ghost use Rattle.std.specs.Prelude.{◌≤◌};
-    ghost use Rattle.relay_core.specs.Limits.{AreMost};
+    ghost use Rattle.relay_core.specs.Most.{AreMost};
 
     /// The greatest limits, with Negentropy messages of at most so many bytes, 4,096 to 1,048,576.
     pub fn most(limit: usize) -> RelayLimits
@@ -45,7 +45,7 @@ impl RelayLimits {
 
 /// The greatest limits, with Negentropy messages of at most 60,000 bytes.
 impl Default for RelayLimits {
-    ghost use Rattle.relay_core.specs.Limits.{AreMost};
+    ghost use Rattle.relay_core.specs.Most.{AreMost};
 
     fn default() -> RelayLimits
         ensures { AreMost 60000 result }
