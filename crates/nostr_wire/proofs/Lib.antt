@@ -1,2 +1,4 @@
+pub mod Arrays
 pub mod Laws
 pub mod Plain
+pub mod Several

@@ -58,7 +58,7 @@ put_plain n k d no_members p q = member_plain n k d no_members p q
 put_plain n k d (member l e ms) p q =
     let parts = head_plain n l e ms q in
     chosen_plain n (slice_cmp nat_cmp k l) _ _ _
-    (member_plain n k d _ p q) (member_plain n l d ms p parts.1) (member_plain n l e _ parts.0 (put_plain n k d ms p parts.1))
+    (member_plain n k d (member l e ms) p q) (member_plain n l d ms p parts.1) (member_plain n l e (put k d ms) parts.0 (put_plain n k d ms p parts.1))
 
 given_plain : {X : Type 0} (n : ℕ) (k : List ℕ) (f : X → Data) (o : Option X) (ms : Members) → ((x : X) → IsPlain n (f x)) → MembersPlain n ms → MembersPlain n (put_given k (option_map f o) ms)
 given_plain n k f None ms all q = q
@@ -73,7 +73,7 @@ texts_plain : (texts : List (List ℕ)) → IsPlain 1 (texts_data texts)
 texts_plain texts = array_plain 0 _ (each_plain 0 string string_plain texts)
 
 hex_plain : (values : List (List ℕ)) → IsPlain 1 (hex_data values)
-hex_plain values = array_plain 0 _ (each_plain 0 (λ bytes. string (encode_lower bytes)) (λ bytes. string_plain _) values)
+hex_plain values = array_plain 0 _ (each_plain 0 (λ bytes. string (encode_lower bytes)) (λ bytes. string_plain (encode_lower bytes)) values)
 
 kinds_plain : (kinds : List ℕ) → IsPlain 1 (kinds_data kinds)
 kinds_plain kinds = array_plain 0 _ (each_plain 0 (λ k. number (unsigned k)) (λ k. (refl, omega arith)) kinds)

@@ -1,5 +1,5 @@
 -- Which text is which message, and which fault another text has.
-use Rattle.std.specs.Prelude.{◌≡◌, ◌⊎◌, ◌&&◌, ℕ, List, [], ◌∷◌, map, drop, Bool, true, false, if◌then◌else◌, Option, Some, None, option_map, option_and_then, unwrap_or, bytes_eq}
+use Rattle.std.specs.Prelude.{⊤, ◌≡◌, ◌⊎◌, ◌&&◌, ℕ, List, [], ◌∷◌, map, drop, Bool, true, false, if◌then◌else◌, Option, Some, None, option_map, option_and_then, unwrap_or, bytes_eq}
 use Rattle.serde_json.specs.Data.{Data, Items, no_items, item}
 use Rattle.serde_json.specs.Find.{as_str, as_array}
 use Rattle.serde_json.specs.Read.{read}

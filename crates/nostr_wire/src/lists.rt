@@ -1,5 +1,6 @@
 // Names, bytes and filters of messages, which contracts see as lists.
-ghost use Rattle.std.specs.Prelude.{◌≡◌, ◌≢◌, [], true, IfOk, IfErr};
+ghost use Rattle.std.specs.Prelude.{◌≡◌, ◌≢◌, [], length, true, IfOk, IfErr};
+ghost use Rattle.std.specs.Str.{chars};
 ghost use Rattle.nostr_wire.specs.Elements.{is_sub};
 
 use nostr_event::Text;
@@ -23,11 +24,18 @@ impl Model for Sub {
     ghost invariant = { λ s. is_sub s.text ≡ true };
 }
 
+// How many characters the text has.
+fn char_count(text: &str) -> usize
+    ensures { result ≡ length (chars text.now) }
+{
+    text.chars().count()
+}
+
 // Whether the text has 1 to 64 characters.
 pub fn is_name(text: &str) -> bool
     ensures { result ≡ is_sub text.now }
 {
-    let count = text.chars().count();
+    let count = char_count(text);
     1 <= count && count <= 64
 }
 

@@ -1,12 +1,12 @@
 // Messages read from their texts.
-ghost use Rattle.std.specs.Prelude.{◌≡◌, ◌≢◌, ◌⊎◌, ◌∷◌, [], Some, None, map, length, IfOk, IfErr, IfSome};
-ghost use Rattle.serde_json.specs.Data.{Data};
+ghost use Rattle.std.specs.Prelude.{◌≡◌, ◌≢◌, ◌⊎◌, ◌∷◌, [], Some, None, true, map, IfOk, IfErr, IfSome};
+ghost use Rattle.std.specs.List.{list_all};
 ghost use Rattle.serde_json.specs.Read.{read};
 ghost use Rattle.serde_json.specs.View.{view};
 ghost use Rattle.nostr_wire.specs.declared.fault.WireFault.{WireFault};
-ghost use Rattle.nostr_wire.specs.Elements.{Said, part_of, a_filter, sub, filter};
+ghost use Rattle.nostr_wire.specs.Elements.{a_filter, has_type, sub, filter};
 ghost use Rattle.nostr_wire.specs.Forms.{Form, client_form, relay_form, client_table, relay_table, request_parts};
-ghost use Rattle.nostr_wire.specs.Reading.{name_in, behind_name, AreRead, IsMessage, Reads, fits, AreRefused, IsRefused, Refuses};
+ghost use Rattle.nostr_wire.specs.Reading.{name_in, behind_name, AreRead, IsMessage, Reads, AreRefused, IsRefused, Refuses};
 
 use crate::elements::Element;
 use crate::fault::WireFault;
@@ -89,19 +89,14 @@ fn three<A: Element + Drop, B: Element + Drop, C: Element + Drop>(
 
 // Whether each value is an object.
 fn are_objects(values: &[Value]) -> bool
-    ensures { result ≡ fits (map (λ _. a_filter) values.now) (map view values.now) }
+    ensures { result ≡ list_all (λ v. has_type a_filter (view v)) values.now }
 {
-    for value in values {
-        if !value.is_object() {
-            return false;
-        }
-    }
-    true
+    values.iter().all(|value| value.is_object())
 }
 
 // The filters that the objects are.
 fn filters_of(alloc: Global, values: &[Value]) -> Result<Vec<Filter>, WireFault>
-    requires { fits (map (λ _. a_filter) values.now) (map view values.now) ≡ true }
+    requires { list_all (λ v. has_type a_filter (view v)) values.now ≡ true }
     ensures ok { IfOk result (λ v. AreRead (map (λ _. a_filter) values.now) (map filter v.items) (map view values.now)) }
     ensures err { IfErr result (λ f. (f ≡ WireFault.Memory) ⊎ AreRefused (map (λ _. a_filter) values.now) (map view values.now) f) }
 {

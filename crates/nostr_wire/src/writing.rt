@@ -1,5 +1,5 @@
 // Messages written as texts.
-ghost use Rattle.std.specs.Prelude.{◌≡◌, ◌∷◌, ◌++◌, [], map, IfOk, OnOk, string_bytes};
+ghost use Rattle.std.specs.Prelude.{◌≡◌, ◌≢◌, ◌∷◌, ◌++◌, [], map, IfOk, OnOk, string_bytes};
 ghost use Rattle.serde_json.specs.View.{view};
 ghost use Rattle.nostr_wire.specs.Elements.{data_of, sub, filter};
 ghost use Rattle.nostr_wire.specs.Forms.{client_form, relay_form, client_table, relay_table};
@@ -74,7 +74,8 @@ fn put_filters(
 // The array of a request.
 fn request(alloc: Global, name: &Sub, filters: &Filters) -> Result<Value, AllocError>
     ensures value { IfOk result (λ v. view v ≡ array_of (client_form (FromClient.Req name.now filters.now))) }
-    ensures message { IfOk result (λ v. IsMessage client_table (view v) (client_form (FromClient.Req name.now filters.now))) }
+    ensures says { IfOk result (λ _. SayEach (sub name.now ∷ map filter filters.now) (map data_of (sub name.now ∷ map filter filters.now))) }
+    ensures some { IfOk result (λ _. filters.now ≢ []) }
 {
     let mut values = Vec::new(alloc);
     values.push(Value::try_from_str(alloc, "REQ")?)?;
