@@ -1,8 +1,9 @@
 -- What is due from a place on.
-use Rattle.std.proofs.Common.{◌≡◌, ℕ, zero, suc, ◌+◌, ◌<◌, ◌≤◌, ◌&&◌, Bool, true, false, true≢false, cond, List, [], ◌∷◌, ◌++◌, length, take, drop, map, slice_get, refl, ap, sym, subst, ◌∙◌, arith, append_assoc, tt, absurd, Option, Some, None}
+use Rattle.std.proofs.Common.{◌≡◌, ℕ, zero, suc, ◌+◌, ◌<◌, ◌≤◌, ◌&&◌, Bool, true, false, true≢false, cond, List, [], ◌∷◌, ◌++◌, length, get_or, take, drop, map, slice_get, refl, ap, sym, subst, ◌∙◌, arith, append_assoc, Option, Some, None}
 use Rattle.std.specs.Prelude.{filter, filter_map, option_to_list, nat_le}
 use Rattle.std.specs.List.{list_any, AllByRecursion, cons_option}
 use Rattle.std.proofs.lemmas.Bool.Decides.{nat_tests}
+use Rattle.std.proofs.Math.Seq.{drop-cons}
 use Rattle.nostr_event.specs.EventView.{EventView}
 use Rattle.nostr_filter.specs.Matching.{matches_of}
 use Rattle.nostr_wire.specs.Forms.{Form}
@@ -40,11 +41,12 @@ drop_next [] i x h = cc
 drop_next (y ∷ xs) zero x h = grind arith
 drop_next (y ∷ xs) (suc i) x h = drop_next xs i x h
 
-pub due_next : (p k : ℕ) (subs : List Subscription) (events : List EventView) (e : EventView) (out : List Form) → k ≡ p + 1 → slice_get events p ≡ Some e
-    → (out ++ sent_at p e subs) ++ due_from k subs (drop k events) ≡ out ++ due_from p subs (drop p events)
-due_next p k subs events e out is at =
+pub due_more : (p k : ℕ) (subs : List Subscription) (events : List EventView) (e : EventView) (out new : List Form) → k ≡ p + 1 → slice_get events p ≡ Some e → new ≡ out ++ sent_at p e subs
+    → new ++ due_from k subs (drop k events) ≡ out ++ due_from p subs (drop p events)
+due_more p k subs events e out new is at put =
     let one : k ≡ suc p = omega (arith, is) in
-    append_assoc out (sent_at p e subs) (due_from k subs (drop k events))
+    ap (λ xs. xs ++ due_from k subs (drop k events)) put
+    ∙ append_assoc out (sent_at p e subs) (due_from k subs (drop k events))
     ∙ ap (λ n. out ++ (sent_at p e subs ++ due_from n subs (drop k events))) is
     ∙ ap (λ n. out ++ (sent_at p e subs ++ due_from (p + 1) subs (drop n events))) one
     ∙ ap (λ es. out ++ due_from p subs es) (sym (drop_next events p e at))
@@ -55,8 +57,16 @@ sent_more p e s subs = elim (is_due p e s) as (λ b. map (λ (t : Subscription).
   | false ↦ refl
 ]
 
-pub sent_next : (p : ℕ) (e : EventView) (s : Subscription) (subs : List Subscription) (out : List Form) → (out ++ sent_at p e (s ∷ [])) ++ sent_at p e subs ≡ out ++ sent_at p e (s ∷ subs)
-sent_next p e s subs out = append_assoc out (sent_at p e (s ∷ [])) (sent_at p e subs) ∙ ap (λ xs. out ++ xs) (sent_more p e s subs)
+pub sent_next : (p : ℕ) (e : EventView) (s : Subscription) (subs : List Subscription) (i k : ℕ) (out new : List Form) → k ≡ i + 1 → i < length subs → s ≡ get_or subs i s → new ≡ out ++ sent_at p e (s ∷ [])
+    → new ++ sent_at p e (drop k subs) ≡ out ++ sent_at p e (drop i subs)
+sent_next p e s subs i k out new is lt item put =
+    let one : k ≡ suc i = omega (arith, is) in
+    ap (λ xs. xs ++ sent_at p e (drop k subs)) put
+    ∙ append_assoc out (sent_at p e (s ∷ [])) (sent_at p e (drop k subs))
+    ∙ ap (λ xs. out ++ xs) (sent_more p e s (drop k subs))
+    ∙ ap (λ n. out ++ sent_at p e (s ∷ drop n subs)) one
+    ∙ ap (λ x. out ++ sent_at p e (x ∷ drop (suc i) subs)) item
+    ∙ ap (λ ss. out ++ sent_at p e ss) (sym (drop-cons subs i s lt))
 
 -- ---- events at places
 
@@ -64,8 +74,15 @@ told : (name : List ℕ) (o : Option EventView) (more : List EventView) → map 
 told name None more = refl
 told name (Some e) more = refl
 
-pub told_next : (name : List ℕ) (events : List EventView) (p : ℕ) (places : List ℕ) (out : List Form)
-    → (out ++ map (event_to name) (option_to_list (slice_get events p))) ++ map (event_to name) (filter_map (slice_get events) places) ≡ out ++ map (event_to name) (filter_map (slice_get events) (p ∷ places))
-told_next name events p places out =
-    append_assoc out (map (event_to name) (option_to_list (slice_get events p))) (map (event_to name) (filter_map (slice_get events) places))
-    ∙ ap (λ xs. out ++ xs) (told name (slice_get events p) (filter_map (slice_get events) places))
+pub told_next : (name : List ℕ) (events : List EventView) (place : ℕ) (places : List ℕ) (i k : ℕ) (out new : List Form) → k ≡ i + 1 → i < length places → place ≡ get_or places i place
+    → new ≡ out ++ map (event_to name) (option_to_list (slice_get events place))
+    → new ++ map (event_to name) (filter_map (slice_get events) (drop k places)) ≡ out ++ map (event_to name) (filter_map (slice_get events) (drop i places))
+told_next name events place places i k out new is lt item put =
+    let one : k ≡ suc i = omega (arith, is) in
+    let rest : ℕ → List Form = λ n. map (event_to name) (filter_map (slice_get events) (drop n places)) in
+    ap (λ xs. xs ++ rest k) put
+    ∙ append_assoc out (map (event_to name) (option_to_list (slice_get events place))) (rest k)
+    ∙ ap (λ xs. out ++ xs) (told name (slice_get events place) (filter_map (slice_get events) (drop k places)))
+    ∙ ap (λ n. out ++ map (event_to name) (filter_map (slice_get events) (place ∷ drop n places))) one
+    ∙ ap (λ x. out ++ map (event_to name) (filter_map (slice_get events) (x ∷ drop (suc i) places))) item
+    ∙ ap (λ ps. out ++ map (event_to name) (filter_map (slice_get events) ps)) (sym (drop-cons places i place lt))

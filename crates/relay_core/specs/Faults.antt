@@ -1,5 +1,5 @@
 -- How a connection goes on, and when a call is refused.
-use Rattle.std.specs.Prelude.{◌≡◌, Option, Some, None, ⊥}
+use Rattle.std.specs.Prelude.{◌≡◌, Option, Some, None}
 use Rattle.relay_core.specs.declared.fault.ConnFault.{ConnFault}
 use Rattle.relay_core.specs.declared.fault.ConnFault.TheVariants.{Gone, Memory, Closed}
 use Rattle.relay_core.specs.Kept.{Kept}

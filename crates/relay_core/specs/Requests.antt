@@ -6,6 +6,7 @@ use Rattle.std.specs.declared.sync.Arc.{Arc}
 use Rattle.nostr_event.specs.EventView.{EventView}
 use Rattle.nostr_filter.specs.declared.filter.Filter.{Filter}
 use Rattle.nostr_filter.specs.Choice.{chosen}
+use Rattle.nostr_wire.specs.Forms.{Form}
 use Rattle.relay_core.specs.declared.limits.RelayLimits.{RelayLimits}
 use Rattle.relay_core.specs.declared.subs.Subscription.{Subscription}
 use Rattle.relay_core.specs.Messages.{event_to, all_sent, closed}

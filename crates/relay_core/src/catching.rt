@@ -1,8 +1,9 @@
 //! What was published since the subscriptions were last served.
 ghost use Rattle.std.specs.Prelude.{◌≡◌, ◌≤◌, ◌∷◌, ◌++◌, [], map, length, IfOk, OnOk};
-ghost use Rattle.std.specs.List.{AllByRecursion};
+ghost use Rattle.std.specs.List.{AllByRecursion, list_any};
 ghost use Rattle.std.specs.Arc.{arc_value};
 ghost use mathlib.Core.List.{IsPrefix};
+ghost use Rattle.nostr_filter.specs.Matching.{matches_of};
 ghost use Rattle.nostr_wire.specs.Forms.{relay_form};
 ghost use Rattle.relay_core.specs.Due.{is_due as due_at, sent_at, due as all_due, caught_up};
 
@@ -35,12 +36,13 @@ fn lowest(subs: &[Subscription], front: usize) -> usize
 fn is_due(sub: &Subscription, place: usize, event: &Event) -> bool
     ensures { result ≡ due_at place event.now sub.now }
 {
-    sub.mark <= place
-        && sub
-            .filters
-            .as_slice()
-            .iter()
-            .any(|filter| filter.matches(event))
+    sub.mark <= place && is_wanted(sub.filters.as_slice(), event)
+}
+
+fn is_wanted(filters: &[Filter], event: &Event) -> bool
+    ensures { result ≡ list_any (λ f. matches_of f event.now) filters.now }
+{
+    filters.iter().any(|filter| filter.matches(event))
 }
 
 // Puts the event at the place behind the others, if it is due to the subscription.

@@ -56,7 +56,7 @@ fn reply(
 {
     match answer(alloc, roll, query, limit) {
         Ok(bytes) => Ok(Some(Bytes::new(bytes))),
-        Err(AnswerFault::Bad(_)) => Ok(None),
+        Err(AnswerFault::Bad(_fault)) => Ok(None),
         Err(AnswerFault::Memory) => Err(AllocError),
     }
 }
