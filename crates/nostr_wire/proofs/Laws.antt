@@ -73,12 +73,12 @@ pub refused_none : (table : List Data → Table) (s : List ℕ) (f : WireFault) 
 refused_none table s f bad other m = λ h. elim bad [
   | inl memory ↦ other memory
   | inr more ↦ elim more [
-      | inl json ↦ absurd (let some = h.1 in let none = json.1 in cc)
-      | inr value ↦
-          let both : Some value.0 ≡ Some h.0 = sym value.1 ∙ h.1 in
-          let same : value.0 ≡ h.0 = cc in
-          none_of_value table h.0 f (subst (λ d. IsRefused table d f) same value.2) m h.2
-    ]
+    | inl json ↦ absurd (let some = h.1 in let none = json.1 in cc)
+    | inr value ↦
+        let both : Some value.0 ≡ Some h.0 = sym value.1 ∙ h.1 in
+        let same : value.0 ≡ h.0 = cc in
+        none_of_value table h.0 f (subst (λ d. IsRefused table d f) same value.2) m h.2
+  ]
 ]
 
 -- ---- a value says one thing of a part

@@ -1,5 +1,5 @@
 -- The filters of a request.
-use Rattle.std.proofs.Common.{◌≡◌, ◌≢◌, ℕ, zero, suc, ◌<◌, ◌≤◌, ◌++◌, List, [], ◌∷◌, length, map, take, get_or, Bool, true, false, ◌&&◌, refl, sym, inl, inr, ap, arith}
+use Rattle.std.proofs.Common.{◌≡◌, ◌≢◌, ℕ, zero, suc, ◌<◌, ◌≤◌, ◌++◌, List, [], ◌∷◌, length, map, take, get_or, Bool, true, false, ◌&&◌, refl, sym, inl, inr, ap, subst, arith}
 use Rattle.std.proofs.lemmas.Bool.{and_parts}
 use Rattle.std.specs.List.{list_all}
 use Rattle.serde_json.specs.Data.{Data}
@@ -61,11 +61,13 @@ request_fits v fs named objects = rw (named, fits_all fs, objects) refl
 
 pub request_refused : (vs fs : List Value) (v : Value) (f : WireFault) → vs ≡ v ∷ fs → 1 ≤ length fs → AreRefused (a_sub ∷ map (λ u. a_filter) fs) (view v ∷ map view fs) f
     → AreRefused (request_parts (map view vs)) (map view vs) f
-request_refused vs fs v f whole some h = rw (whole, parts_are v fs some) h
+request_refused vs fs v f whole some h =
+    subst (λ l. AreRefused (request_parts (map view l)) (map view l) f) (sym whole) (subst (λ ps. AreRefused ps (view v ∷ map view fs) f) (sym (parts_are v fs some)) h)
 
 pub request_read : (vs fs : List Value) (v : Value) (xs : List Said) → vs ≡ v ∷ fs → 1 ≤ length fs → AreRead (a_sub ∷ map (λ u. a_filter) fs) xs (view v ∷ map view fs)
     → AreRead (request_parts (map view vs)) xs (map view vs)
-request_read vs fs v xs whole some h = rw (whole, parts_are v fs some) h
+request_read vs fs v xs whole some h =
+    subst (λ l. AreRead (request_parts (map view l)) xs (map view l)) (sym whole) (subst (λ ps. AreRead ps xs (view v ∷ map view fs)) (sym (parts_are v fs some)) h)
 
 pub no_filter : (vs fs : List Value) (v : Value) → vs ≡ v ∷ fs → length fs ≡ 0 → fits (request_parts (map view vs)) (map view vs) ≡ false
 no_filter vs [] v whole none = rw whole (and_no (has_type a_sub (view v)))
@@ -75,7 +77,9 @@ pub no_name : (vs fs : List Value) (v : Value) → vs ≡ v ∷ fs → has_type 
 no_name vs fs v whole h = rw (whole, h) refl
 
 pub no_objects : (vs fs : List Value) (v : Value) → vs ≡ v ∷ fs → 1 ≤ length fs → list_all (λ u. has_type a_filter (view u)) fs ≡ false → fits (request_parts (map view vs)) (map view vs) ≡ false
-no_objects vs fs v whole some h = rw (whole, parts_are v fs some, fits_all fs, h) (and_no (has_type a_sub (view v)))
+no_objects vs fs v whole some h =
+    let misfit : fits (a_sub ∷ map (λ u. a_filter) fs) (view v ∷ map view fs) ≡ false = rw (fits_all fs, h) (and_no (has_type a_sub (view v))) in
+    subst (λ l. fits (request_parts (map view l)) (map view l) ≡ false) (sym whole) (subst (λ ps. fits ps (view v ∷ map view fs) ≡ false) (sym (parts_are v fs some)) misfit)
 
 -- ---- what is written
 

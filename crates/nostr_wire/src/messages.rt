@@ -11,9 +11,14 @@ pub enum FromClient {
     /// An event to be taken in (NIP-01).
     Event(Arc<Event>),
     /// A request for the events that one of the filters matches, now and from now on (NIP-01).
-    Req { sub: Sub, filters: Filters },
+    Req {
+        sub: Sub,
+        filters: Filters,
+    },
     /// The end of a request (NIP-01).
-    Close { sub: Sub },
+    Close {
+        sub: Sub,
+    },
     /// The first message of a Negentropy session over the events that the filter matches (NIP-77).
     NegOpen {
         sub: Sub,
@@ -21,9 +26,14 @@ pub enum FromClient {
         message: Bytes,
     },
     /// A further message of that session.
-    NegMsg { sub: Sub, message: Bytes },
+    NegMsg {
+        sub: Sub,
+        message: Bytes,
+    },
     /// The end of a session.
-    NegClose { sub: Sub },
+    NegClose {
+        sub: Sub,
+    },
 }
 
 /// What a relay says.

@@ -205,7 +205,11 @@ fn value_of(alloc: Global, text: &str) -> Result<Value, WireFault>
 {
     match Value::from_str(alloc, text) {
         Ok(value) => Ok(value),
-        Err(error) => Err(if error.is_memory() { WireFault::Memory } else { WireFault::Json }),
+        Err(error) => Err(if error.is_memory() {
+            WireFault::Memory
+        } else {
+            WireFault::Json
+        }),
     }
 }
 

@@ -57,11 +57,7 @@ fn three<A: Element, B: Element, C: Element>(
 }
 
 // Puts the filters behind the values.
-fn put_filters(
-    values: &mut Vec<Value>,
-    alloc: Global,
-    filters: &[Filter],
-) -> Result<(), AllocError>
+fn put_filters(values: &mut Vec<Value>, alloc: Global, filters: &[Filter]) -> Result<(), AllocError>
     ensures values { OnOk result (map view values.new.items ≡ map view values.old.items ++ map data_of (map filter filters.now)) }
     ensures says { OnOk result (SayEach (map filter filters.now) (map data_of (map filter filters.now))) }
 {

@@ -1,6 +1,8 @@
-use Rattle.std.proofs.Common.{◌≡◌, ◌+◌, ◌++◌, ◌∙◌, [], ◌∷◌, take, inl, inr, sym, ap, arith}
+use Rattle.std.proofs.Common.{◌≡◌, ◌+◌, ◌++◌, ◌∙◌, [], ◌∷◌, take, inl, inr, sym, ap, subst, arith}
 use Rattle.std.proofs.lemmas.List.{take_more}
 use Rattle.std.proofs.lemmas.Result.{err_from_is_err_and}
+use Rattle.serde_json.specs.View.{view}
+use Rattle.nostr_wire.specs.Elements.{a_filter, SaysNo}
 use Rattle.nostr_wire.proofs.Several.{fault_at, fits_all, one_more}
 use Rattle.nostr_wire.proofs.reading.filters_of.Goals as goal
 
@@ -11,7 +13,7 @@ returns-in_err-read-clause-err c =
     let v = c.value-item.result in
     rw (p.1, p.2) (elim c.in_err-read.ensures.err [
       | inl memory ↦ inl memory
-      | inr none ↦ inr (inr (fits_all c.args.values.now ∙ c.requires, fault_at c.loop-value.filters.items c.args.values.now i v _ (omega arith) c.loop-value.invariant (rw (← c.value-item.is) none.0) (rw (← c.value-item.is) none.1)))
+      | inr none ↦ inr (inr (fits_all c.args.values.now ∙ c.requires, fault_at c.loop-value.filters.items c.args.values.now i v _ (omega arith) c.loop-value.invariant (subst (λ u. SaysNo a_filter (view u)) c.value-item.is none.0) none.1))
     ])
 
 pub loop-value-preserved : goal.loop-value-preserved

@@ -15,18 +15,21 @@ returns-then-is_empty-clause-err c =
     let v = c.first-item.result in
     let fs = take (length vs - 1) (drop 1 vs) in
     let whole = rest_is vs v c.in-len1-up.len_at_least c.first-item.is in
-    inr (inl (refl, elim c.then-is_empty.branch [
-      | then-is_empty-via-then-is_empty w ↦
-          let none : length fs ≡ 0 = grind (arith, common_steps, c.is_empty.ensures, w.if-is_empty.true) in
-          no_filter vs fs v whole none
-      | then-is_empty-via-else-is_empty+then-not-fits w ↦
-          let other : has_type a_sub (view v) ≡ false = grind (arith, common_steps, w.fits.ensures, w.if-not-fits.true) in
-          no_name vs fs v whole other
-      | then-is_empty-via-else-is_empty+else-not-fits+then-not-are_objects w ↦
-          let some : 1 ≤ length fs = grind (arith, common_steps, c.is_empty.ensures, w.if-is_empty.false) in
-          let other : list_all (λ u. has_type a_filter (view u)) fs ≡ false = grind (arith, common_steps, w.are_objects.ensures, w.if-not-are_objects.true) in
-          no_objects vs fs v whole some other
-    ]))
+    inr (inl (
+      refl,
+      elim c.then-is_empty.branch [
+        | then-is_empty-via-then-is_empty w ↦
+            let none : length fs ≡ 0 = grind (arith, common_steps, c.is_empty.ensures, w.if-is_empty.true) in
+            no_filter vs fs v whole none
+        | then-is_empty-via-else-is_empty+then-not-fits w ↦
+            let other : has_type a_sub (view v) ≡ false = grind (arith, common_steps, w.fits.ensures, w.if-not-fits.true) in
+            no_name vs fs v whole other
+        | then-is_empty-via-else-is_empty+else-not-fits+then-not-are_objects w ↦
+            let some : 1 ≤ length fs = grind (arith, common_steps, c.is_empty.ensures, w.if-is_empty.false) in
+            let other : list_all (λ u. has_type a_filter (view u)) fs ≡ false = grind (arith, common_steps, w.are_objects.ensures, w.if-not-are_objects.true) in
+            no_objects vs fs v whole some other
+      ],
+    ))
 
 pub returns-in_err-sub-clause-err : goal.returns-in_err-sub-clause-err
 returns-in_err-sub-clause-err c =
@@ -57,9 +60,9 @@ returns-in_err-filters_of-clause-err c =
     rw (p.1, p.2) (elim c.in_err-filters_of.ensures.err [
       | inl memory ↦ inl memory
       | inr bad ↦ inr (request_refused vs fs v _ whole some (elim bad [
-          | inl arity ↦ absurd (let misfit = arity.1 in cc)
-          | inr first ↦ inr (request_fits v fs named objects, inr ((sub c.in_ok-sub.sub, refl, c.in_ok-sub.ensures.ok.1), first.1))
-        ]))
+        | inl arity ↦ absurd (let misfit = arity.1 in cc)
+        | inr first ↦ inr (request_fits v fs named objects, inr ((sub c.in_ok-sub.sub, refl, c.in_ok-sub.ensures.ok.1), first.1))
+      ]))
     ])
 
 pub returns-clause-ok : goal.returns-clause-ok

@@ -16,6 +16,6 @@ returns-in-Req-clause-message c =
     let fs = c.in-Req.filters in
     let m = client_form (client.Req s fs) in
     rw c.in-Req.is (IfOk-weaker c.request.result (λ v. (view v ≡ array_of m) × (SayEach m.said (map data_of m.said) × (fs ≢ []))) (λ v. IsMessage client_table (view v) m)
-      (λ v h. is_message client_table m (view v) (ap Some (request_row s fs h.1.1)) h.1.0 h.0)
-      (both c.request.result (λ v. view v ≡ array_of m) (λ v. SayEach m.said (map data_of m.said) × (fs ≢ [])) c.request.ensures.value
-        (both c.request.result (λ v. SayEach m.said (map data_of m.said)) (λ v. fs ≢ []) c.request.ensures.says c.request.ensures.some)))
+    (λ v h. is_message client_table m (view v) (ap Some (request_row s fs h.1.1)) h.1.0 h.0)
+    (both c.request.result (λ v. view v ≡ array_of m) (λ v. SayEach m.said (map data_of m.said) × (fs ≢ [])) c.request.ensures.value
+    (both c.request.result (λ v. SayEach m.said (map data_of m.said)) (λ v. fs ≢ []) c.request.ensures.says c.request.ensures.some)))

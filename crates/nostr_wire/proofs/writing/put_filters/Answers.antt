@@ -19,6 +19,6 @@ loop-filter-preserved c =
     let written = data_more (take i fs) f (view v) same ∙ ap (λ l. map data_of (map filter l)) (sym whole) in
     record {
       values = ap (map view) items ∙ map-append view old (v ∷ []) ∙ ap (λ l. l ++ view v ∷ []) c.loop-filter.invariant.values
-        ∙ append_assoc front (map data_of (map filter (take i fs))) (view v ∷ []) ∙ ap (λ l. front ++ l) written;
+          ∙ append_assoc front (map data_of (map filter (take i fs))) (view v ∷ []) ∙ ap (λ l. front ++ l) written;
       says = subst AreSaid (sym whole) (said_more (take i fs) f c.loop-filter.invariant.says (subst (λ d. Says d (filter f)) same c.in_ok-write.ensures.reads_back));
     }
