@@ -3,6 +3,8 @@ use Rattle.std.proofs.Common.{◌≡◌, ℕ, zero, suc, ◌+◌, ◌<◌, ◌�
 use Rattle.std.specs.Prelude.{filter, filter_map, option_to_list, nat_le}
 use Rattle.std.specs.List.{list_any, AllByRecursion, cons_option}
 use Rattle.std.proofs.lemmas.Bool.Decides.{nat_tests}
+use Rattle.std.proofs.lemmas.List.{append-nil}
+use Rattle.std.proofs.lemmas.Option.{slice_get_past, slice_get_within, get_or_from_slice_get}
 use Rattle.std.proofs.Math.Seq.{drop-cons}
 use Rattle.nostr_event.specs.EventView.{EventView}
 use Rattle.nostr_filter.specs.Matching.{matches_of}
@@ -36,10 +38,8 @@ due_behind low subs events h = skipped low low 0 subs events (omega arith) h
 
 -- ---- one more
 
-drop_next : {X : Type 0} (xs : List X) (i : ℕ) (x : X) → slice_get xs i ≡ Some x → drop i xs ≡ x ∷ drop (suc i) xs
-drop_next [] i x h = cc
-drop_next (y ∷ xs) zero x h = grind arith
-drop_next (y ∷ xs) (suc i) x h = drop_next xs i x h
+drop_next : (xs : List EventView) (i : ℕ) (x : EventView) → slice_get xs i ≡ Some x → drop i xs ≡ x ∷ drop (suc i) xs
+drop_next xs i x h = drop-cons xs i x (slice_get_within xs i x h) ∙ ap (λ y. y ∷ drop (suc i) xs) (get_or_from_slice_get xs i x x h)
 
 pub due_more : (p k : ℕ) (subs : List Subscription) (events : List EventView) (e : EventView) (out new : List Form) → k ≡ p + 1 → slice_get events p ≡ Some e → new ≡ out ++ sent_at p e subs
     → new ++ due_from k subs (drop k events) ≡ out ++ due_from p subs (drop p events)
@@ -86,3 +86,7 @@ told_next name events place places i k out new is lt item put =
     ∙ ap (λ n. out ++ map (event_to name) (filter_map (slice_get events) (place ∷ drop n places))) one
     ∙ ap (λ x. out ++ map (event_to name) (filter_map (slice_get events) (x ∷ drop (suc i) places))) item
     ∙ ap (λ ps. out ++ map (event_to name) (filter_map (slice_get events) ps)) (sym (drop-cons places i place lt))
+
+-- at no place there is no event
+pub nothing_told : (name : List ℕ) (events : List EventView) (place : ℕ) (out : List Form) → length events ≤ place → out ≡ out ++ map (event_to name) (option_to_list (slice_get events place))
+nothing_told name events place out le = sym (append-nil out) ∙ ap (λ o. out ++ map (event_to name) (option_to_list o)) (sym (slice_get_past events place le))

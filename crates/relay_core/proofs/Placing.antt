@@ -1,7 +1,8 @@
 -- Subscriptions in the order of their names.
-use Rattle.std.proofs.Common.{◌≡◌, ℕ, zero, suc, ◌+◌, ◌<◌, ◌≤◌, ◌||◌, Bool, true, false, true≢false, cond, List, [], ◌∷◌, ◌++◌, length, get_or, take, drop, map, refl, ap, sym, subst, ◌∙◌, arith}
-use Rattle.std.specs.Prelude.{filter, bytes_eq, not}
-use Rattle.std.specs.List.{list_any, AllByRecursion, insert}
+use Rattle.std.proofs.Common.{◌≡◌, ℕ, zero, suc, ◌+◌, ◌<◌, ◌≤◌, ◌||◌, Bool, true, false, true≢false, cond, List, [], ◌∷◌, ◌++◌, length, take, drop, map, refl, ap, sym, subst, ◌∙◌, arith}
+use Rattle.std.specs.Prelude.{filter, bytes_eq, not, slice_set, slice_index_or, Result, Ok, Err, OnOk, OnErr}
+use Rattle.std.specs.declared.alloc.AllocError.{AllocError}
+use Rattle.std.specs.List.{list_any, AllByRecursion}
 use Rattle.std.specs.Ordering.{nat_cmp, is_lt, ordering_reverse}
 use Rattle.std.specs.Cmp.Lexicographic.{slice_cmp}
 use Rattle.std.specs.declared.cmp.Ordering.{Ordering}
@@ -97,25 +98,24 @@ pub none_left : (name : List ℕ) (subs : List Subscription) → list_any (λ (t
 none_left name [] = refl
 none_left name (t ∷ subs) = left_at (bytes_eq t.name name) name t (other_subs name subs) refl (none_left name subs)
 
--- ---- the place of a name
+-- ---- what a refused growth leaves
 
-pub put_here : (s t : Subscription) (subs : List Subscription) (i : ℕ) → i < length subs → get_or subs i t ≡ t → is_before s.name t.name ≡ true → put s (drop i subs) ≡ s ∷ drop i subs
-put_here s t [] i lt is before = absurd (omega arith)
-put_here s t (u ∷ subs) zero lt is before =
-    let yes : is_before s.name u.name ≡ true = ap (λ (x : Subscription). is_before s.name x.name) is ∙ before in
-    ap (λ b. cond b (s ∷ u ∷ subs) (u ∷ put s subs)) yes
-put_here s t (u ∷ subs) (suc i) lt is before = put_here s t subs i (omega arith) is before
+pub in_order_either : (r : Result (Unit {0}) AllocError) (s : Subscription) (old new : List Subscription) → list_any (λ (t : Subscription). bytes_eq t.name s.name) old ≡ false → InOrder old → OnOk r (new ≡ put s old) → OnErr r (new ≡ old) → InOrder new
+in_order_either (Ok u) s old new other h ok err = subst InOrder (sym ok) (in_order_put s old other h)
+in_order_either (Err e) s old new other h ok err = subst InOrder (sym err) h
 
-next_of : (s t : Subscription) (subs : List Subscription) (i : ℕ) → i < length subs → get_or subs i t ≡ t → is_before s.name t.name ≡ false → take i subs ++ put s (drop i subs) ≡ take (suc i) subs ++ put s (drop (suc i) subs)
-next_of s t [] i lt is after = absurd (omega arith)
-next_of s t (u ∷ subs) zero lt is after =
-    let not_yet : is_before s.name u.name ≡ false = ap (λ (x : Subscription). is_before s.name x.name) is ∙ after in
-    ap (λ b. cond b (s ∷ u ∷ subs) (u ∷ put s subs)) not_yet
-next_of s t (u ∷ subs) (suc i) lt is after = ap (λ xs. u ∷ xs) (next_of s t subs i (omega arith) is after)
+-- ---- marks
 
-pub put_next : (s t : Subscription) (subs : List Subscription) (i k : ℕ) → k ≡ suc i → i < length subs → get_or subs i t ≡ t → is_before s.name t.name ≡ false → take i subs ++ put s (drop i subs) ≡ take k subs ++ put s (drop k subs)
-put_next s t subs i k is lt item after = next_of s t subs i lt item after ∙ ap (λ n. take n subs ++ put s (drop n subs)) (sym is)
+set_more : (n : ℕ) (all : List Subscription) (i : ℕ) (d : Subscription) → i < length all
+    → slice_set (marked n (take i all) ++ drop i all) i (record { name = (slice_index_or (marked n (take i all) ++ drop i all) i d).name; filters = (slice_index_or (marked n (take i all) ++ drop i all) i d).filters; mark = n })
+    ≡ marked n (take (suc i) all) ++ drop (suc i) all
+set_more n [] i d lt = absurd (omega arith)
+set_more n (s ∷ all) zero d lt = refl
+set_more n (s ∷ all) (suc i) d lt = ap (λ xs. record { name = s.name; filters = s.filters; mark = n } ∷ xs) (set_more n all i d (omega arith))
 
-pub put_last : (s : Subscription) (subs : List Subscription) → put s (drop (length subs) subs) ≡ s ∷ drop (length subs) subs
-put_last s [] = refl
-put_last s (t ∷ subs) = put_last s subs
+pub marked_more : (n : ℕ) (all subs : List Subscription) (i k : ℕ) (d : Subscription) → k ≡ i + 1 → i < length all → subs ≡ marked n (take i all) ++ drop i all
+    → slice_set subs i (record { name = (slice_index_or subs i d).name; filters = (slice_index_or subs i d).filters; mark = n }) ≡ marked n (take k all) ++ drop k all
+marked_more n all subs i k d is lt so_far =
+    let one : k ≡ suc i = omega (arith, is) in
+    ap (λ xs. slice_set xs i (record { name = (slice_index_or xs i d).name; filters = (slice_index_or xs i d).filters; mark = n })) so_far
+    ∙ set_more n all i d lt ∙ ap (λ m. marked n (take m all) ++ drop m all) (sym one)

@@ -1,5 +1,5 @@
 //! Subscriptions, in the byte order of their names.
-ghost use Rattle.std.specs.Prelude.{◌≡◌, ◌≤◌, length, OnOk};
+ghost use Rattle.std.specs.Prelude.{◌≡◌, ◌≤◌, length, OnOk, OnErr};
 ghost use Rattle.std.specs.List.{insert};
 ghost use Rattle.relay_core.specs.Kept.{is_before, other_subs, put as put_in_place};
 ghost use Rattle.relay_core.specs.Due.{marked};
@@ -44,7 +44,8 @@ fn is_below(a: &Sub, b: &Sub) -> bool
 
 /// Puts a subscription of a new name in its place.
 pub fn put(subs: &mut Vec<Subscription>, sub: Subscription) -> Result<(), AllocError>
-    ensures { OnOk result (subs.new.items ≡ put_in_place sub subs.old.items) }
+    ensures ok { OnOk result (subs.new.items ≡ put_in_place sub subs.old.items) }
+    ensures err { OnErr result (subs.new.items ≡ subs.old.items) }
 {
     let place = place_of(subs.as_slice(), &sub.name);
     subs.insert(place, sub)?;
