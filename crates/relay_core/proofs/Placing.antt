@@ -8,6 +8,7 @@ use Rattle.std.specs.Cmp.Lexicographic.{slice_cmp}
 use Rattle.std.specs.declared.cmp.Ordering.{Ordering}
 use Rattle.std.specs.declared.cmp.Ordering.TheVariants.{Less, Equal, Greater}
 use Rattle.std.proofs.lemmas.Cmp.{nat_list_cmp_total}
+use Rattle.std.proofs.lemmas.List.{append-nil, drop_all, take_all}
 use Rattle.std.proofs.lemmas.Map.Lookups.{exact_bytes}
 use Rattle.std.proofs.lemmas.Slice.Eq.{bytes_eq-Decides}
 use Rattle.relay_core.specs.declared.subs.Subscription.{Subscription}
@@ -119,3 +120,16 @@ marked_more n all subs i k d is lt so_far =
     let one : k ≡ suc i = omega (arith, is) in
     ap (λ xs. slice_set xs i (record { name = (slice_index_or xs i d).name; filters = (slice_index_or xs i d).filters; mark = n })) so_far
     ∙ set_more n all i d lt ∙ ap (λ m. marked n (take m all) ++ drop m all) (sym one)
+
+marked_len : (n : ℕ) (subs : List Subscription) → length (marked n subs) ≡ length subs
+marked_len n [] = refl
+marked_len n (s ∷ subs) = ap suc (marked_len n subs)
+
+-- what is written back into a vector of so many
+pub marked_back : (n len : ℕ) (old new : List Subscription) → new ≡ marked n old → len ≡ length old → InOrder old → InOrder (take len (new ++ drop (length new) old))
+marked_back n len old new is all h =
+    let same : length new ≡ length old = ap length is ∙ marked_len n old in
+    let back : take len (new ++ drop (length new) old) ≡ marked n old =
+        ap (λ xs. take len (new ++ xs)) (drop_all (length new) old (omega (arith, same))) ∙ ap (take len) (append-nil new) ∙ take_all len new (omega (arith, same, all)) ∙ is
+    in
+    subst InOrder (sym back) (in_order_marked n old h)

@@ -123,7 +123,7 @@ fn happen<J: Naming, D: Wait + Drop, R: Wait>(
     }
 }
 
-/// How many of the steps go as the script says, on a fresh connection over an empty store.
+/// The first step that doesn't go as the script says, on a fresh connection over an empty store, or how many steps there are.
 fn played<J: Naming, D: Wait + Drop, R: Wait>(
     rt: &R,
     keep: D,
@@ -138,15 +138,13 @@ fn played<J: Naming, D: Wait + Drop, R: Wait>(
     let (mut desk, mut readers) = open_store::<J, D>(keep, alloc, blank, 1).ok()?;
     let mut reader = readers.pop()?;
     let mut conn = Conn::new(alloc, limits);
-    let mut steps = 0;
-    for (what, expected) in script {
+    for (step, (what, expected)) in script.iter().enumerate() {
         let out = happen(rt, alloc, &mut desk, &mut reader, &mut conn, what)?;
         if !are(alloc, out.as_slice(), expected)? {
-            return Some(steps);
+            return Some(step);
         }
-        steps += 1;
     }
-    Some(steps)
+    Some(script.len())
 }
 
 const EOSE: &str = r##"["EOSE","a"]"##;
@@ -427,7 +425,7 @@ fn is_right<J: Naming>(
 
 const PLAIN: &str = r##"["NEG-MSG","s","61"]"##;
 
-/// How many of the message's beginnings, itself among them, are answered as they should be.
+/// The length of the first of the message's beginnings that isn't answered as it should be, or of the whole, if that is.
 fn fronts<J: Naming, D: Wait + Drop>(
     keep: D,
     alloc: Global,
@@ -440,13 +438,12 @@ fn fronts<J: Naming, D: Wait + Drop>(
     let (_desk, mut readers) = open_store::<J, D>(keep, alloc, blank, 1).ok()?;
     let mut reader = readers.pop()?;
     let mut conn = Conn::new(alloc, RelayLimits::default());
-    let mut right = 0;
-    for len in 0..=whole.len() {
-        if is_right(alloc, &mut reader, &mut conn, &whole[..len])? {
-            right += 1;
+    for (len, _) in whole.iter().enumerate() {
+        if !is_right(alloc, &mut reader, &mut conn, &whole[..len])? {
+            return Some(len);
         }
     }
-    Some(right)
+    is_right(alloc, &mut reader, &mut conn, whole)?.then_some(whole.len())
 }
 
 /// Messages of which some are bad, and some have bad beginnings.
@@ -477,11 +474,11 @@ fn bad_messages(rt: HostRuntime) -> Result<(), Fail> {
     for text in BAD {
         let whole = hex::decode(alloc, text.as_bytes())?;
         let right = fronts::<Brand, _>(&rt, alloc, Blank::new(), &whole);
-        assert_eq!(rt; (text, right), (text, Some(whole.len() + 1)));
+        assert_eq!(rt; (text, right), (text, Some(whole.len())));
     }
     let reply = answer(alloc, &many(alloc)?, b"\x61\x00\x00\x02\x00", 4_096)?;
     assert_eq!(rt; reply.len(), 3_992);
     let right = fronts::<Brand, _>(&rt, alloc, Blank::new(), &reply);
-    assert_eq!(rt; right, Some(3_993));
+    assert_eq!(rt; right, Some(3_992));
     Ok(())
 }

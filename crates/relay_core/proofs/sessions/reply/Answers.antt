@@ -1,4 +1,4 @@
-use Rattle.std.proofs.Common.{◌≡◌, sym, ◌∙◌}
+use Rattle.std.proofs.Common.{◌≡◌, ap, sym, ◌∙◌}
 use Rattle.std.specs.Prelude.{Ok, Err}
 use Rattle.relay_core.specs.Sessions.{IsBad}
 use Rattle.relay_core.proofs.Pinned.{is_answer}
@@ -11,5 +11,5 @@ returns-in-Ok-clause-answer c =
 
 pub returns-in-Err-Bad-clause-bad : goal.returns-in-Err-Bad-clause-bad
 returns-in-Err-Bad-clause-bad c none =
-    let h = c.answer.ensures.bad c.in-Err-Bad._fault c.in-Err-Bad.is in
+    let h = c.answer.ensures.bad c.in-Err-Bad._fault (c.in-Err-Bad.is ∙ ap Err c.in-Err-Bad.field-0-is) in
     (c.in-Err-Bad._fault, h.0, h.1)
