@@ -130,6 +130,6 @@ pub marked_back : (n len : ℕ) (old new : List Subscription) → new ≡ marked
 marked_back n len old new is all h =
     let same : length new ≡ length old = ap length is ∙ marked_len n old in
     let back : take len (new ++ drop (length new) old) ≡ marked n old =
-        ap (λ xs. take len (new ++ xs)) (drop_all (length new) old (omega (arith, same))) ∙ ap (take len) (append-nil new) ∙ take_all len new (omega (arith, same, all)) ∙ is
+    ap (λ xs. take len (new ++ xs)) (drop_all (length new) old (omega (arith, same))) ∙ ap (take len) (append-nil new) ∙ take_all len new (omega (arith, same, all)) ∙ is
     in
     subst InOrder (sym back) (in_order_marked n old h)

@@ -476,6 +476,12 @@ fn bad_messages(rt: HostRuntime) -> Result<(), Fail> {
         let right = fronts::<Brand, _>(&rt, alloc, Blank::new(), &whole);
         assert_eq!(rt; (text, right), (text, Some(whole.len())));
     }
+    Ok(())
+}
+
+#[test]
+fn beginnings_of_a_reply(rt: HostRuntime) -> Result<(), Fail> {
+    let alloc = rt.alloc();
     let reply = answer(alloc, &many(alloc)?, b"\x61\x00\x00\x02\x00", 4_096)?;
     assert_eq!(rt; reply.len(), 3_992);
     let right = fronts::<Brand, _>(&rt, alloc, Blank::new(), &reply);
