@@ -4,7 +4,7 @@ import json
 import multiprocessing
 import random
 
-SHAPES = ["random", "sparse", "few", "skewed", "chain", "nested", "single", "three"]
+SHAPES = ["random", "sparse", "few", "skewed", "chain", "nested", "single", "three", "wide", "halves", "bridge", "comb"]
 
 
 def made(maker, path, *args):
@@ -39,8 +39,8 @@ def some(rng, count, pick):
     return {pick() for _ in range(count)}
 
 
-def offering(rng, shape, relays, sets, i):
-    """Which relays offer the id at a place."""
+def offering(rng, shape, relays, sets, i, ids):
+    """Which relays offer the id at a place, of so many. The last shapes, overlapping communities, want 64 relays or more."""
     any_one = lambda: rng.randrange(relays)
     popular = lambda: int(rng.random() ** 3 * relays)
     if shape == "random":
@@ -58,6 +58,18 @@ def offering(rng, shape, relays, sets, i):
         return set(range(min(1 + int(rng.random() ** 2 * relays), relays)))
     if shape == "single":
         return {i % relays}
+    # Of the relays from one 64th of them to another, some.
+    part = lambda least, end: range(relays * least // 64, relays * end // 64)
+    sample = lambda least, end, count: set(rng.sample(part(least, end), count))
+    if shape == "wide":
+        return sample(0, 48, 8) if i % 3 else sample(40, 60, 6)
+    if shape == "halves":
+        return sample(0, 36, 5) if i % 2 else sample(28, 64, 5)
+    if shape == "bridge":
+        return sample(0, 32, 5) if i % 2 else sample(26, 34, 4)
+    if shape == "comb":
+        few = {r for r in part(40, 57) if rng.getrandbits(1)}
+        return few | set(part(0, 10) if i < ids // 2 else part(57, 58))
     # three: of eighteen ids ten by relays 0 and 1, five by 1 and 2, three by 2 alone
     return {0, 1} if i % 18 < 10 else {1, 2} if i % 18 < 15 else {2}
 
@@ -67,7 +79,7 @@ def offers(path, ids, relays, shape):
     rng = random.Random(1)
     sets = [some(rng, 1 + rng.randrange(6), lambda: rng.randrange(relays)) for _ in range(40)]
     lines = sorted(
-        "offer %s %s\n" % (identity(rng), " ".join(map(str, sorted(offering(rng, shape, relays, sets, i)))))
+        "offer %s %s\n" % (identity(rng), " ".join(map(str, sorted(offering(rng, shape, relays, sets, i, ids)))))
         for i in range(ids))
     with open(path, "w", encoding="ascii") as text:
         text.write("nostr-plan 1\n")

@@ -266,55 +266,6 @@ fn fills_up<J: Naming, D: Wait + Drop, R: Wait>(
     Some((filled.front(), repeat.is_fresh(), repeat.front()))
 }
 
-// To be run with each allocation refused in turn: an insert that is refused changes nothing, and the next one is taken.
-#[test]
-fn a_refused_growth(rt: HostRuntime) -> Result<(), Fail> {
-    assert!(rt; goes_on::<Brand, _, _>(&rt, &rt, rt.alloc(), Blank::new()) != Some(false));
-    Ok(())
-}
-
-// Whether three events are all there in the end, or none where something else was refused.
-fn goes_on<J: Naming, D: Wait + Drop, R: Wait>(
-    rt: &R,
-    keep: D,
-    alloc: Global,
-    blank: Blank,
-) -> Option<bool>
-    requires book { blank ≡ J.book }
-    requires most { J.most ≡ 1000000 }
-{
-    let (mut desk, mut readers) = open_store::<J, D>(keep, alloc, blank, 1).ok()?;
-    let mut reader = readers.pop()?;
-    for number in 0..3 {
-        let event = event(alloc, number, time_of(number))?;
-        if !insert_again(rt, alloc, &mut desk, &mut reader, event) {
-            return Some(false);
-        }
-    }
-    let all = reader.pin(alloc, &Filter::all()).ok()?;
-    Some(all.front() == 3 && all.events().len() == 3 && all.roll().len() == 3)
-}
-
-// Whether the event is inserted, at the second time where the first was refused and left no trace.
-fn insert_again<J: Naming, D: Wait + Drop, R: Wait>(
-    rt: &R,
-    alloc: Global,
-    desk: &mut Desk<J, D>,
-    reader: &mut Reader<J>,
-    event: Arc<Event>,
-) -> bool {
-    let Ok(before) = reader.pin(alloc, &Filter::all()) else {
-        return false;
-    };
-    let Err((_, event)) = desk.insert(rt, event) else {
-        return true;
-    };
-    match reader.pin(alloc, &Filter::all()) {
-        Ok(after) => after.front() == before.front() && desk.insert(rt, event).is_ok(),
-        Err(_) => false,
-    }
-}
-
 #[test]
 fn a_desk_behind_a_lock(rt: HostRuntime) -> Result<(), Fail> {
     assert_eq!(rt;

@@ -35,10 +35,10 @@ beyond_more offers takers n beyond now h lt member =
       whole = λ k s below m. elim (cases_eq k n) [
         | inl e ↦ ap (λ k. is_among (set_at after (at takers k)) s) e ∙ here s ∙ or_right (is_among (set_at beyond slot) s) (is_among (offered offers n) s) (ap (λ k. is_among (offered offers k) s) (sym e) ∙ m)
         | inr ne ↦ (let old : is_among (set_at beyond (at takers k)) s ≡ true = h.whole k s (omega arith) m in
-          elim (cases_eq (at takers k) slot) [
-            | inl e ↦ ap (λ r. is_among (set_at after r) s) e ∙ here s ∙ or_left (is_among (set_at beyond slot) s) (is_among (offered offers n) s) (ap (λ r. is_among (set_at beyond r) s) (sym e) ∙ old)
-            | inr other ↦ ap (λ xs. is_among xs s) (set_there beyond slot now (at takers k) other) ∙ old
-          ])
+            elim (cases_eq (at takers k) slot) [
+              | inl e ↦ ap (λ r. is_among (set_at after r) s) e ∙ here s ∙ or_left (is_among (set_at beyond slot) s) (is_among (offered offers n) s) (ap (λ r. is_among (set_at beyond r) s) (sym e) ∙ old)
+              | inr other ↦ ap (λ xs. is_among xs s) (set_there beyond slot now (at takers k) other) ∙ old
+            ])
       ];
     }
 

@@ -1,5 +1,5 @@
 -- A walk back along ways, which moves one id at each.
-use Rattle.std.proofs.Common.{◌≡◌, ◌≢◌, ℕ, ◌+◌, ◌<◌, ◌≤◌, ◌==◌, true, cond, List, length, get_or, set, refl, sym, ap, ◌∙◌, subst, arith, inl, inr}
+use Rattle.std.proofs.Common.{◌≡◌, ◌≢◌, ℕ, ◌+◌, ◌<◌, ◌≤◌, ◌==◌, true, cond, List, length, get_or, set, sym, ap, ◌∙◌, subst, arith, inl, inr}
 use Rattle.sharing.specs.declared.TheConstants.{RELAYS}
 use Rattle.std.proofs.lemmas.List.{length-set, get_or-set_other}
 use Rattle.sharing.specs.Sharing.{is_among}
@@ -14,9 +14,6 @@ pub record Walking (offers : List (Id × List ℕ)) (old reached turns : List �
   pub untouched : (k : ℕ) → at turns (at old k) < at turns here → at now k ≡ at old k
   pub moved : IsMoved old now here end
   pub kept : AreOffered offers now
-
-pub walking_none : (offers : List (Id × List ℕ)) (old reached turns : List ℕ) (end : ℕ) → is_among reached end ≡ true → AreOffered offers old → Walking offers old reached turns end old end
-walking_none offers old reached turns end known kept = record { known = known; untouched = λ k lt. refl; moved = λ r. refl; kept = kept }
 
 module _ (offers : List (Id × List ℕ)) (old : List ℕ) (beyond : List (List ℕ)) (loads : List ℕ) (most : ℕ) (reached froms turns : List ℕ) (turn end : ℕ) (now : List ℕ) (here : ℕ) (is_beyond : IsBeyond offers old (length old) beyond)
     (reach : AreReached beyond loads most reached froms turns turn) (long : length now ≡ length old) (h : Walking offers old reached turns end now here) (low : at loads here < most) where

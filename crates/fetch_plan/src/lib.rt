@@ -63,6 +63,5 @@ pub fn plan(alloc: Global, table: &OfferTable, bases: &Bases) -> Result<Plan, Al
     })
 }
 
-
 #[cfg(test)]
 mod tests;

@@ -88,28 +88,74 @@ type Row = (
 
 const ROWS: [Row; 11] = [
     (&[], &[], 0, &[], [0, 0, 0]),
-    (&[(10, &[0]), (11, &[0]), (12, &[0]), (13, &[0, 1])], &[], 3, &[0], [3, 1, 0]),
-    (&[(10, &[0]), (11, &[0, 1]), (12, &[1, 2])], &[], 1, &[0, 1, 2], [1, 1, 1]),
     (
-        &[(10, &[0, 1]), (11, &[0, 1]), (12, &[0, 1]), (13, &[0, 1]), (14, &[1, 2])],
+        &[(10, &[0]), (11, &[0]), (12, &[0]), (13, &[0, 1])],
+        &[],
+        3,
+        &[0],
+        [3, 1, 0],
+    ),
+    (
+        &[(10, &[0]), (11, &[0, 1]), (12, &[1, 2])],
+        &[],
+        1,
+        &[0, 1, 2],
+        [1, 1, 1],
+    ),
+    (
+        &[
+            (10, &[0, 1]),
+            (11, &[0, 1]),
+            (12, &[0, 1]),
+            (13, &[0, 1]),
+            (14, &[1, 2]),
+        ],
         &[],
         2,
         &[0, 1],
         [2, 2, 1],
     ),
-    (&[(10, &[0]), (11, &[0, 1]), (12, &[0, 1]), (13, &[0, 1])], &[], 2, &[0, 1], [2, 2, 0]),
+    (
+        &[(10, &[0]), (11, &[0, 1]), (12, &[0, 1]), (13, &[0, 1])],
+        &[],
+        2,
+        &[0, 1],
+        [2, 2, 0],
+    ),
     (&[], &[(7, 9)], 9, &[7], [0, 0, 0]),
     (&[(10, &[0, 1])], &[(0, 2)], 2, &[0], [2, 1, 0]),
-    (&[(10, &[0, 1]), (11, &[0, 1]), (12, &[0, 1])], &[(0, 2)], 3, &[0, 1], [3, 2, 0]),
+    (
+        &[(10, &[0, 1]), (11, &[0, 1]), (12, &[0, 1])],
+        &[(0, 2)],
+        3,
+        &[0, 1],
+        [3, 2, 0],
+    ),
     (&[(10, &[0, 1])], &[(1, 1)], 1, &[0, 1], [1, 1, 0]),
-    (&[(10, &[1])], &[(1, 1_000_000_000_000)], 1_000_000_000_001, &[1], [0, 1_000_000_000_001, 0]),
-    (&[(10, &[2])], &[(0, 1), (200, 1)], 1, &[0, 2, 200], [1, 0, 1]),
+    (
+        &[(10, &[1])],
+        &[(1, 1_000_000_000_000)],
+        1_000_000_000_001,
+        &[1],
+        [0, 1_000_000_000_001, 0],
+    ),
+    (
+        &[(10, &[2])],
+        &[(0, 1), (200, 1)],
+        1,
+        &[0, 2, 200],
+        [1, 0, 1],
+    ),
 ];
 
 #[test]
 fn small_plans(rt: HostRuntime) -> Result<(), Fail> {
     for (offers, bases, least_max, group, loads) in ROWS {
-        let made = plan(rt.alloc(), &table(rt.alloc(), offers, 3)?, &bases_of(bases)?)?;
+        let made = plan(
+            rt.alloc(),
+            &table(rt.alloc(), offers, 3)?,
+            &bases_of(bases)?,
+        )?;
         let right = made.least_max() == least_max
             && has_group(&made, group)
             && [made.load(0), made.load(1), made.load(2)] == loads;
@@ -150,7 +196,11 @@ fn three_large_groups(rt: HostRuntime) -> Result<(), Fail> {
     let first = table_of(rt.alloc(), 0, &numbered(rt.alloc(), 0, 100_000)?)?;
     let second = table_of(rt.alloc(), 1, &numbered(rt.alloc(), 0, 150_000)?)?;
     let third = table_of(rt.alloc(), 2, &numbered(rt.alloc(), 100_000, 180_000)?)?;
-    let made = plan(rt.alloc(), &merged(merged(first, second)?, third)?, &Bases::none())?;
+    let made = plan(
+        rt.alloc(),
+        &merged(merged(first, second)?, third)?,
+        &Bases::none(),
+    )?;
     assert_eq!(rt; (made.len(), made.least_max()), (180_000, 60_000));
     assert!(rt; has_group(&made, &[0, 1, 2]));
     Ok(())
@@ -163,9 +213,15 @@ fn a_plan_tells_its_gives(rt: HostRuntime) -> Result<(), Fail> {
     let made = plan(rt.alloc(), &table(rt.alloc(), &offers, 3)?, &bases)?;
     assert_eq!(rt; made.len(), 3);
     let cells = [made.cell(0), made.cell(1), made.cell(2)];
-    assert!(rt; cells == [(Id([10; 32]), 0), (Id([11; 32]), 0), (Id([12; 32]), 1)] || cells == [(Id([10; 32]), 0), (Id([11; 32]), 1), (Id([12; 32]), 1)]);
+    assert!(rt;
+        cells == [(Id([10; 32]), 0), (Id([11; 32]), 0), (Id([12; 32]), 1)]
+            || cells == [(Id([10; 32]), 0), (Id([11; 32]), 1), (Id([12; 32]), 1)]
+    );
     assert!(rt; made.relay_of(&Id([12; 32])) == Some(1) && made.relay_of(&Id([13; 32])) == None);
-    assert_eq!(rt; (made.least_max(), made.bases().of(2), made.load(300)), (5, 5, 0));
+    assert_eq!(rt;
+        (made.least_max(), made.bases().of(2), made.load(300)),
+        (5, 5, 0)
+    );
     Ok(())
 }
 
@@ -209,7 +265,11 @@ fn shares_evenly(
     least: u64,
     most: u64,
 ) -> Result<bool, Fail> {
-    let made = plan(rt.alloc(), &large_table(rt.alloc(), shape, 1_024)?, &Bases::none())?;
+    let made = plan(
+        rt.alloc(),
+        &large_table(rt.alloc(), shape, 1_024)?,
+        &Bases::none(),
+    )?;
     Ok(made.len() == 1_024 && made.least_max() >= least && made.least_max() <= most)
 }
 
@@ -217,7 +277,13 @@ fn shares_evenly(
 // are on 33 relays, which has 24 for one of them.
 #[test]
 fn large_plans(rt: HostRuntime) -> Result<(), Fail> {
-    for (shape, least, most) in [(0u8, 4u64, 8u64), (1, 128, 128), (2, 16, 64), (3, 4, 64), (4, 24, 24)] {
+    for (shape, least, most) in [
+        (0u8, 4u64, 8u64),
+        (1, 128, 128),
+        (2, 16, 64),
+        (3, 4, 64),
+        (4, 24, 24),
+    ] {
         assert!(rt; shares_evenly(&rt, shape, least, most)?, "shape {shape}");
     }
     Ok(())

@@ -8,16 +8,8 @@ ghost use Rattle.mirror_app.specs.CommandLine.{nostr_mirror, program as the_prog
 
 use crate::usage::{WordsFault, fault_of};
 use clap::{Arg, ArgMatches, Command, value_parser};
+use neg_session::{DEFAULT_LIMIT, LEAST_LIMIT, MOST_LIMIT};
 use std::alloc::{AllocError, Global};
-
-/// How many bytes a message may have at least.
-const LEAST_LIMIT: usize = 4_096;
-
-/// How many it may have at most.
-const MOST_LIMIT: usize = 1_048_576;
-
-/// How many it may have where no limit is named.
-const DEFAULT_LIMIT: usize = 60_000;
 
 /// What `--version` tells.
 const VERSION: &str = "0.1.0";

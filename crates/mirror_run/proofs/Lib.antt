@@ -1,5 +1,4 @@
 mod LineLemmas
-mod TimeLemmas
 mod HexLemmas
 mod ItemLemmas
 mod OutputLemmas

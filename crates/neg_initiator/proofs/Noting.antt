@@ -1,6 +1,7 @@
 -- Ids that are noted one after another.
 use Rattle.std.proofs.Common.{◌≡◌, ℕ, ◌+◌, ◌<◌, ◌≤◌, ◌⊎◌, ◌↔◌, IsTrue, inl, inr, Bool, true, false, List, [], ◌∷◌, length, take, drop, get_or, refl, sym, subst, arith}
 use Rattle.std.specs.Prelude.{Contains}
+use Rattle.std.specs.Cmp.{IsTotalOrder}
 use Rattle.std.specs.declared.cmp.Ordering.{Ordering}
 use Rattle.std.specs.declared.cmp.Ordering.TheVariants.{Less, Equal}
 use Rattle.std.specs.List.Sorted.{IsStrictlySortedBy}
@@ -17,12 +18,12 @@ use Rattle.neg_initiator.proofs.Keys.{id_total, seen_gives, seen_keeps, seen_the
 no_less : (o : Ordering) → o ≡ Less → o ≡ Equal → ⊥
 no_less o a b = cc
 
--- ids in order are distinct
-pub sorted_distinct : (ks : List Id) → IsStrictlySortedBy id_cmp ks → Distinct ks
+-- what is in order is distinct
+pub sorted_distinct : {X : Type 0} {R : X → X → Ordering} → IsTotalOrder R → (xs : List X) → IsStrictlySortedBy R xs → Distinct xs
 unfolding IsStrictlySortedBy
-sorted_distinct [] h = tt
-sorted_distinct (k ∷ ks) h =
-    (λ c. no_less (id_cmp k k) (All-contains (λ y. id_cmp k y ≡ Less) ks k (All-from_recursion (λ y. id_cmp k y ≡ Less) ks h.0) c) (tied_itself id_total k), sorted_distinct ks h.1)
+sorted_distinct o [] h = tt
+sorted_distinct {R = R} o (x ∷ xs) h =
+    (λ c. no_less (R x x) (All-contains (λ y. R x y ≡ Less) xs x (All-from_recursion (λ y. R x y ≡ Less) xs h.0) c) (tied_itself o x), sorted_distinct o xs h.1)
 
 pub not_there : (b : Bool) (P : Type 0) → (IsTrue b ↔ P) → b ≡ false → P → ⊥
 not_there b P h e p = let is = h.1 p in no_true b is e
@@ -33,7 +34,7 @@ not_there b P h e p = let is = h.1 p in no_true b is e
 pub passes_one : (others : List Id) (id : Id) (ks : List Id) (most : ℕ) → IsStrictlySortedBy id_cmp ks → (Contains ks id → ⊥) → (Contains others id → ⊥) → most ≤ length ks → Passes others (id ∷ []) ks most
 passes_one others id ks most up new lacks le = record {
   ids = id ∷ ks;
-  distinct = (new, sorted_distinct ks up);
+  distinct = (new, sorted_distinct id_total ks up);
   more = omega (arith, le);
   each = λ i h. elim (contains_cases id ks i h) [
     | inl e ↦ inr (subst (λ (x : Id). Contains (id ∷ []) x) e (contains_head id []), λ c. lacks (subst (λ (x : Id). Contains others x) (sym e) c))

@@ -10,14 +10,14 @@ use Rattle.neg_codec.specs.Keys.{place, least, infinity, IsKey}
 use Rattle.neg_codec.specs.Ranges.{Claim, skip, print, ids, Span, Stretch, stretches, Lies, IsSkip, Ascends, IsSpan}
 use Rattle.neg_codec.specs.Encoding.{text_of}
 use Rattle.item_roll.specs.Closed.{closed_from}
-use Rattle.item_roll.specs.Truth.{IsTrueOf, Meet}
-use Rattle.neg_draft.specs.Coverage.{begun_at, Written, end_of, passed, IsDraft, Covers, Whole, Cut, Told, HasKeys, gap, all_left}
+use Rattle.item_roll.specs.Truth.{IsTrueOf}
+use Rattle.neg_draft.specs.Coverage.{begun_at, Written, end_of, passed, IsDraft, Covers, Told, HasKeys, gap, all_left}
 use Rattle.neg_draft.proofs.Covering.{closed-append, edge_low, covers_none, covers_passes, covers_whole, covers_cut, end-append, stretch_of, beyond, told_whole, skipped_left_out, left_out_skipped, passed_place}
 use Rattle.neg_draft.proofs.Walking.{ascends_after}
 use Rattle.neg_initiator.specs.Session.{IsAnswered, NotAskedAgain}
 use Rattle.neg_initiator.specs.Settling.{Findings, AccountsFor, Finds, Settles}
 use Rattle.neg_initiator.specs.Settling as settling
-use Rattle.neg_initiator.specs.Trusting.{bounds_of, below, TrustsSkipped}
+use Rattle.neg_initiator.specs.Trusting.{TrustsSkipped}
 use Rattle.neg_initiator.specs.Walked.{IsBelow, MayDrop, MustDrop, Found, IsOver, Remains, IsRead}
 use Rattle.neg_initiator.proofs.Trusts.{earlier_above}
 use Rattle.neg_initiator.proofs.Step.{Accounts, Accounted}
@@ -191,6 +191,7 @@ stays d le = ap (λ (b : Bool). record { limit = d.limit; spans = d.spans; end =
 pub read_until : (limit : ℕ) (a : List Item) (front back : List Span) (until : Item) (old f : Findings) (d : Written) → Ascends least (front ++ back) → All IsSpan (front ++ back) → Stepped limit a (front ++ back) front until old f d
     → place infinity ≤ place d.end → IsRead limit a (front ++ back) old f until d
 read_until limit a front back until old f d up fits s over = record {
+  ascends = up;
   bytes = s.bytes;
   found = s.found;
   covers = subst (λ (w : Written). Covers (IsTrueOf a) (MayDrop a (front ++ back) until f) (MustDrop a (front ++ back)) w) (stays d over) s.covers;
@@ -215,14 +216,15 @@ read_until limit a front back until old f d up fits s over = record {
     all_back P (x ∷ xs) ys h = all_back P xs ys (All-tail P x (xs ++ ys) h)
 
 -- or to its end
-pub read_whole : (limit : ℕ) (a : List Item) (answered : List Span) (old f : Findings) (d : Written) → IsDraft d → Progress limit a answered answered old f d → IsRead limit a answered old f infinity d
-read_whole limit a answered old f d draft was =
+pub read_whole : (limit : ℕ) (a : List Item) (answered : List Span) (old f : Findings) (d : Written) → Ascends least answered → IsDraft d → Progress limit a answered answered old f d → IsRead limit a answered old f infinity d
+read_whole limit a answered old f d up draft was =
     let now : Covers (IsTrueOf a) (MayDrop a answered infinity f) (MustDrop a answered) d = record {
       told = was.covers.told;
       may = λ k key lt out. further a answered (end_of least answered) infinity f k (omega (arith, was.reached, draft.low)) (was.covers.may k key lt out);
       must = was.covers.must;
     } in
     record {
+      ascends = up;
       bytes = was.bytes;
       found = was.found;
       covers = covers_passes (IsTrueOf a) (MayDrop a answered infinity f) (MustDrop a answered) d infinity draft draft.low now

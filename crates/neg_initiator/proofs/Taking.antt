@@ -2,7 +2,7 @@
 use Rattle.std.proofs.Common.{◌≡◌, ℕ, suc, ◌+◌, ◌<◌, ◌≤◌, ◌⊎◌, ◌++◌, inl, inr, List, [], ◌∷◌, length, map, take, drop, get_or, refl, sym, ap, subst, ◌∙◌, arith}
 use Rattle.std.specs.Prelude.{Contains, All, Result, Ok}
 use Rattle.std.proofs.lemmas.List.Elements.{All-contains, All-weaker, All-contains_itself}
-use Rattle.neg_codec.proofs.Stretches.{contains_head, contains_tail, contains_cases, contains_none}
+use Rattle.neg_codec.proofs.Stretches.{one_stretch, contains_head, contains_tail, contains_cases, contains_none}
 use Rattle.neg_codec.specs.declared.CodecFault.{CodecFault}
 use Rattle.neg_codec.specs.declared.Id.{Id}
 use Rattle.neg_codec.specs.Reading.{message_at}
@@ -27,7 +27,7 @@ use Rattle.neg_initiator.specs.Settled.{HasOnePrint}
 use Rattle.neg_initiator.specs.Settling.{Findings, Finds, Settles, ListsTooMany}
 use Rattle.neg_initiator.specs.Trusting.{bounds_of, TrustsSkipped, IsSkippedPrint, IsOwnPrint}
 use Rattle.neg_initiator.proofs.Meeting.{stretches-append}
-use Rattle.neg_initiator.proofs.Step.{settled_after}
+use Rattle.neg_initiator.proofs.Step.{Accounts, settled_after}
 use Rattle.neg_initiator.specs.Walked.{Found, IsRead}
 use Rattle.neg_initiator.proofs.Stepping.{Progress, Stepped, Walked, progress_more, step_on, read_until}
 
@@ -48,17 +48,27 @@ own_one_print a b asked answered s follows h = one_print_at a b s h.print_of h.c
 from_each : {X : Type 0} (P : X → Type 0) (xs : List X) → ((x : X) → Contains xs x → P x) → All P xs
 from_each P xs h = All-weaker (Contains xs) P h xs (All-contains_itself xs)
 
-pub taken_from : (limit : ℕ) (a : List Item) (asked answered next : List Span) (until : Item) (old mid new : Findings) (most : ℕ) → 4096 ≤ limit → IsRoll a → Ascends least asked → All (IsTrueOf a) (stretches asked)
+pub taken_from : (limit : ℕ) (a : List Item) (asked answered next : List Span) (until : Item) (old mid new : Findings) (most : ℕ) → 4096 ≤ limit → IsRoll a → Ascends least asked → Ascends least answered → All (IsTrueOf a) (stretches asked)
     → Found a answered old mid → TrustsSkipped asked answered until (stretches asked) mid.trusted new.trusted → new.need ≡ mid.need → new.have ≡ mid.have → Ascends least next → NoneEmpty next → Walked limit a asked answered next new
     → Taken answered (asking limit a asked old most) (asking limit a next new most)
-taken_from limit a asked answered next until old mid new most enough roll up truth found trusts need have ascends full w = record {
+taken_from limit a asked answered next until old mid new most enough roll up order truth found trusts need have ascends full w = record {
   roll = refl;
   limit_is = refl;
   most = refl;
   sound = record { roll = roll; ascends = ascends; none_empty = full; truth = w.truth; enough = enough };
   not_again = w.not_again;
   need_from = λ i h. found.need_new i (subst (λ (xs : List Id). Contains xs i) need h);
+  need_noted = λ i h.
+      let m = w.accounted.each h.2 h.7 h.9 in
+      let here : m.0 ≡ h.0 = one_stretch answered order h.2 m.0 h.0 m.1 h.3 m.2 h.8 in
+      let owed = subst (λ (s : Stretch). Accounts a asked new.trusted new.need new.have s.lower s.upper s.claim) here m.3 in
+      let listed = subst (λ (c : Claim). Accounts a asked new.trusted new.need new.have h.0.lower h.0.upper c) h.4 owed in
+      listed.0 i h.5 h.6;
   trusted_kept = λ x h. trusts.kept x (found.trusted_kept x h);
+  trusted_from = λ x h. elim (trusts.right x h) [
+    | inl m ↦ elim (found.trusted_new x m) [ inl o ↦ inl o | inr s ↦ inr (s.0, s.1, inr s.2) ]
+    | inr s ↦ inr (s.0, s.1, inl s.2)
+  ];
   advances = λ b rb follows. record {
     one_print = from_each (λ t. Contains old.trusted t ⊎ HasOnePrint a b t) new.trusted (λ x h. elim (trusts.right x h) [
       | inl m ↦ elim (found.trusted_new x m) [
@@ -166,7 +176,9 @@ taken_any answered o n p q t = record {
   sound = record { roll = t.sound.roll; ascends = t.sound.ascends; none_empty = t.sound.none_empty; truth = t.sound.truth; enough = t.sound.enough };
   not_again = t.not_again;
   need_from = t.need_from;
+  need_noted = t.need_noted;
   trusted_kept = t.trusted_kept;
+  trusted_from = t.trusted_from;
   advances = λ b rb follows. let a = t.advances b rb follows in record { one_print = a.one_print; settled = a.settled };
 }
 

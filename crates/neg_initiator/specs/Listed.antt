@@ -2,21 +2,26 @@
 use Rattle.std.specs.Prelude.{◌≡◌, ◌<◌, ◌⊎◌, ℕ, List, [], ◌∷◌, length, Contains}
 use Rattle.neg_codec.specs.declared.Id.{Id}
 use Rattle.neg_codec.specs.declared.Item.{Item}
-use Rattle.neg_codec.specs.Ranges.{ids, Span, Stretch, stretches}
+use Rattle.neg_codec.specs.Keys.{IsKey}
+use Rattle.neg_codec.specs.Ranges.{ids, Span, Stretch, stretches, Lies}
 use Rattle.item_roll.specs.Parts.{part, ids_of}
 
 -- the reply lists the id in a stretch where the own roll lacks it
 abbrev pub IsListed : List Item → List Span → Id → Type 0
 IsListed a answered i = (s : Stretch) × (is : List Id) × Contains (stretches answered) s × (s.claim ≡ ids is) × Contains is i × (Contains (ids_of (part a s.lower s.upper)) i → ⊥)
 
+-- the reply lists the id in a stretch where the own roll lacks it, and which has a key that is so
+abbrev pub IsListedWhere : (Item → Type 0) → List Item → List Span → Id → Type 0
+IsListedWhere P a answered i = (s : Stretch) × (is : List Id) × (k : Item) × Contains (stretches answered) s × (s.claim ≡ ids is) × Contains is i × (Contains (ids_of (part a s.lower s.upper)) i → ⊥) × IsKey k × Lies k s × P k
+
 -- the own roll has the id in a stretch where the reply doesn't list it
 abbrev pub IsUnlisted : List Item → List Span → Id → Type 0
 IsUnlisted a answered i = (s : Stretch) × (is : List Id) × Contains (stretches answered) s × (s.claim ≡ ids is) × Contains (ids_of (part a s.lower s.upper)) i × (Contains is i → ⊥)
 
--- no id stands twice
-abbrev pub Distinct : List Id → Type 0
+-- nothing stands twice
+abbrev pub Distinct : {X : Type 0} → List X → Type 0
 Distinct [] = Unit {0}
-Distinct (i ∷ is) = (Contains is i → ⊥) × Distinct is
+Distinct (x ∷ xs) = (Contains xs x → ⊥) × Distinct xs
 
 -- more ids than may be needed: found needed before, or listed by the reply
 pub record PassesMost (a : List Item) (answered : List Span) (need : List Id) (most : ℕ) : Type 0 where

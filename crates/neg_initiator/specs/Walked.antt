@@ -3,7 +3,7 @@ use Rattle.std.specs.Prelude.{◌≡◌, ◌<◌, ◌⊎◌, ℕ, List, [], All,
 use Rattle.neg_codec.specs.declared.Id.{Id}
 use Rattle.neg_codec.specs.declared.Item.{Item}
 use Rattle.neg_codec.specs.Keys.{place, least, infinity, IsKey}
-use Rattle.neg_codec.specs.Ranges.{Span, Stretch, stretches, Lies}
+use Rattle.neg_codec.specs.Ranges.{Span, Stretch, stretches, Lies, Ascends}
 use Rattle.item_roll.specs.Truth.{IsTrueOf}
 use Rattle.item_roll.specs.Closed.{closed_from}
 use Rattle.neg_draft.specs.Coverage.{Written, HasKeys, end_of, passed, Covers}
@@ -45,6 +45,7 @@ Remains a answered front d =
 
 -- The reply was read up to a bound: to its end, or up to where the next ask was cut.
 pub record IsRead (limit : ℕ) (a : List Item) (answered : List Span) (old new : Findings) (until : Item) (d : Written) : Type 0 where
+  pub ascends : Ascends least answered
   pub bytes : d.limit ≡ limit
   pub found : Found a answered old new
   pub covers : Covers (IsTrueOf a) (MayDrop a answered until new) (MustDrop a answered) (passed d infinity)

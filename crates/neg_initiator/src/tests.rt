@@ -155,6 +155,30 @@ fn skipped_fingerprints_are_trusted(rt: HostRuntime) -> Result<(), Fail> {
     Ok(())
 }
 
+/// A reply that says of the keys below time 5 what an empty roll has there, and then more.
+fn same_below(alloc: Global, roll: &Roll, more: &[u8]) -> Result<Vec<u8>, AllocError> {
+    let mut bytes = b"\x61\x06\x00\x01".to_vec(alloc)?;
+    bytes.extend_from_slice(&roll.print(0, 0))?;
+    bytes.extend_from_slice(more)?;
+    Ok(bytes)
+}
+
+#[test]
+fn a_fingerprint_that_is_repeated_is_trusted_once(rt: HostRuntime) -> Result<(), Fail> {
+    let alloc = rt.alloc();
+    let roll = Roll::from_items(alloc, &[])?;
+    let (mut session, _) = Initiator::start(alloc, &roll, 4_096, 10)?;
+    let first = same_below(alloc, &roll, b"\x00\x00\x01wwwwwwwwwwwwwwww")?;
+    assert!(rt; matches!(session.take(&first)?, Next::Ask(_)));
+    let second = same_below(alloc, &roll, b"\x00\x00\x02\x00")?;
+    assert!(rt; matches!(session.take(&second)?, Next::Done));
+    if !session.is_done() {
+        return Err(Fail::from("not done"));
+    }
+    assert_eq!(rt; session.outcome().trusted.len(), 1);
+    Ok(())
+}
+
 /// 400 items of distinct ids at the times from 0 on.
 fn many(alloc: Global) -> Result<Roll, Fail> {
     let mut items = Vec::new(alloc);

@@ -1,11 +1,12 @@
 //! Stretches that are trusted because the reply skips them.
 
-ghost use Rattle.std.specs.Prelude.{◌≡◌, ◌≤◌, ◌<◌, ◌↔◌, [], ◌∷◌, ◌++◌, List, IsTrue, OnOk, length, map, take};
+ghost use Rattle.std.specs.Prelude.{◌≡◌, ◌≤◌, ◌<◌, ◌↔◌, [], ◌∷◌, ◌++◌, List, Any, Contains, true, IsTrue, OnOk, length, map, take};
 ghost use Rattle.neg_codec.specs.declared.Item.{Item};
 ghost use Rattle.neg_codec.specs.Keys.{place};
 ghost use Rattle.neg_codec.specs.Ranges.{Ascends, stretches, stretches_from, edge_of, span_of};
 ghost use Rattle.item_roll.specs.Truth.{Meet};
 ghost use Rattle.neg_draft.specs.Coverage.{begun_at, end_of};
+ghost use Rattle.neg_initiator.specs.Listed.{Distinct};
 ghost use Rattle.neg_initiator.specs.Pairs.{pair_of};
 ghost use Rattle.neg_initiator.specs.Trusting.{between, earlier, IsSkippedIn, TrustsOne, TrustsSkipped};
 
@@ -142,4 +143,14 @@ pub fn trust_skipped(
         lower = range.upper;
     }
     Ok(())
+}
+
+/// Puts values in order, each once.
+pub fn put_in_order<T: Ord + Drop>(list: &mut Vec<T>)
+    ensures kept { (x : T) → Contains list.old.items x → Any (λ y. T.eq x y ≡ true) list.new.items }
+    ensures from { (x : T) → Contains list.new.items x → Contains list.old.items x }
+    ensures once { Distinct list.new.items }
+{
+    list.sort_unstable();
+    list.dedup();
 }

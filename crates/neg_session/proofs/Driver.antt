@@ -1,28 +1,30 @@
 -- How the log of a session grows, question by question, and how the session ends.
-use Rattle.std.proofs.Common.{◌≡◌, ℕ, ◌+◌, ◌-◌, ◌<◌, ◌≤◌, ◌++◌, ◌⊎◌, inl, inr, List, [], ◌∷◌, length, drop, Result, Ok, Err, refl, sym, ap, ◌∙◌, subst, arith, zero-add, append_assoc, append-nil, length-append}
+use Rattle.std.proofs.Common.{◌≡◌, ℕ, ◌+◌, ◌<◌, ◌≤◌, ◌++◌, ◌⊎◌, inl, inr, List, [], ◌∷◌, length, drop, Result, Ok, Err, refl, sym, ap, ◌∙◌, subst, arith, zero-add, append_assoc, append-nil, length-append}
 use Rattle.std.specs.Prelude.{◌↔◌, All, Contains}
 use Rattle.std.proofs.lemmas.List.Elements.{All-nil, All-head, All-tail, All-push, All-weaker, All-contains, All-contains_itself, Contains-append_left, Contains-push}
 use Rattle.std.proofs.lemmas.List.Sums.{sum_by-append}
 use Rattle.std.proofs.Math.Seq.{drop-append_seam, drop-length}
+use Rattle.neg_codec.proofs.Stretches.{contains_head, contains_tail, contains_cases, contains_none}
 use Rattle.neg_codec.specs.declared.CodecFault.{CodecFault}
 use Rattle.neg_codec.specs.declared.Id.{Id}
 use Rattle.neg_codec.specs.declared.Item.{Item}
 use Rattle.neg_codec.specs.Laws.{OneMessage}
-use Rattle.neg_codec.specs.Ranges.{Span, stretches}
+use Rattle.neg_codec.specs.Ranges.{Span, stretches, IsSkip}
 use Rattle.neg_codec.specs.Reading.{message_at}
 use Rattle.neg_codec.specs.Text.{Spells}
 use Rattle.neg_codec.specs.Encoding.{text_of}
 use Rattle.item_roll.specs.Parts.{IsRoll, part}
 use Rattle.item_roll.specs.Truth.{IsTrueOf, Follows}
 use Rattle.neg_initiator.specs.declared.initiator.Outcome.{Outcome}
-use Rattle.neg_initiator.specs.Listed.{IsListed, PassesMost}
+use Rattle.neg_initiator.specs.Listed.{IsListed, IsListedWhere, Distinct, PassesMost}
 use Rattle.neg_initiator.specs.Session.{Session, Starts, Taken, GoesOn, IsDone, NotAskedAgain, Refuses, IsAskDue}
-use Rattle.neg_initiator.specs.Settled.{HasOnePrint, ToldApart, OneTime, Settled, Needs, Has}
+use Rattle.neg_initiator.specs.Settled.{HasOnePrint, ToldApart, OneTime, IsSkipped, Settled, Needs, Has}
+use Rattle.neg_initiator.specs.Trusting.{IsTrustedBy}
 use Rattle.neg_initiator.proofs.Ends.{settled_first, settled_last}
 use Rattle.neg_session.specs.Exchange.{Exchange, exchange, gained, answered_bytes}
 use Rattle.neg_session.specs.Explaining.{IsExplained, Explains}
 use Rattle.neg_session.specs.Asking.{Resumes, Linked, Chained, MayResume, MayAsk}
-use Rattle.neg_session.specs.Ran.{trusted_of, IsRight, LastAnswer, IsRefused, IsOffered, OffersMore, IsDue, Ran}
+use Rattle.neg_session.specs.Ran.{trusted_of, IsRight, LastAnswer, IsRefused, IsOffered, OffersMore, AsksForFew, IsShown, IsDue, Ran}
 use Rattle.neg_session.specs.Going.{Knows, IsRead, Going}
 use Rattle.neg_session.specs.Faults.{fault_of}
 use Rattle.neg_session.specs.declared.peer.PeerFault.{PeerFault}
@@ -141,6 +143,38 @@ offers_more own es e answered need most read before h = record {
       h.ids (All-contains_itself h.ids);
 }
 
+-- stretches that are shown to be the same
+
+shown_more : (own : List Item) (es fs : List Exchange) (t : Item × Item) → IsShown own es t → IsShown own (es ++ fs) t
+shown_more own es fs t h = record { pair = h.pair; asked = h.asked; answered = h.answered; stands = Contains-append_left es fs h.pair h.stands; asks = h.asks; read = h.read; trusted = h.trusted }
+
+shown_last : (own : List Item) (es : List Exchange) (e : Exchange) (asked answered : List Span) → Spells e.asked asked → message_at e.answered ≡ Ok answered → (t : Item × Item) → IsTrustedBy own asked answered t → IsShown own (es ++ e ∷ []) t
+shown_last own es e asked answered asks read t h = record { pair = e; asked = asked; answered = answered; stands = Contains-push es e; asks = asks; read = read; trusted = h }
+
+-- distinct values of a list are no more than it has
+
+without : {X : Type 0} (y : X) (ys : List X) → Contains ys y → (zs : List X) × (length ys ≡ length zs + 1) × ((x : X) → Contains ys x → (x ≡ y) ⊎ Contains zs x)
+without y [] h = absurd (contains_none y h)
+without y (z ∷ zs) h = elim (contains_cases z zs y h) [
+  | inl e ↦ (zs, omega arith, λ x k. elim (contains_cases z zs x k) [ inl e' ↦ inl (sym e' ∙ e) | inr r ↦ inr r ])
+  | inr rest ↦
+      let s = without y zs rest in (
+        z ∷ s.0,
+        omega (arith, s.1),
+        λ x k. elim (contains_cases z zs x k) [
+          | inl e ↦ inr (subst (λ w. Contains (z ∷ s.0) w) e (contains_head z s.0))
+          | inr r ↦ elim (s.2 x r) [ inl e ↦ inl e | inr t ↦ inr (contains_tail z s.0 x t) ]
+        ],
+      )
+]
+
+no_more : {X : Type 0} (xs ys : List X) → Distinct xs → ((x : X) → Contains xs x → Contains ys x) → length xs ≤ length ys
+no_more [] ys d h = omega arith
+no_more (x ∷ xs) ys d h =
+    let s = without x ys (h x (contains_head x xs)) in
+    let rest = no_more xs s.0 d.1 (λ y k. elim (s.2 y (h y (contains_tail x xs y k))) [ inl e ↦ absurd (d.0 (subst (λ w. Contains xs w) e k)) | inr t ↦ t ]) in
+    omega (arith, rest, s.1)
+
 -- what is known of the other side
 
 told_before : (own b : List Item) (ts us : List (Item × Item)) → ((t : Item × Item) → Contains ts t → Contains us t) → ToldApart own b us → ToldApart own b ts
@@ -166,15 +200,15 @@ knows_more b old new answered roll_b follows taken knows =
       settled = λ told one. step.settled told one (knows.settled (told_before old.roll b old.trusted new.trusted taken.trusted_kept told) one);
     }
 
-right_of : (own b : List Item) (s : Session) (o : Outcome) → Knows own b s → IsDone s → o.need.keys ≡ s.need → o.have.keys ≡ s.have → trusted_of o ≡ s.trusted → IsRight own b o
+right_of : (own b : List Item) (s : Session) (o : Outcome) → Knows own b s → IsDone s → o.need.keys ≡ s.need → o.have.keys ≡ s.have → ((t : Item × Item) → Contains (trusted_of o) t ↔ Contains s.trusted t) → IsRight own b o
 right_of own b s o knows done is_need is_have is_trusted = record {
-  one_print = subst (λ ts. All (HasOnePrint own b) ts) (sym is_trusted) knows.one_print;
+  one_print = All-weaker (Contains (trusted_of o)) (HasOnePrint own b) (λ t h. All-contains (HasOnePrint own b) s.trusted t knows.one_print ((is_trusted t).0 h)) (trusted_of o) (All-contains_itself (trusted_of o));
   need = λ told one i. subst (λ (ns : List Id). Contains ns i ↔ Needs own b i) (sym is_need) ((found told one).0 i);
   have = λ told one i. subst (λ (hs : List Id). Contains hs i ↔ Has own b i) (sym is_have) ((found told one).1 i);
 }
   where
     found : ToldApart own b (trusted_of o) → OneTime own b → ((i : Id) → Contains s.need i ↔ Needs own b i) × ((i : Id) → Contains s.have i ↔ Has own b i)
-    found told one = settled_last own b s.asked s.need s.have done.skips_all (knows.settled (subst (λ ts. ToldApart own b ts) is_trusted told) one)
+    found told one = settled_last own b s.asked s.need s.have done.skips_all (knows.settled (told_before own b s.trusted (trusted_of o) (λ t h. (is_trusted t).1 h) told) one)
 
 -- a session begins
 
@@ -197,11 +231,9 @@ going_first own limits old before text s h = record {
   spelled = h.spelled;
   few = rw h.need (omega arith);
   offered = λ i m. absurd (contains_none i (subst (λ (ns : List Id). Contains ns i) h.need m));
+  shown = λ t m. absurd (contains_none t (subst (λ (ts : List (Item × Item)). Contains ts t) h.trusted m));
   knows = λ b e. knows_first own b limits.limit limits.need text s h e.roll;
 }
-  where
-    contains_none : (i : Id) → Contains [] i → ⊥
-    contains_none i m = omega arith
 
 -- it ends before it begins
 pub ran_none : (own : List Item) (limits : SessionLimits) (old : List Exchange) (before : ℕ) → Ran own limits old old before before (Err Memory)
@@ -220,6 +252,8 @@ ran_none own limits old before = record {
   log_full = λ e. cc;
   within_log = tt;
   few = tt;
+  shown = tt;
+  once = tt;
   refused = λ c r l. absurd (subst (LastAnswer (IsRefused c)) (gained_none old) l);
 }
 
@@ -243,6 +277,8 @@ module _ (own : List Item) (limits : SessionLimits) (asked : ℕ) (old now new :
     log_full = λ h. absurd (log_full (is h));
     within_log = tt;
     few = tt;
+    shown = tt;
+    once = tt;
     refused = λ c r l. absurd (no_refusal c (gained old now) going.read (subst (λ w. LastAnswer (IsRefused c) (gained old w)) same l));
   }
     where
@@ -285,27 +321,51 @@ module _ (own : List Item) (limits : SessionLimits) (asked : ℕ) (old now new :
       let was : Knows s.roll b s = subst (λ (w : List Item). Knows w b s) (sym going.roll) (going.knows b (explains_front b (gained old now) _ all)) in
       subst (λ (w : List Item). Knows w b next) going.roll (knows_more b s next answered h.roll follows taken was)
 
-  pub going_more : OneMessage → (next : Session) (answered : List Span) (text : List ℕ) → length reply ≤ left → Spells reply answered → message_at reply ≡ Ok answered → Taken answered s next → (length s.need ≤ s.most → length next.need ≤ next.most) → GoesOn text next → IsAskDue s.roll reply
-      → Going own limits (asked + 1) old new before last text (left - length reply) next
-  going_more one next answered text room spells read taken few goes due = record {
+  pub next_resumes : (next : Session) (answered : List Span) (text : List ℕ) → Spells reply answered → Taken answered s next → GoesOn text next → Resumes limits.limit own (exchange question reply) text
+  next_resumes next answered text spells taken goes = record {
+    answered = answered;
+    asked = next.asked;
+    answers = spells;
+    spelled = goes.spelled;
+    truth = subst (λ (w : List Item). All (IsTrueOf w) (stretches next.asked)) (taken.roll ∙ going.roll) taken.sound.truth;
+    none_empty = taken.sound.none_empty;
+    asks = goes.asks;
+    short = omega (arith, goes.short, taken.limit_is, going.limit_is);
+    not_again = subst (λ (n : ℕ). NotAskedAgain limits.limit n own answered next.asked) (ap length (sym goes.exact))
+        (subst (λ (n : ℕ). NotAskedAgain n (length (text_of next.asked)) own answered next.asked) going.limit_is
+        (subst (λ (w : List Item). NotAskedAgain s.limit (length (text_of next.asked)) w answered next.asked) going.roll taken.not_again));
+  }
+
+  next_few : (next : Session) (answered : List Span) → Taken answered s next → (length s.need ≤ s.most → length next.need ≤ next.most) → length next.need ≤ limits.need
+  next_few next answered taken few = omega (arith, few (omega (arith, going.few, going.most)), taken.most, going.most)
+
+  pub asks_for_few : (next : Session) (answered : List Span) → message_at reply ≡ Ok answered → Taken answered s next → (length s.need ≤ s.most → length next.need ≤ next.most)
+      → All IsSkip (stretches next.asked) ⊎ ((text : List ℕ) × Spells text next.asked × Resumes limits.limit own (exchange question reply) text) → AsksForFew limits.limit own limits.need (exchange question reply)
+  asks_for_few next answered read taken few may = record {
+    answered = answered;
+    next = next.asked;
+    read = read;
+    may = may;
+    few = λ is d all.
+        let noted = no_more is next.need d (λ i m. taken.need_noted i (subst (λ (w : List Item). IsListedWhere (IsSkipped next.asked) w answered i) (sym going.roll) (All-contains (IsListedWhere (IsSkipped next.asked) own answered) is i all m))) in
+        omega (arith, noted, next_few next answered taken few);
+  }
+
+  next_shown : (next : Session) (answered : List Span) → message_at reply ≡ Ok answered → Taken answered s next → (t : Item × Item) → Contains next.trusted t → IsShown own (gained old new) t
+  next_shown next answered read taken t m = rw pairs (elim (taken.trusted_from t m) [
+    | inl was ↦ shown_more own (gained old now) (exchange question reply ∷ []) t (going.shown t was)
+    | inr one ↦ shown_last own (gained old now) (exchange question reply) s.asked answered going.spelled read t (subst (λ (w : List Item). IsTrustedBy w s.asked answered t) going.roll one)
+  ])
+
+  pub going_more : OneMessage → (next : Session) (answered : List Span) (text : List ℕ) (rest : ℕ) → rest + length reply ≡ left → Spells reply answered → message_at reply ≡ Ok answered → Taken answered s next → (length s.need ≤ s.most → length next.need ≤ next.most) → GoesOn text next → IsAskDue s.roll reply
+      → Going own limits (asked + 1) old new before last text rest next
+  going_more one next answered text rest is_rest spells read taken few goes due = record {
     due = inr (rw pairs (last_is (IsAskDue own) (gained old now) (exchange question reply) (subst (λ (w : List Item). IsAskDue w reply) going.roll due)));
     appended = next_appended;
     chained = next_chained;
-    may = rw pairs (may_more limits.limit own (gained old now) (exchange question reply) text (record {
-      answered = answered;
-      asked = next.asked;
-      answers = spells;
-      spelled = goes.spelled;
-      truth = subst (λ (w : List Item). All (IsTrueOf w) (stretches next.asked)) (taken.roll ∙ going.roll) taken.sound.truth;
-      none_empty = taken.sound.none_empty;
-      asks = goes.asks;
-      short = omega (arith, goes.short, taken.limit_is, going.limit_is);
-      not_again = subst (λ (n : ℕ). NotAskedAgain limits.limit n own answered next.asked) (ap length (sym goes.exact))
-          (subst (λ (n : ℕ). NotAskedAgain n (length (text_of next.asked)) own answered next.asked) going.limit_is
-          (subst (λ (w : List Item). NotAskedAgain s.limit (length (text_of next.asked)) w answered next.asked) going.roll taken.not_again));
-    }));
+    may = rw pairs (may_more limits.limit own (gained old now) (exchange question reply) text (next_resumes next answered text spells taken goes));
     count = next_count;
-    bytes = omega (arith, next_bytes, going.bytes);
+    bytes = omega (arith, next_bytes, going.bytes, is_rest);
     read = rw pairs (All-push IsRead (gained old now) (exchange question reply) going.read (answered, read));
     unfailed = same ∙ going.unfailed;
     roll = taken.roll ∙ going.roll;
@@ -314,7 +374,8 @@ module _ (own : List Item) (limits : SessionLimits) (asked : ℕ) (old now new :
     phase = goes.phase;
     sound = taken.sound;
     spelled = goes.spelled;
-    few = omega (arith, few (omega (arith, going.few, going.most)), taken.most, going.most);
+    few = next_few next answered taken few;
+    shown = next_shown next answered read taken;
     offered = λ i m. rw pairs (elim (taken.need_from i m) [
       | inl was ↦ offered_more own (gained old now) (exchange question reply ∷ []) i (going.offered i was)
       | inr listed ↦ offered_last own (gained old now) (exchange question reply) answered read i (subst (λ (w : List Item). IsListed w answered i) going.roll listed)
@@ -323,8 +384,9 @@ module _ (own : List Item) (limits : SessionLimits) (asked : ℕ) (old now new :
   }
 
   pub ran_done : OneMessage → (next : Session) (answered : List Span) → asked < limits.rounds → length reply ≤ left → Spells reply answered → message_at reply ≡ Ok answered → Taken answered s next → (length s.need ≤ s.most → length next.need ≤ next.most) → IsDone next → (IsAskDue s.roll reply → ⊥)
-      → (o : Outcome) → o.need.keys ≡ next.need → o.have.keys ≡ next.have → trusted_of o ≡ next.trusted → Ran own limits old new before last (Ok o)
-  ran_done one next answered round room spells read taken few done over o is_need is_have is_trusted = record {
+      → (o : Outcome) → o.need.keys ≡ next.need → o.have.keys ≡ next.have → ((t : Item × Item) → Contains (trusted_of o) t ↔ Contains next.trusted t) → Distinct o.trusted.items
+      → Ran own limits old new before last (Ok o)
+  ran_done one next answered round room spells read taken few done over o is_need is_have is_trusted once = record {
     gathered = next_gathered;
     done = λ due. over (subst (λ (w : List Item). IsAskDue w reply) (sym going.roll) (next_due due));
     appended = next_appended;
@@ -338,12 +400,14 @@ module _ (own : List Item) (limits : SessionLimits) (asked : ℕ) (old now new :
     need_full = λ e. cc;
     log_full = λ e. cc;
     within_log = omega (arith, next_bytes, going.bytes);
-    few = rw is_need (omega (arith, few (omega (arith, going.few, going.most)), taken.most, going.most));
+    few = rw is_need (next_few next answered taken few);
+    shown = λ t m. next_shown next answered read taken t ((is_trusted t).0 m);
+    once = once;
     refused = λ c r l. absurd (read_or_refused (exchange question reply) c (answered, read) (last_gives (IsRefused c) (gained old now) (exchange question reply) (subst (LastAnswer (IsRefused c)) pairs l)));
   }
 
   pub ran_fault : asked < limits.rounds → (e : SessionFault) → (e ≡ PeerFailed → ⊥) → ((c : CodecFault) → e ≡ Bad c → IsRefused c reply) → (e ≡ Rounds → (asked + 1 ≡ limits.rounds) × IsAskDue own reply)
-      → (e ≡ NeedFull → (answered : List Span) × (message_at reply ≡ Ok answered) × PassesMost s.roll answered s.need s.most) → (e ≡ LogFull → (left < length reply) × ((asked + 1 < limits.rounds) ⊎ (IsAskDue own reply → ⊥)))
+      → (e ≡ NeedFull → (answered : List Span) × (message_at reply ≡ Ok answered) × PassesMost s.roll answered s.need s.most) → (e ≡ LogFull → (left < length reply) × ((asked + 1 < limits.rounds) ⊎ (IsAskDue own reply → ⊥)) × AsksForFew limits.limit own limits.need (exchange question reply))
       → ((c : CodecFault) → Refuses c → IsRefused c reply → e ≡ Bad c) → Ran own limits old new before last (Err e)
   ran_fault round e failed bad rounds need_full log_full refused = record {
     appended = next_appended;
@@ -362,9 +426,12 @@ module _ (own : List Item) (limits : SessionLimits) (asked : ℕ) (old now new :
     log_full = λ h. let f = log_full (is h) in (
       let more : left < length reply = f.0 in omega (arith, more, next_bytes, going.bytes),
       elim f.1 [ inl fewer ↦ inl (omega (arith, fewer, next_count)) | inr over ↦ inr (λ due. over (next_due due)) ],
+      (gained old now, exchange question reply, pairs, f.2),
     );
     within_log = tt;
     few = tt;
+    shown = tt;
+    once = tt;
     refused = λ c r l. ap Err (refused c r (last_gives (IsRefused c) (gained old now) (exchange question reply) (subst (LastAnswer (IsRefused c)) pairs l)));
   }
     where
@@ -379,5 +446,6 @@ module _ (own : List Item) (limits : SessionLimits) (asked : ℕ) (old now new :
   ran_rounds round end due m read = ran_fault round Rounds (λ e. cc) (λ c e. cc) (λ e. (end, due)) (λ e. cc) (λ e. cc) (λ c r l. absurd (not_refused m read c l))
 
   -- the answers have too many bytes
-  pub ran_log_full : asked < limits.rounds → left < length reply → (asked + 1 < limits.rounds) ⊎ (IsAskDue own reply → ⊥) → (m : List Span) → message_at reply ≡ Ok m → Ran own limits old new before last (Err LogFull)
-  ran_log_full round more lowest m read = ran_fault round LogFull (λ e. cc) (λ c e. cc) (λ e. cc) (λ e. cc) (λ e. (more, lowest)) (λ c r l. absurd (not_refused m read c l))
+  pub ran_log_full : asked < limits.rounds → left < length reply → (asked + 1 < limits.rounds) ⊎ (IsAskDue own reply → ⊥) → AsksForFew limits.limit own limits.need (exchange question reply) → (m : List Span) → message_at reply ≡ Ok m
+      → Ran own limits old new before last (Err LogFull)
+  ran_log_full round more lowest few m read = ran_fault round LogFull (λ e. cc) (λ c e. cc) (λ e. cc) (λ e. cc) (λ e. (more, lowest, few)) (λ c r l. absurd (not_refused m read c l))

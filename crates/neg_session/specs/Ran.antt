@@ -3,16 +3,18 @@ use Rattle.std.specs.Prelude.{◌≡◌, ◌↔◌, ◌<◌, ◌≤◌, ◌⊎�
 use Rattle.neg_codec.specs.declared.CodecFault.{CodecFault}
 use Rattle.neg_codec.specs.declared.Id.{Id}
 use Rattle.neg_codec.specs.declared.Item.{Item}
-use Rattle.neg_codec.specs.Ranges.{Span}
+use Rattle.neg_codec.specs.Ranges.{Span, stretches, IsSkip}
 use Rattle.neg_codec.specs.Reading.{message_at}
+use Rattle.neg_codec.specs.Text.{Spells}
 use Rattle.neg_initiator.specs.declared.initiator.Outcome.{Outcome}
-use Rattle.neg_initiator.specs.Listed.{IsListed, Distinct}
+use Rattle.neg_initiator.specs.Listed.{IsListed, IsListedWhere, Distinct}
 use Rattle.neg_initiator.specs.Session.{Refuses, IsAskDue}
-use Rattle.neg_initiator.specs.Settled.{Needs, Has, HasOnePrint, ToldApart, OneTime}
+use Rattle.neg_initiator.specs.Settled.{Needs, Has, HasOnePrint, ToldApart, OneTime, IsSkipped}
+use Rattle.neg_initiator.specs.Trusting.{IsTrustedBy}
 use Rattle.neg_initiator.specs.Pairs.{pair_of}
 use Rattle.neg_session.specs.Exchange.{Exchange, gained, answered_bytes}
 use Rattle.neg_session.specs.Explaining.{Explains}
-use Rattle.neg_session.specs.Asking.{Chained}
+use Rattle.neg_session.specs.Asking.{Chained, Resumes}
 use Rattle.neg_session.specs.declared.limits.SessionLimits.{SessionLimits}
 use Rattle.neg_session.specs.declared.fault.SessionFault.{SessionFault}
 use Rattle.neg_session.specs.declared.fault.SessionFault.TheVariants.{PeerFailed, Bad, Rounds, NeedFull, LogFull}
@@ -54,6 +56,29 @@ pub record OffersMore (own : List Item) (log : List Exchange) (most : ℕ) : Typ
   pub more : most < length ids
   pub each : All (IsOffered own log) ids
 
+-- The answer of a pair asks for no more ids than may be needed: so many are listed in stretches of which the next question skips a
+-- key. Where none comes next, all is skipped.
+pub record AsksForFew (limit : ℕ) (own : List Item) (most : ℕ) (pair : Exchange) : Type 0 where
+  pub answered : List Span
+  pub next : List Span
+  pub read : message_at pair.answered ≡ Ok answered
+  pub may : All IsSkip (stretches next) ⊎ ((question : List ℕ) × Spells question next × Resumes limit own pair question)
+  pub few : (is : List Id) → Distinct is → All (IsListedWhere (IsSkipped next) own answered) is → length is ≤ most
+
+-- the last pair is so
+abbrev pub EndsIn : (Exchange → Type 0) → List Exchange → Type 0
+EndsIn P log = (front : List Exchange) × (pair : Exchange) × (log ≡ front ++ pair ∷ []) × P pair
+
+-- some answer shows that the stretch is the same: it has the own fingerprint, or skips a key of a fingerprint that was asked
+pub record IsShown (own : List Item) (log : List Exchange) (t : Item × Item) : Type 0 where
+  pub pair : Exchange
+  pub asked : List Span
+  pub answered : List Span
+  pub stands : Contains log pair
+  pub asks : Spells pair.asked asked
+  pub read : message_at pair.answered ≡ Ok answered
+  pub trusted : IsTrustedBy own asked answered t
+
 -- a next question is due: none was asked yet, or the last answer left something open
 abbrev pub IsDue : List Item → List Exchange → Type 0
 IsDue own log = (log ≡ []) ⊎ LastAnswer (IsAskDue own) log
@@ -72,12 +97,15 @@ pub record Ran (own : List Item) (limits : SessionLimits) (old new : List Exchan
   pub done : OnOk result (IsDue own (gained old new) → ⊥)
   pub within_log : OnOk result (answered_bytes (gained old new) ≤ limits.log)
   pub few : IfOk result (λ o. length o.need.keys ≤ limits.need)
+  -- each trusted stretch was shown to be the same, and is told once
+  pub shown : IfOk result (λ o. (t : Item × Item) → Contains (trusted_of o) t → IsShown own (gained old new) t)
+  pub once : IfOk result (λ o. Distinct o.trusted.items)
   -- each fault has its cause, and no other cause stands for a lower one of rounds, ids and bytes
   pub failed : result ≡ Err PeerFailed → before < after
   pub unfailed : (result ≡ Err PeerFailed → ⊥) → after ≡ before
   pub bad : (c : CodecFault) → result ≡ Err (Bad c) → LastAnswer (IsRefused c) (gained old new)
   pub rounds : result ≡ Err Rounds → (length (gained old new) ≡ limits.rounds) × IsDue own (gained old new)
   pub need_full : result ≡ Err NeedFull → OffersMore own (gained old new) limits.need
-  pub log_full : result ≡ Err LogFull → (limits.log < answered_bytes (gained old new)) × ((length (gained old new) < limits.rounds) ⊎ (IsDue own (gained old new) → ⊥))
+  pub log_full : result ≡ Err LogFull → (limits.log < answered_bytes (gained old new)) × ((length (gained old new) < limits.rounds) ⊎ (IsDue own (gained old new) → ⊥)) × EndsIn (AsksForFew limits.limit own limits.need) (gained old new)
   -- and an answer that is no message is refused
   pub refused : (c : CodecFault) → Refuses c → LastAnswer (IsRefused c) (gained old new) → result ≡ Err (Bad c)

@@ -1,6 +1,6 @@
 //! A whole session.
 
-ghost use Rattle.std.specs.Prelude.{◌≡◌, ◌<◌, ◌^◌, ◌-◌, ℕ, List, Err};
+ghost use Rattle.std.specs.Prelude.{◌≡◌, ◌<◌, ◌^◌, ◌-◌, ◌+◌, ℕ, List, length, IfSome, None, Err};
 ghost use Rattle.neg_session.specs.Exchange.{gained};
 ghost use Rattle.neg_session.specs.Asking.{MayAsk};
 ghost use Rattle.neg_session.specs.Ran.{Ran};
@@ -12,6 +12,14 @@ use item_roll::Roll;
 use neg_codec::one_message;
 use neg_initiator::{InitFault, Initiator, Next, Outcome};
 use std::alloc::Global;
+
+/// How many bytes may still be answered after an answer.
+fn left_after(left: usize, answer: &[u8]) -> Option<usize>
+    ensures some { IfSome result (λ n. n + length answer.now ≡ left) }
+    ensures none { result ≡ None → left < length answer.now }
+{
+    left.checked_sub(answer.len())
+}
 
 /// Asks the peer until all is settled, and gives what was found. A fault ends the session, and the
 /// peer keeps its pairs. Of several faults of one answer the one with the lowest number is given; after an answer that
@@ -41,17 +49,17 @@ pub fn reconcile_with<P: Peer>(
                 if round + 1 == limits.rounds {
                     return Err(SessionFault::Rounds);
                 }
-                if answer.len() > left {
-                    return Err(SessionFault::LogFull);
+                match left_after(left, &answer) {
+                    Some(rest) => left = rest,
+                    None => return Err(SessionFault::LogFull),
                 }
-                left -= answer.len();
                 question = next;
             }
             Ok(Next::Done) => {
-                if answer.len() > left {
-                    return Err(SessionFault::LogFull);
-                }
-                return Ok(initiator.outcome());
+                return match left_after(left, &answer) {
+                    Some(_) => Ok(initiator.outcome()),
+                    None => Err(SessionFault::LogFull),
+                };
             }
             Err(InitFault::Bad(fault)) => return Err(SessionFault::Bad(fault)),
             Err(InitFault::NeedFull) => return Err(SessionFault::NeedFull),

@@ -1,16 +1,16 @@
 -- A message's array: its name, its elements, and the table's row.
-use Rattle.std.proofs.Common.{◌≡◌, ◌≢◌, ℕ, ◌<◌, ◌≤◌, ◌-◌, List, [], ◌∷◌, length, map, take, drop, get_or, Bool, true, false, Result, Ok, Err, IfOk, Option, None, Some, bytes_eq, refl, sym, ap, inl, inr, arith}
+use Rattle.std.proofs.Common.{◌≡◌, ◌≢◌, ℕ, ◌≤◌, ◌-◌, List, [], ◌∷◌, length, map, take, drop, get_or, Bool, true, false, Result, Ok, Err, IfOk, None, Some, bytes_eq, refl, sym, ap, inl, inr, arith}
 use Rattle.std.specs.Prelude.{⊤}
 use Rattle.std.proofs.lemmas.List.{take_all}
 use Rattle.std.proofs.lemmas.Slice.Eq.{bytes_eq-Decides}
-use Rattle.serde_json.specs.Data.{Data, string, array}
+use Rattle.serde_json.specs.Data.{Data}
 use Rattle.serde_json.specs.Find.{as_str, as_array}
 use Rattle.serde_json.specs.View.{view, items_of, items_view}
 use Rattle.serde_json.specs.declared.value.Value.{Value}
 use Rattle.nostr_wire.specs.declared.fault.WireFault.{WireFault}
 use Rattle.nostr_wire.specs.Elements.{Part, Said, part_of, has_type, Says, SaysNo, IsFaultOf, data_of}
 use Rattle.nostr_wire.specs.Forms.{Form, Table}
-use Rattle.nostr_wire.specs.Reading.{list_of, name_in, behind_name, row_of, SayEach, IsMessage, fits, IsFirstFault, AreRefused}
+use Rattle.nostr_wire.specs.Reading.{list_of, name_in, behind_name, row_of, SayEach, IsMessage, AreRefused}
 use Rattle.nostr_wire.specs.Writing.{array_of}
 
 pub list_back : (ds : List Data) → list_of (items_of ds) ≡ ds

@@ -1,9 +1,7 @@
 -- A text is at most one message, and what refuses it leaves none.
-use Rattle.std.proofs.Common.{◌≡◌, ◌≢◌, ℕ, List, [], ◌∷◌, map, Bool, true, false, None, Some, Ok, is_some, inl, inr, refl, sym, ◌∙◌, ap, ap₂, subst, codes}
-use Rattle.hex.specs.Hex.{encode_lower, decode_of}
-use Rattle.serde_json.specs.Data.{Data, null, boolean, number, string, array, object}
-use Rattle.serde_json.specs.Find.{get, as_object}
-use Rattle.serde_json.specs.Read.{read}
+use Rattle.std.proofs.Common.{◌≡◌, ◌≢◌, ℕ, List, [], ◌∷◌, map, Bool, true, Some, Ok, inl, inr, refl, sym, ◌∙◌, ap, ap₂, subst, codes}
+use Rattle.hex.specs.Hex.{decode_of}
+use Rattle.serde_json.specs.Data.{Data, boolean, string}
 use Rattle.neg_codec.specs.declared.Id.{Id}
 use Rattle.neg_codec.specs.Keys.{id_of_bytes}
 use Rattle.nostr_event.specs.EventView.{EventView}
@@ -17,7 +15,7 @@ use Rattle.nostr_wire.specs.declared.fault.WireFault.{WireFault}
 use Rattle.nostr_wire.specs.declared.fault.WireFault.TheVariants.{Memory}
 use Rattle.nostr_wire.specs.Elements.{Part, a_sub, a_text, a_flag, an_id, some_hex, an_event, a_filter, Said, sub, text, flag, id, hex, event, filter, part_of, has_type, Says, SaysNo}
 use Rattle.nostr_wire.specs.Forms.{Form, Table}
-use Rattle.nostr_wire.specs.Reading.{SayEach, IsMessage, Reads, fits, IsFirstFault, AreRefused, IsRefused, Refuses, behind_name, expected}
+use Rattle.nostr_wire.specs.Reading.{SayEach, IsMessage, Reads, fits, IsFirstFault, AreRefused, IsRefused, Refuses, behind_name}
 
 -- ---- what a value says is of its JSON type
 

@@ -12,10 +12,6 @@ first_weaker P Q f (x ∷ xs) h = λ q. h (f x q)
 pub first_here : {X : Type 0} (Q : X → Type 0) (lines rest : List X) (x : X) → lines ≡ x ∷ rest → ¬ Q x → FirstIsNot Q lines
 first_here Q lines rest x e not = subst (FirstIsNot Q) (sym e) not
 
--- no line with its line feed comes
-pub no_word : (word : List ℕ) (lines : List (List ℕ)) → FirstIsNot IsEnded lines → FirstIsNot (λ line. line ≡ ended word) lines
-no_word word lines h = first_weaker IsEnded (λ line. line ≡ ended word) (λ l e. (word, e)) lines h
-
 -- the first line tells something else
 pub other_word : (word line : List ℕ) (lines rest : List (List ℕ)) → lines ≡ ended line ∷ rest → line ≢ word → FirstIsNot (λ l. l ≡ ended word) lines
 other_word word line lines rest e not = first_here (λ l. l ≡ ended word) lines rest (ended line) e (λ same. not (same_words line word same))

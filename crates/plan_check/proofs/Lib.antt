@@ -1,4 +1,3 @@
-pub mod Firsts
 pub mod Files
 pub mod Given
 pub mod Judged

@@ -44,10 +44,7 @@ fn take_bases(alloc: Global, text: &[u8]) -> Result<(Vec<(u16, u64)>, &[u8]), Al
 
 /// The bases that stand behind the header, and the text after these; none where there is no header, or not the one for
 /// such bases.
-pub fn read_head(
-    alloc: Global,
-    text: &[u8],
-) -> Result<Option<(Vec<(u16, u64)>, &[u8])>, AllocError>
+pub fn read_head(alloc: Global, text: &[u8]) -> Result<Option<(Vec<(u16, u64)>, &[u8])>, AllocError>
     ensures lines { IfOk result (λ o. IfSome o (λ r. lines_of text.now ≡ ended (header_line r.0.items) ∷ (map (λ b. ended (base_line b)) r.0.items ++ lines_of r.1.now))) }
     ensures bases { IfOk result (λ o. IfSome o (λ r. All IsBase r.0.items)) }
 {

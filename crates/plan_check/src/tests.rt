@@ -91,7 +91,10 @@ fn plans_with_bases(rt: HostRuntime) -> Result<(), Fail> {
             },
             Ok(9),
         ),
-        (one_id(&[(255, 1_000_000_000_000)], &[255]), Ok(1_000_000_000_000)),
+        (
+            one_id(&[(255, 1_000_000_000_000)], &[255]),
+            Ok(1_000_000_000_000),
+        ),
     ];
     assert_eq!(rt; first_other(rt.alloc(), &rows)?, None);
     Ok(())
@@ -101,16 +104,37 @@ fn plans_with_bases(rt: HostRuntime) -> Result<(), Fail> {
 fn lines_are_refused_by_number(rt: HostRuntime) -> Result<(), Fail> {
     let rows = [
         (plain(&[(10, &[])], &[], &[]), Err(PlanFault::Line(2))),
-        (plain(&[(10, &[0]), (11, &[256])], &[], &[]), Err(PlanFault::Line(3))),
-        (plain(&[(10, &[0])], &[(10, 256)], &[]), Err(PlanFault::Line(3))),
-        (plain(&[(10, &[0])], &[(10, 0)], &[256]), Err(PlanFault::Line(4))),
-        (plain(&[(10, &[1, 0])], &[(10, 256)], &[]), Err(PlanFault::Line(3))),
+        (
+            plain(&[(10, &[0]), (11, &[256])], &[], &[]),
+            Err(PlanFault::Line(3)),
+        ),
+        (
+            plain(&[(10, &[0])], &[(10, 256)], &[]),
+            Err(PlanFault::Line(3)),
+        ),
+        (
+            plain(&[(10, &[0])], &[(10, 0)], &[256]),
+            Err(PlanFault::Line(4)),
+        ),
+        (
+            plain(&[(10, &[1, 0])], &[(10, 256)], &[]),
+            Err(PlanFault::Line(3)),
+        ),
         (plain(&[(10, &[1, 1])], &[], &[]), Err(PlanFault::Order(2))),
-        (plain(&[(10, &[0]), (10, &[0])], &[], &[]), Err(PlanFault::Order(3))),
-        (plain(&[(10, &[0])], &[(10, 0)], &[2, 1]), Err(PlanFault::Order(4))),
+        (
+            plain(&[(10, &[0]), (10, &[0])], &[], &[]),
+            Err(PlanFault::Order(3)),
+        ),
+        (
+            plain(&[(10, &[0])], &[(10, 0)], &[2, 1]),
+            Err(PlanFault::Order(4)),
+        ),
         (one_id(&[(0, 0)], &[0]), Err(PlanFault::Line(2))),
         (one_id(&[(0, 1), (256, 1)], &[0]), Err(PlanFault::Line(3))),
-        (one_id(&[(0, 1_000_000_000_001)], &[0]), Err(PlanFault::Line(2))),
+        (
+            one_id(&[(0, 1_000_000_000_001)], &[0]),
+            Err(PlanFault::Line(2)),
+        ),
         (one_id(&[(1, 1), (0, 1)], &[0]), Err(PlanFault::Order(3))),
         (one_id(&[(1, 1), (1, 2)], &[0]), Err(PlanFault::Order(3))),
         (one_id(&[(1, 1), (2, 2)], &[1, 1]), Err(PlanFault::Order(6))),
@@ -149,9 +173,15 @@ fn a_file_lends_its_lists_and_is_written(rt: HostRuntime) -> Result<(), Fail> {
 #[test]
 fn faults_have_texts(rt: HostRuntime) -> Result<(), Fail> {
     let rows = [
-        (PlanFault::Line(3), "line 3: not of the form, out of place or missing"),
+        (
+            PlanFault::Line(3),
+            "line 3: not of the form, out of place or missing",
+        ),
         (PlanFault::Order(4), "line 4: out of order"),
-        (PlanFault::NotOffered, "an id is given to a relay that doesn't offer it"),
+        (
+            PlanFault::NotOffered,
+            "an id is given to a relay that doesn't offer it",
+        ),
         (PlanFault::Missing, "an offered id isn't given"),
         (PlanFault::Stranger, "a given id isn't offered"),
         (

@@ -64,7 +64,9 @@ fn first_taken<'a>(
         } else {
             PlanFault::Order(*line)
         });
-        if read_plan(alloc, text.as_str()).err() != refused || scan_plan(text.as_str()).err() != refused {
+        if read_plan(alloc, text.as_str()).err() != refused
+            || scan_plan(text.as_str()).err() != refused
+        {
             return Ok(Some(*pattern));
         }
     }
@@ -108,18 +110,34 @@ fn least_plans_are_read_and_pass(rt: HostRuntime) -> Result<(), Fail> {
 #[test]
 fn a_chain_of_three(rt: HostRuntime) -> Result<(), Fail> {
     let rows = [
-        ("give A 0\ngive B 0\ngive C 2\ngroup 0 1 2\n", PlanFault::GroupTooSmall),
-        ("give A 0\ngive B 1\ngive C 2\ngroup\n", PlanFault::GroupTooSmall),
+        (
+            "give A 0\ngive B 0\ngive C 2\ngroup 0 1 2\n",
+            PlanFault::GroupTooSmall,
+        ),
+        (
+            "give A 0\ngive B 1\ngive C 2\ngroup\n",
+            PlanFault::GroupTooSmall,
+        ),
         ("give A 0\ngive C 2\ngroup 0 1 2\n", PlanFault::Missing),
-        ("give A 0\ngive B 1\ngive C 0\ngroup 0 1 2\n", PlanFault::NotOffered),
-        ("give A 0\ngive B 1\ngive C 2\ngive D 0\ngroup 0 1 2\n", PlanFault::Stranger),
-        ("give B 1\ngive A 0\ngive C 2\ngroup 0 1 2\n", PlanFault::Order(6)),
+        (
+            "give A 0\ngive B 1\ngive C 0\ngroup 0 1 2\n",
+            PlanFault::NotOffered,
+        ),
+        (
+            "give A 0\ngive B 1\ngive C 2\ngive D 0\ngroup 0 1 2\n",
+            PlanFault::Stranger,
+        ),
+        (
+            "give B 1\ngive A 0\ngive C 2\ngroup 0 1 2\n",
+            PlanFault::Order(6),
+        ),
     ];
     let alloc = rt.alloc();
     let mut told = true;
     for (behind, fault) in rows {
-        let pattern =
-            format!(in alloc; "nostr-plan 1\noffer A 0\noffer B 0 1\noffer C 1 2\n{behind}")?;
+        let pattern = format!(in alloc;
+            "nostr-plan 1\noffer A 0\noffer B 0 1\noffer C 1 2\n{behind}"
+        )?;
         told = told && verdict(alloc, pattern.as_str())? == Err(fault);
     }
     assert!(rt; told);

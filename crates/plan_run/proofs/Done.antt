@@ -84,8 +84,7 @@ plans_to text end plan h short =
     let made : File = made_of read plan in
     let from : IsPlannedFrom read made = planned_from read h.loads plan h.front.bases_are p in
     let spelled : IsTextOf (plan_text made) made = spelled_from read made told.form from (file_of read h.loads plan h.front.bases_are p told.ordered) in
-    let same : take end text ++ behind plan ≡ plan_text made = ap (λ t. t ++ behind plan) h.front.front ∙ sym (plan_text-behind made) in
-    (
+    let same : take end text ++ behind plan ≡ plan_text made = ap (λ t. t ++ behind plan) h.front.front ∙ sym (plan_text-behind made) in (
       plan_text made,
       record { read = read; made = made; told = told; short = short; few = subst (λ os. length os ≤ _) (sym h.front.offers_are) h.few; planned = from; spelled = spelled; utf8 = text_utf8 (plan_text made) made spelled },
       same,

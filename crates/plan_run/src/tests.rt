@@ -309,9 +309,19 @@ fn plans_over_bases(rt: HostRuntime) -> Result<(), Fail> {
             &["base 0 2", "offer a 0 1", "give a 1", "group 0"],
             "least 2\n",
         ),
-        (&["base 7 9", "group"], &["base 7 9", "group 7"], "least 9\n"),
         (
-            &["base 0 5", "base 255 1", "offer a 0 1", "offer b 0 255", "group"],
+            &["base 7 9", "group"],
+            &["base 7 9", "group 7"],
+            "least 9\n",
+        ),
+        (
+            &[
+                "base 0 5",
+                "base 255 1",
+                "offer a 0 1",
+                "offer b 0 255",
+                "group",
+            ],
             &[
                 "base 0 5",
                 "base 255 1",
@@ -336,7 +346,13 @@ fn plans_over_bases(rt: HostRuntime) -> Result<(), Fail> {
     assert!(rt; same);
     let three = based_text(
         alloc,
-        &["base 0 2", "offer a 0 1", "offer b 0 1", "offer c 0 1", "group"],
+        &[
+            "base 0 2",
+            "offer a 0 1",
+            "offer b 0 1",
+            "offer c 0 1",
+            "group",
+        ],
     )?;
     let got = planned(alloc, three.as_str())?;
     assert!(rt; got.as_str().ends_with("group 0 1\n"));
@@ -451,6 +467,11 @@ fn each_read_fails_in_turn(rt: HostRuntime) -> Result<(), Fail> {
     Ok(())
 }
 
+/// Whether just these bytes were written, and flushed.
+fn has_written(writer: &Narrow, want: &[u8]) -> bool {
+    writer.flushed == writer.taken.len() && writer.taken.as_slice() == want
+}
+
 #[test]
 fn each_write_fails_in_turn(rt: HostRuntime) -> Result<(), Fail> {
     let alloc = rt.alloc();
@@ -460,7 +481,7 @@ fn each_write_fails_in_turn(rt: HostRuntime) -> Result<(), Fail> {
         let done = run_plan(alloc, &mut text.as_str().as_bytes(), &mut writer);
         if n == 0 {
             assert_eq!(rt; done, Ok(()));
-            assert_eq!(rt; &writer.taken[..writer.flushed], text.as_str().as_bytes());
+            assert!(rt; has_written(&writer, text.as_str().as_bytes()));
         } else {
             assert_eq!(rt; done, Err(Refusal::Write), "write {n}");
         }
@@ -470,7 +491,7 @@ fn each_write_fails_in_turn(rt: HostRuntime) -> Result<(), Fail> {
         let done = run_check(alloc, &mut text.as_str().as_bytes(), &mut writer);
         if n == 0 {
             assert_eq!(rt; done, Ok(()));
-            assert_eq!(rt; &writer.taken[..writer.flushed], b"least 1\n".as_slice());
+            assert!(rt; has_written(&writer, b"least 1\n"));
         } else {
             assert_eq!(rt; done, Err(Refusal::Write), "write {n}");
         }

@@ -1,40 +1,32 @@
 -- One more event in a history.
-use Rattle.std.proofs.Common.{◌≡◌, ◌≢◌, ℕ, ◌+◌, ◌<◌, ◌≤◌, ◌==◌, nat_lt, Bool, true, false, cond, not, ◌&&◌, ◌||◌, List, [], ◌∷◌, ◌++◌, length, get_or, set, replicate, refl, sym, ap, ◌∙◌, subst, arith, inl, inr, ◌⊎◌, Option, Some, None, Ok, Err, append_assoc, append-nil}
-use Rattle.std.specs.Prelude.{is_some, MatchBool, MatchOption, MatchResult, Result, IfOk}
-use Rattle.std.specs.List.{fold, list_any}
-use Rattle.std.specs.declared.alloc.AllocError.{AllocError}
-use Rattle.std.proofs.lemmas.List.Sums.{fold_push}
+use Rattle.std.proofs.Common.{◌≡◌, ℕ, zero, suc, ◌+◌, ◌-◌, Bool, true, false, cond, ◌&&◌, ◌||◌, List, [], ◌∷◌, ◌++◌, length, map, take, refl, sym, ap, ◌∙◌, subst, arith, inl, inr, Option, Some, None, append_assoc, append-nil}
+use Rattle.std.specs.Prelude.{unwrap_or, slice_get}
+use Rattle.std.specs.List.{filter, list_any, last_or}
+use Rattle.std.proofs.lemmas.List.{map-append, length-append}
+use Rattle.std.proofs.lemmas.List.Elements.{filter-append}
+use Rattle.std.proofs.lemmas.List.Sums.{sum_by-append}
 use Rattle.std.proofs.lemmas.List.Folds.{list_any-append}
-use Rattle.std.proofs.lemmas.List.{get_or-set_same, get_or-set_other, length-set, get_or-replicate, get_or_past, length-replicate}
-use Rattle.std.proofs.lemmas.Bool.{false≢true, true≢false, cases_lt, cases_eq, cases_Bool, eq-eqb, ne_eqb, eqb-true, lt-ltb, le-ltb, and_parts, and_from, not-false, or_left, MatchBool-at_true, MatchBool-at_false}
+use Rattle.std.proofs.lemmas.Grind.{flat_map-append}
+use Rattle.std.proofs.Math.Seq.{take-append_seam}
+use Rattle.std.proofs.lemmas.Bool.{cases_Bool}
 use Rattle.neg_codec.specs.declared.Id.{Id}
-use Rattle.sharing.specs.Sharing.{is_among, NoneSmaller}
-use Rattle.sharing.specs.Offers.{is_id, relays_of, IsOffers, AreRelays}
-use Rattle.offer_table.specs.Table.{Table, IsTable}
-use Rattle.fetch_plan.specs.Plan.{Planned, IsPlanOf}
+use Rattle.fetch_plan.specs.Plan.{Planned}
 use Rattle.fetch_plan.specs.declared.cell.Cell.{Cell}
-use Rattle.fetch_plan.specs.declared.cell.Cell.TheVariants.{Free, Held, Done, Missed}
-use Rattle.round_core.specs.declared.events.Refusal.{Refusal}
-use Rattle.round_core.specs.declared.events.Refusal.TheVariants as why
+use Rattle.fetch_plan.specs.declared.cell.Cell.TheVariants.{Free}
 use Rattle.round_core.specs.declared.events.RoundEvent.{RoundEvent}
-use Rattle.round_core.specs.declared.events.RoundEvent.TheVariants.{Report, Seal, Claim, Finish, Miss, Release, Insert}
 use Rattle.round_core.specs.declared.events.Answer.{Answer}
-use Rattle.round_core.specs.declared.events.Answer.TheVariants.{Taken, Sealed, Won, Lost, Finished, MissedIt, Released, Placed, Refused}
-use Rattle.round_core.specs.History.{History, reports, has_reported, wants_in, wants, TableOf, seals, is_sealed, holds_after, holds, cell_then, cell_after, places, is_placed}
-use Rattle.round_core.specs.Legal.{report_answer, barred, claim_answer, is_held_by, or_refused, answer_of, no_give, Right, legal_after, Legal}
-use Rattle.round_core.specs.Left.{State, gives_in, LegalBy, Leaves, cells_then, IsInRange, HasReport, AddsBy, Adds, ReportsTo, SealsTo, InsertsTo}
-
-pub cell_push : (h : History) (e : RoundEvent) (a : Answer) (i : ℕ) → cell_after (h ++ (e, a) ∷ []) i ≡ cell_then i (cell_after h i) e a
-cell_push h e a i = fold_push (λ (c : Cell) (x : RoundEvent × Answer). cell_then i c x.0 x.1) Free h (e, a)
-
-pub holds_push : (h : History) (e : RoundEvent) (a : Answer) (w i : ℕ) → holds (h ++ (e, a) ∷ []) w i ≡ holds_after w i (holds h w i) e a
-holds_push h e a w i = fold_push (λ (b : Bool) (x : RoundEvent × Answer). holds_after w i b x.0 x.1) false h (e, a)
+use Rattle.round_core.specs.History.{History, seals, is_sealed, sealings, gives_of, gives_so_far, gives_before, changes, left_cell, cell_after, is_of, is_won, holds, finishes, has_finished, misses, has_missed, places, is_placed, reports, has_reported, wants_in, wants}
+use Rattle.round_core.specs.Legal.{Right, legal_after}
 
 pub or_false : (b : Bool) → (b || false) ≡ b
 or_false true = refl
 or_false false = refl
 
--- a test of some event, with one more event
+pub and_false : (b : Bool) → (b && false) ≡ false
+and_false true = refl
+and_false false = refl
+
+-- ---- a test of some event
 pub any_push : (p : RoundEvent × Answer → Bool) (h : History) (x : RoundEvent × Answer) → list_any p (h ++ x ∷ []) ≡ (list_any p h || p x)
 any_push p h x = list_any-append p h (x ∷ []) ∙ ap (λ b. list_any p h || b) (or_false (p x))
 
@@ -50,56 +42,86 @@ wants_push h e a r i = any_push (λ x. wants_in r i x.0 x.1) h (e, a)
 pub reported_push : (h : History) (e : RoundEvent) (a : Answer) (r : ℕ) → has_reported (h ++ (e, a) ∷ []) r ≡ (has_reported h r || reports r e a)
 reported_push h e a r = any_push (λ x. reports r x.0 x.1) h (e, a)
 
-pub legal_push : (lanes : List ℕ) (fixed : Planned) (before h : History) (e : RoundEvent) (a : Answer) → legal_after lanes fixed before h → Right lanes fixed (before ++ h) e a → legal_after lanes fixed before (h ++ (e, a) ∷ [])
-legal_push lanes fixed before [] e a l right = (subst (λ b. Right lanes fixed b e a) (append-nil before) right, tt)
-legal_push lanes fixed before (x ∷ h) e a l right = (l.0, legal_push lanes fixed (before ++ x ∷ []) h e a l.1 (subst (λ b. Right lanes fixed b e a) (sym (append_assoc before (x ∷ []) h)) right))
+pub finished_push : (h : History) (e : RoundEvent) (a : Answer) (i : ℕ) → has_finished (h ++ (e, a) ∷ []) i ≡ (has_finished h i || finishes i e a)
+finished_push h e a i = any_push (λ x. finishes i x.0 x.1) h (e, a)
 
--- ---- cells
-barred_past : (sealed : Bool) (lanes : List ℕ) (gives : List (Id × ℕ)) (w i : ℕ) → length gives ≤ i → (r : Refusal) × (barred sealed lanes gives w i ≡ Some r)
-barred_past false lanes gives w i le = (why.NotSealed, refl)
-barred_past true lanes gives w i le =
-    elim (cases_lt w (length lanes)) [
-      | inl lt ↦ (why.NoCell, rw (lt-ltb w (length lanes) lt, le-ltb i (length gives) le))
-      | inr ge ↦ (why.NoLane, rw (le-ltb w (length lanes) ge))
+pub missed_push : (h : History) (e : RoundEvent) (a : Answer) (i : ℕ) → has_missed (h ++ (e, a) ∷ []) i ≡ (has_missed h i || misses i e a)
+missed_push h e a i = any_push (λ x. misses i x.0 x.1) h (e, a)
+
+pub sealings_push : (h : History) (e : RoundEvent) (a : Answer) → sealings (h ++ (e, a) ∷ []) ≡ sealings h + cond (seals a) 1 0
+sealings_push h e a = omega (arith, sum_by-append (λ (x : RoundEvent × Answer). cond (seals x.1) 1 0) h ((e, a) ∷ []))
+
+-- ---- the last event that passes
+last_push : {A : Type 0} (o : Option A) (xs : List A) (x : A) → last_or o (xs ++ x ∷ []) ≡ Some x
+last_push o [] x = refl
+last_push o (y ∷ ys) x = last_push (Some y) ys x
+
+last_passing : {A B : Type 0} (p : A → Bool) (f : A → B) (d : B) (xs : List A) (x : A) → unwrap_or (last_or None (map f (filter p (xs ++ x ∷ [])))) d ≡ cond (p x) (f x) (unwrap_or (last_or None (map f (filter p xs))) d)
+last_passing {A} {B} p f d xs x =
+    let parts : map f (filter p (xs ++ x ∷ [])) ≡ map f (filter p xs) ++ map f (cond (p x) (x ∷ []) []) = ap (map f) (filter-append p xs (x ∷ [])) ∙ map-append f (filter p xs) (cond (p x) (x ∷ []) []) in
+    let last : List B → B = λ ys. unwrap_or (last_or None ys) d in
+    ap last parts ∙ elim (cases_Bool (p x)) [
+      | inl t ↦ ap (λ b. last (map f (filter p xs) ++ map f (cond b (x ∷ []) []))) t ∙ ap (λ o. unwrap_or o d) (last_push None (map f (filter p xs)) (f x)) ∙ sym (ap (λ b. cond b (f x) (last (map f (filter p xs)))) t)
+      | inr t ↦ ap (λ b. last (map f (filter p xs) ++ map f (cond b (x ∷ []) []))) t ∙ ap last (append-nil (map f (filter p xs))) ∙ sym (ap (λ b. cond b (f x) (last (map f (filter p xs)))) t)
     ]
 
-pub within : (sealed : Bool) (lanes : List ℕ) (gives : List (Id × ℕ)) (w i : ℕ) → barred sealed lanes gives w i ≡ None → i < length gives
-within sealed lanes gives w i none =
-    elim (cases_lt i (length gives)) [
-      | inl lt ↦ lt
-      | inr ge ↦ (let r : (r : Refusal) × (barred sealed lanes gives w i ≡ Some r) = barred_past sealed lanes gives w i ge in absurd (let e : None ≡ Some r.0 = sym none ∙ r.1 in cc))
-    ]
+-- cell i after one more answer
+abbrev pub cell_then : ℕ → Cell → RoundEvent → Answer → Cell
+cell_then i c e a = cond (changes i e a) (left_cell e a) c
 
-pub not_refused : (o : Option Refusal) (b a : Answer) → a ≡ or_refused o b → ((r : Refusal) → a ≢ Refused r) → o ≡ None
-not_refused None b a e never = refl
-not_refused (Some r) b a e never = absurd (never r e)
+pub cell_push : (h : History) (e : RoundEvent) (a : Answer) (i : ℕ) → cell_after (h ++ (e, a) ∷ []) i ≡ cell_then i (cell_after h i) e a
+cell_push h e a i = last_passing (λ (x : RoundEvent × Answer). changes i x.0 x.1) (λ x. left_cell x.0 x.1) Free h (e, a)
 
--- where the right answer changes a cell, there is such a cell
-pub range_right : (sealed : Bool) (lanes : List ℕ) (gives : List (Id × ℕ)) (f : ℕ → Cell) (p : Id → Bool) (n : ℕ) (e : RoundEvent) (a : Answer) → n ≡ length gives → a ≡ answer_of sealed lanes gives f p e → IsInRange e a n
-range_right sealed lanes gives f p n (Claim v j) Won long right = omega (arith, within sealed lanes gives v j (not_refused (barred sealed lanes gives v j) _ Won right (λ r e. cc)))
-range_right sealed lanes gives f p n (Finish v j) Finished long right = omega (arith, within sealed lanes gives v j (not_refused (barred sealed lanes gives v j) _ Finished right (λ r e. cc)))
-range_right sealed lanes gives f p n (Miss v j) MissedIt long right = omega (arith, within sealed lanes gives v j (not_refused (barred sealed lanes gives v j) _ MissedIt right (λ r e. cc)))
-range_right sealed lanes gives f p n (Release v j) Released long right = omega (arith, within sealed lanes gives v j (not_refused (barred sealed lanes gives v j) _ Released right (λ r e. cc)))
-range_right sealed lanes gives f p n e a long right = tt
+-- whether w holds cell i after one more answer
+abbrev pub holds_after : ℕ → ℕ → Bool → RoundEvent → Answer → Bool
+holds_after w i b e a = cond (is_of w e && changes i e a) (is_won a) b
 
--- one write is the step of each cell
-set_step : (cells : List Cell) (j i : ℕ) (c : Cell) → j < length cells → get_or (set cells j c) i Free ≡ cond (j == i) c (get_or cells i Free)
-set_step cells j i c lt =
-    elim (cases_eq i j) [
-      | inl e ↦ ap (λ k. get_or (set cells j c) k Free) e ∙ get_or-set_same cells j c Free lt ∙ sym (ap (λ b. cond b c (get_or cells i Free)) (eq-eqb j i (sym e)))
-      | inr ne ↦ get_or-set_other cells j i c Free ne ∙ sym (ap (λ b. cond b c (get_or cells i Free)) (ne_eqb j i (λ e. ne (sym e))))
-    ]
+pub holds_push : (h : History) (e : RoundEvent) (a : Answer) (w i : ℕ) → holds (h ++ (e, a) ∷ []) w i ≡ holds_after w i (holds h w i) e a
+holds_push h e a w i = last_passing (λ (x : RoundEvent × Answer). is_of w x.0 && changes i x.0 x.1) (λ x. is_won x.1) false h (e, a)
 
-pub cells_step : (cells : List Cell) (e : RoundEvent) (a : Answer) (i : ℕ) → IsInRange e a (length cells) → get_or (cells_then cells e a) i Free ≡ cell_then i (get_or cells i Free) e a
-cells_step cells (Claim v j) Won i h = set_step cells j i (Held v) h
-cells_step cells (Finish v j) Finished i h = set_step cells j i Done h
-cells_step cells (Miss v j) MissedIt i h = set_step cells j i Missed h
-cells_step cells (Release v j) Released i h = set_step cells j i Free h
-cells_step cells e a i h = refl
+-- ---- plans
+pub so_far : (plans later : List Planned) (h : History) → sealings h ≡ length plans → gives_so_far (plans ++ later) h ≡ gives_of plans
+so_far plans later h e = ap (λ n. gives_of (take n (plans ++ later))) e ∙ ap gives_of (take-append_seam plans later)
 
-pub cells_long : (cells : List Cell) (e : RoundEvent) (a : Answer) → length (cells_then cells e a) ≡ length cells
-cells_long cells (Claim v j) Won = length-set cells j (Held v)
-cells_long cells (Finish v j) Finished = length-set cells j Done
-cells_long cells (Miss v j) MissedIt = length-set cells j Missed
-cells_long cells (Release v j) Released = length-set cells j Free
-cells_long cells e a = refl
+pub before_last : (plans later : List Planned) (h : History) → sealings h ≡ length plans + 1 → gives_before (plans ++ later) h ≡ gives_of plans
+before_last plans later h e =
+    let n : sealings h - 1 ≡ length plans = omega (arith, e) in
+    ap (λ n. gives_of (take n (plans ++ later))) n ∙ ap gives_of (take-append_seam plans later)
+
+take_none : {X : Type 0} (i : ℕ) → take {A = X} i [] ≡ []
+take_none zero = refl
+take_none (suc i) = refl
+
+pub before_none : (h : History) → gives_before [] h ≡ []
+before_none h = ap gives_of (take_none (sealings h - 1))
+
+pub gives_push : (plans : List Planned) (p : Planned) → gives_of (plans ++ p ∷ []) ≡ gives_of plans ++ p.gives
+gives_push plans p = flat_map-append (λ (q : Planned). q.gives) plans (p ∷ []) ∙ ap (λ gs. gives_of plans ++ gs) (append-nil p.gives)
+
+pub plans_push : (plans : List Planned) (p : Planned) → length (plans ++ p ∷ []) ≡ length plans + 1
+plans_push plans p = length-append plans (p ∷ [])
+
+pub get_seam : (plans later : List Planned) (p : Planned) → slice_get (plans ++ p ∷ later) (length plans) ≡ Some p
+get_seam [] later p = refl
+get_seam (q ∷ qs) later p = get_seam qs later p
+
+-- ---- legal histories
+pub legal_push : (lanes : List ℕ) (plans : List Planned) (before h : History) (e : RoundEvent) (a : Answer) → legal_after lanes plans before h → Right lanes plans (before ++ h) e a → legal_after lanes plans before (h ++ (e, a) ∷ [])
+legal_push lanes plans before [] e a l right = (subst (λ b. Right lanes plans b e a) (append-nil before) right, tt)
+legal_push lanes plans before (x ∷ h) e a l right = (l.0, legal_push lanes plans (before ++ x ∷ []) h e a l.1 (subst (λ b. Right lanes plans b e a) (sym (append_assoc before (x ∷ []) h)) right))
+
+by_push_on : (P : History → Type 0) → ((h : History) (e : RoundEvent) (a : Answer) → P h → P (h ++ (e, a) ∷ [])) → (before h : History) → P before → P (before ++ h)
+by_push_on P more before [] p = subst P (sym (append-nil before)) p
+by_push_on P more before (x ∷ h) p = subst P (append_assoc before (x ∷ []) h) (by_push_on P more (before ++ x ∷ []) h (more before x.0 x.1 p))
+
+-- what each event keeps is so of each history
+pub by_push : (P : History → Type 0) → P [] → ((h : History) (e : RoundEvent) (a : Answer) → P h → P (h ++ (e, a) ∷ [])) → (h : History) → P h
+by_push P none more h = by_push_on P more [] h none
+
+by_right_on : (lanes : List ℕ) (plans : List Planned) (P : History → Type 0) → ((h : History) (e : RoundEvent) (a : Answer) → Right lanes plans h e a → P h → P (h ++ (e, a) ∷ [])) → (before h : History) → legal_after lanes plans before h → P before → P (before ++ h)
+by_right_on lanes plans P more before [] l p = subst P (sym (append-nil before)) p
+by_right_on lanes plans P more before (x ∷ h) l p = subst P (append_assoc before (x ∷ []) h) (by_right_on lanes plans P more (before ++ x ∷ []) h l.1 (more before x.0 x.1 l.0 p))
+
+-- what each right answer keeps is so of each legal history
+pub by_right : (lanes : List ℕ) (plans : List Planned) (P : History → Type 0) → P [] → ((h : History) (e : RoundEvent) (a : Answer) → Right lanes plans h e a → P h → P (h ++ (e, a) ∷ [])) → (h : History) → legal_after lanes plans [] h → P h
+by_right lanes plans P none more h l = by_right_on lanes plans P more [] h l none

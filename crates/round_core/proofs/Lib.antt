@@ -1,8 +1,10 @@
 pub mod Reports
 pub mod Histories
-pub mod Steps
+pub mod Touches
+pub mod Left
+pub mod Gone
+pub mod Plans
 pub mod Parts
-pub mod Behind
 pub mod Start
 pub mod Runs
 pub mod Holders

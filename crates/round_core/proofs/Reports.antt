@@ -1,8 +1,8 @@
 -- What a report is answered, from the faults of the tables.
-use Rattle.std.proofs.Common.{◌≡◌, ℕ, ◌+◌, ◌<◌, ◌==◌, ◌&&◌, ◌||◌, not, nat_lt, Bool, true, false, cond, List, [], ◌∷◌, length, map, Option, Some, None, Ok, Err, refl, sym, ap, ◌∙◌, subst, arith, inl, inr}
-use Rattle.std.specs.Prelude.{is_some, unwrap_or, MatchOption, IsOkUnless, Result}
-use Rattle.std.specs.List.{list_any, count_by}
-use Rattle.std.proofs.lemmas.Bool.{cases_Bool, eqb-true, eq-eqb, ne_eqb, cases_eq, false≢true}
+use Rattle.std.proofs.Common.{◌≡◌, ℕ, ◌+◌, ◌==◌, ◌&&◌, ◌||◌, not, nat_lt, Bool, true, false, cond, List, [], ◌∷◌, length, map, Option, Some, None, Ok, Err, refl, sym, ap, ◌∙◌, subst, arith, inl, inr}
+use Rattle.std.specs.Prelude.{is_some, unwrap_or, MatchOption, Result}
+use Rattle.std.specs.List.{list_any}
+use Rattle.std.proofs.lemmas.Bool.{cases_Bool, eq-eqb, ne_eqb, cases_eq}
 use Rattle.std.proofs.lemmas.List.Sums.{sum_by-cons}
 use Rattle.neg_codec.specs.declared.Id.{Id}
 use Rattle.sharing.specs.declared.TheConstants.{RELAYS, MOST_IDS}
@@ -16,7 +16,7 @@ use Rattle.round_core.specs.declared.events.Refusal.TheVariants as why
 use Rattle.round_core.specs.declared.events.Answer.{Answer}
 use Rattle.round_core.specs.declared.events.Answer.TheVariants.{Taken, Refused}
 use Rattle.round_core.specs.Legal.{report_answer, new_ids}
-use Rattle.round_core.specs.Left.{refused_by, HasReport, Adds, AddsBy}
+use Rattle.round_core.specs.Left.{refused_by, HasReport, Adds}
 
 abbrev pub each_with : ℕ → List Id → List (Id × List ℕ)
 each_with relay ids = map (λ i. (i, relay ∷ [])) ids

@@ -1,5 +1,5 @@
 -- Events zip with their answers.
-use Rattle.std.proofs.Common.{◌≡◌, ℕ, zero, suc, ◌+◌, ◌<◌, ◌≤◌, List, [], ◌∷◌, ◌++◌, length, take, get_or, refl, sym, ap, ◌∙◌, subst, arith, add-one}
+use Rattle.std.proofs.Common.{◌≡◌, ℕ, zero, suc, ◌+◌, ◌<◌, ◌≤◌, List, [], ◌∷◌, ◌++◌, length, take, get_or, refl, sym, ap, subst, arith, add-one}
 use Rattle.round_core.specs.declared.events.RoundEvent.{RoundEvent}
 use Rattle.round_core.specs.declared.events.Answer.{Answer}
 use Rattle.std.specs.List.{zip}

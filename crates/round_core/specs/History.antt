@@ -1,10 +1,11 @@
--- What a history of events and answers says of reports, cells and placed ids.
-use Rattle.std.specs.Prelude.{◌≡◌, ℕ, ◌==◌, ◌&&◌, ◌||◌, Bool, true, false, List, if◌then◌else◌}
-use Rattle.std.specs.List.{fold, list_any}
+-- What a history of events and answers says of reports, plans, cells and placed ids.
+use Rattle.std.specs.Prelude.{◌≡◌, ℕ, ◌-◌, ◌<◌, ◌==◌, ◌&&◌, Bool, true, false, List, [], map, take, length, slice_index_or, count_by, filter, flat_map, unwrap_or, None}
+use Rattle.std.specs.List.{list_any, last_or}
 use Rattle.neg_codec.specs.declared.Id.{Id}
 use Rattle.sharing.specs.Sharing.{is_among}
-use Rattle.sharing.specs.Offers.{IsOffers, AreRelays, is_id, relays_of}
+use Rattle.sharing.specs.Offers.{StandsFor, AreRelays, is_id}
 use Rattle.offer_table.specs.Table.{Table}
+use Rattle.fetch_plan.specs.Plan.{Planned}
 use Rattle.fetch_plan.specs.declared.cell.Cell.{Cell}
 use Rattle.fetch_plan.specs.declared.cell.Cell.TheVariants.{Free, Held, Done, Missed}
 use Rattle.round_core.specs.declared.events.RoundEvent.{RoundEvent}
@@ -15,6 +16,95 @@ use Rattle.round_core.specs.declared.events.Answer.TheVariants.{Taken, Sealed, W
 abbrev pub History : Type 0
 History = List (RoundEvent × Answer)
 
+-- ---- plans
+abbrev pub seals : Answer → Bool
+seals (Sealed n) = true
+seals a = false
+
+abbrev pub is_sealed : History → Bool
+is_sealed h = list_any (λ x. seals x.1) h
+
+-- how many plans were made
+abbrev pub sealings : History → ℕ
+sealings h = count_by (λ x. seals x.1) h
+
+abbrev pub no_give : Id × ℕ
+no_give = (record { 0 = [] }, 0)
+
+-- The gives of these plans, each plan's after those of the plans before it: cell i has the i-th of them.
+abbrev pub gives_of : List Planned → List (Id × ℕ)
+gives_of plans = flat_map (λ p. p.gives) plans
+
+-- Of the plans that a history fixes, one for each answer Sealed: the gives of those that were made so far.
+abbrev pub gives_so_far : List Planned → History → List (Id × ℕ)
+gives_so_far plans h = gives_of (take (sealings h) plans)
+
+-- the same without the last plan
+abbrev pub gives_before : List Planned → History → List (Id × ℕ)
+gives_before plans h = gives_of (take (sealings h - 1) plans)
+
+-- ---- cells
+-- whether this is an answer Won, Finished, MissedIt or Released on cell i
+abbrev pub changes : ℕ → RoundEvent → Answer → Bool
+changes i (Claim v j) Won = j == i
+changes i (Finish v j) Finished = j == i
+changes i (Miss v j) MissedIt = j == i
+changes i (Release v j) Released = j == i
+changes i e a = false
+
+-- what such an answer leaves of its cell
+abbrev pub left_cell : RoundEvent → Answer → Cell
+left_cell (Claim v j) Won = Held v
+left_cell (Finish v j) Finished = Done
+left_cell (Miss v j) MissedIt = Missed
+left_cell e a = Free
+
+-- what the last such answer on cell i leaves of it, free before the first
+abbrev pub cell_after : History → ℕ → Cell
+cell_after h i = unwrap_or (last_or None (map (λ x. left_cell x.0 x.1) (filter (λ x. changes i x.0 x.1) h))) Free
+
+-- whether the event is lane w's
+abbrev pub is_of : ℕ → RoundEvent → Bool
+is_of w (Claim v j) = v == w
+is_of w (Finish v j) = v == w
+is_of w (Miss v j) = v == w
+is_of w (Release v j) = v == w
+is_of w e = false
+
+abbrev pub is_won : Answer → Bool
+is_won Won = true
+is_won a = false
+
+-- the last of w's answers Won, Finished, MissedIt, Released on cell i is Won
+abbrev pub holds : History → ℕ → ℕ → Bool
+holds h w i = unwrap_or (last_or None (map (λ x. is_won x.1) (filter (λ x. is_of w x.0 && changes i x.0 x.1) h))) false
+
+-- whether this answer finishes cell i
+abbrev pub finishes : ℕ → RoundEvent → Answer → Bool
+finishes i (Finish w j) Finished = j == i
+finishes i e a = false
+
+abbrev pub has_finished : History → ℕ → Bool
+has_finished h i = list_any (λ x. finishes i x.0 x.1) h
+
+-- whether this answer misses cell i
+abbrev pub misses : ℕ → RoundEvent → Answer → Bool
+misses i (Miss w j) MissedIt = j == i
+misses i e a = false
+
+abbrev pub has_missed : History → ℕ → Bool
+has_missed h i = list_any (λ x. misses i x.0 x.1) h
+
+-- ---- ids
+-- whether an event places this id
+abbrev pub places : Id → RoundEvent → Bool
+places id (Insert other) = is_id id other
+places id e = false
+
+abbrev pub is_placed : History → Id → Bool
+is_placed h id = list_any (λ x. places id x.0) h
+
+-- ---- offers
 -- a report of relay r was taken
 abbrev pub reports : ℕ → RoundEvent → Answer → Bool
 reports r (Report q need) Taken = r == q
@@ -31,55 +121,20 @@ wants_in r i e a = false
 abbrev pub wants : History → ℕ → Id → Bool
 wants h r i = list_any (λ x. wants_in r i x.0 x.1) h
 
--- the offers of the reports so far: just those, in order
-pub record TableOf (h : History) (table : Table) : Type 0 where
-  pub ordered : IsOffers table.offers
-  pub offers : (i : Id) (r : ℕ) → is_among (relays_of table.offers i) r ≡ wants h r i
+-- A cell with this give leaves relay r's offer of the id out of later plans: a done one all offers of its id, a
+-- missed one that of its own relay.
+abbrev pub leaves_out : Cell → Id × ℕ → ℕ → Id → Bool
+leaves_out Done g r i = is_id i g.0
+leaves_out Missed g r i = is_id i g.0 && (r == g.1)
+leaves_out c g r i = false
+
+-- The offer stands: a report of relay r had the id, and none of the cells with these gives leaves it out.
+pub record Stands (h : History) (gives : List (Id × ℕ)) (r : ℕ) (i : Id) : Type 0 where
+  pub wanted : wants h r i ≡ true
+  pub kept : (k : ℕ) → k < length gives → leaves_out (cell_after h k) (slice_index_or gives k no_give) r i ≡ false
+
+-- The table of the relays that reported and the offers that stand, where the cells with these gives count.
+pub record TableOf (h : History) (gives : List (Id × ℕ)) (table : Table) : Type 0 where
+  pub offers : StandsFor table.offers (Stands h gives)
   pub relays : AreRelays table.reported
   pub reported : (r : ℕ) → is_among table.reported r ≡ has_reported h r
-
-abbrev pub seals : Answer → Bool
-seals (Sealed n) = true
-seals a = false
-
-abbrev pub is_sealed : History → Bool
-is_sealed h = list_any (λ x. seals x.1) h
-
--- whether w holds cell i, after one more answer
-abbrev pub holds_after : ℕ → ℕ → Bool → RoundEvent → Answer → Bool
-holds_after w i b (Claim v j) Won = if (v == w) && (j == i) then true else b
-holds_after w i b (Finish v j) Finished = if (v == w) && (j == i) then false else b
-holds_after w i b (Miss v j) MissedIt = if (v == w) && (j == i) then false else b
-holds_after w i b (Release v j) Released = if (v == w) && (j == i) then false else b
-holds_after w i b e a = b
-
--- the last of w's answers Won, Finished, MissedIt, Released on cell i is Won
-abbrev pub holds : History → ℕ → ℕ → Bool
-holds h w i = fold (λ b x. holds_after w i b x.0 x.1) false h
-
--- cell i, after one more answer
-abbrev pub cell_then : ℕ → Cell → RoundEvent → Answer → Cell
-cell_then i c (Claim v j) Won = if j == i then Held v else c
-cell_then i c (Finish v j) Finished = if j == i then Done else c
-cell_then i c (Miss v j) MissedIt = if j == i then Missed else c
-cell_then i c (Release v j) Released = if j == i then Free else c
-cell_then i c e a = c
-
-abbrev pub cell_after : History → ℕ → Cell
-cell_after h i = fold (λ c x. cell_then i c x.0 x.1) Free h
-
--- whether an event places this id
-abbrev pub places : Id → RoundEvent → Bool
-places id (Insert other) = is_id id other
-places id e = false
-
-abbrev pub is_placed : History → Id → Bool
-is_placed h id = list_any (λ x. places id x.0) h
-
--- whether this answer finishes cell i
-abbrev pub finishes : ℕ → RoundEvent → Answer → Bool
-finishes i (Finish w j) Finished = j == i
-finishes i e a = false
-
-abbrev pub has_finished : History → ℕ → Bool
-has_finished h i = list_any (λ x. finishes i x.0 x.1) h

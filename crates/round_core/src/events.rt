@@ -5,13 +5,17 @@ use neg_codec::Id;
 use offer_table::Bases;
 use std::collections::BTreeSet;
 
-/// One event of a round. Lanes and cells go by their numbers.
+/// One event of a round. Lanes and cells go by their numbers: cell i has the i-th id of the plan, ascending, and the
+/// cells of each later plan are numbered on.
 #[derive(Drop)]
 pub enum RoundEvent {
     /// What a relay offers.
     Report(u16, BTreeSet<Id>),
     /// The plan is made of the reports so far, over these bases: what each relay's load begins with.
     Seal(Bases),
+    /// Another plan, over these bases, of the offers that the cells so far leave: without all offers of the ids
+    /// that are done, and without the offer of each missed cell's id by that cell's relay.
+    Again(Bases),
     /// The lane asks for the cell, to fetch its id.
     Claim(u16, usize),
     /// The lane has fetched the cell's id, which was placed.
@@ -22,6 +26,15 @@ pub enum RoundEvent {
     Release(u16, usize),
     /// An id was placed in the store.
     Insert(Id),
+}
+
+/// What a lane does to a cell.
+#[derive(Clone, Copy)]
+pub(crate) enum Touch {
+    Claim,
+    Finish,
+    Miss,
+    Release,
 }
 
 /// What an event is answered.
@@ -60,9 +73,11 @@ pub enum Refusal {
     Double,
     /// No plan was made yet.
     NotSealed,
+    /// This cell is held, the lowest one that is.
+    Busy(usize),
     /// No lane has this number.
     NoLane,
-    /// The plan has no such cell.
+    /// The last plan has no such cell.
     NoCell,
     /// The cell's id is given to another relay than the lane's.
     OtherRelay,

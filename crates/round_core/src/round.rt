@@ -1,16 +1,17 @@
 //! Rounds.
 
-ghost use Rattle.std.specs.Prelude.{◌≡◌, ◌≤◌, ◌++◌, ◌∷◌, [], ℕ, length, IfOk, OnErr, None, is_some, slice_index_or, List, IsTrue, true, false};
-ghost use Rattle.std.specs.List.{list_any, zip};
-ghost use Rattle.sharing.specs.Offers.{is_id, StandsFor};
-ghost use Rattle.offer_table.specs.Table.{Table};
-ghost use Rattle.round_core.specs.History.{History, TableOf, wants, holds, has_finished, is_placed};
+ghost use Rattle.std.specs.Prelude.{◌≡◌, ◌↔◌, ◌≤◌, ◌<◌, ◌++◌, ◌∷◌, [], ℕ, length, IfOk, IsOk, OnErr, slice_index_or, List, IsTrue, true, false};
+ghost use Rattle.std.specs.List.{zip};
+ghost use Rattle.sharing.specs.Offers.{is_id};
 ghost use Rattle.fetch_plan.specs.Plan.{Planned};
-ghost use Rattle.round_core.specs.Legal.{Legal, legal_after, answer_of, no_give};
-ghost use Rattle.round_core.specs.Left.{Leaves, ReportsTo, SealsTo, InsertsTo, gives_in, cells_then};
+ghost use Rattle.round_core.specs.History.{History, holds, has_finished, has_missed, is_placed, cell_after, gives_of, no_give};
+ghost use Rattle.round_core.specs.Legal.{Legal, legal_after};
+ghost use Rattle.round_core.specs.Left.{Leaves, is_on_cell, ReportsTo, SealsTo, AgainTo, InsertsTo, answer_in, cells_then};
 
-use crate::rules::{add_report, answer_at, free_cells, write_cell};
-use crate::{Answer, Refusal, RoundEvent};
+use crate::rules::{
+    add_report, answer_at, left_out, lowest_held, more_cells, plan_without, write_cell,
+};
+use crate::{Answer, Refusal, RoundEvent, Touch};
 use fetch_plan::{Cell, Plan, plan};
 use neg_codec::Id;
 use offer_table::{Bases, OfferTable};
@@ -19,7 +20,8 @@ use std::collections::BTreeSet;
 use std::marker::Model;
 use std::mem;
 
-/// A round: its lanes, the table of the reports, the plan once it is made, the cells and the placed ids.
+/// A round: its lanes, the table of the offers that the last plan shares out, that plan once it is made, the cells of
+/// all plans, and the placed ids.
 #[derive(Drop)]
 pub struct Round {
     lanes: Vec<u16>,
@@ -31,14 +33,14 @@ pub struct Round {
 }
 
 impl Model for Round {
-    ghost use Rattle.std.specs.Prelude.{◌≡◌, length};
+    ghost use Rattle.std.specs.Prelude.{◌≤◌, length};
     ghost use Rattle.round_core.specs.Left.{State, gives_in};
 
     ghost Value = { State };
 
     ghost view = { λ r. record { lanes = r.lanes.items; table = r.table; plan = r.plan; cells = r.cells.items; placed = r.placed.keys } };
 
-    ghost invariant = { λ r. length r.cells.items ≡ length (gives_in r.plan) };
+    ghost invariant = { λ r. length (gives_in r.plan) ≤ length r.cells.items };
 }
 
 impl Round {
@@ -57,17 +59,23 @@ impl Round {
         })
     }
 
-    /// The answer to one event. A refused event changes nothing, nor does one without memory.
+    /// The answer to one event. A refused event changes nothing, nor does one without memory. An event on a cell
+    /// takes no memory.
     pub fn step(&mut self, event: &RoundEvent) -> Result<Answer, AllocError>
         ensures legal { IfOk result (λ answer. (h : History) → Leaves self.old.lanes h self.old → Legal self.old.lanes (h ++ (event.now, answer) ∷ [])) }
         ensures leaves { IfOk result (λ answer. (h : History) → Leaves self.old.lanes h self.old → Leaves self.old.lanes (h ++ (event.now, answer) ∷ []) self.new) }
         ensures err { OnErr result (self.new ≡ self.old) }
+        ensures answers { IsTrue (is_on_cell event.now) → IsOk result }
     {
         match event {
             RoundEvent::Report(relay, need) => self.report(*relay, need),
             RoundEvent::Seal(bases) => self.seal(bases),
+            RoundEvent::Again(bases) => self.again(bases),
+            RoundEvent::Claim(lane, cell) => Ok(self.touch(Touch::Claim, *lane, *cell)),
+            RoundEvent::Finish(lane, cell) => Ok(self.touch(Touch::Finish, *lane, *cell)),
+            RoundEvent::Miss(lane, cell) => Ok(self.touch(Touch::Miss, *lane, *cell)),
+            RoundEvent::Release(lane, cell) => Ok(self.touch(Touch::Release, *lane, *cell)),
             RoundEvent::Insert(id) => self.insert(*id),
-            _ => Ok(self.touch(event)),
         }
     }
 
@@ -109,7 +117,28 @@ impl Round {
         }
         let made = plan(self.alloc, &self.table, bases)?;
         let least_max = made.least_max();
-        let cells = free_cells(self.alloc, made.len())?;
+        let cells = more_cells(self.alloc, &self.cells, made.len())?;
+        self.cells = cells;
+        self.plan = Some(made);
+        Ok(Answer::Sealed(least_max))
+    }
+
+    fn again(&mut self, bases: &Bases) -> Result<Answer, AllocError>
+        ensures { AgainTo self.old bases.now result self.new }
+    {
+        let last = match &self.plan {
+            None => return Ok(Answer::Refused(Refusal::NotSealed)),
+            Some(last) => last,
+        };
+        if let Some(cell) = lowest_held(&self.cells) {
+            return Ok(Answer::Refused(Refusal::Busy(cell)));
+        }
+        // The table itself changes last, where nothing can be refused any more.
+        let gone = left_out(self.alloc, &self.table, last, &self.cells)?;
+        let made = plan_without(self.alloc, &self.table, &gone, bases)?;
+        let least_max = made.least_max();
+        let cells = more_cells(self.alloc, &self.cells, made.len())?;
+        self.table.leave_out(&gone)?;
         self.cells = cells;
         self.plan = Some(made);
         Ok(Answer::Sealed(least_max))
@@ -122,13 +151,20 @@ impl Round {
         Ok(Answer::Placed(fresh))
     }
 
-    /// An event on a cell.
-    fn touch(&mut self, event: &RoundEvent) -> Answer
-        ensures answer { result ≡ answer_of (is_some self.old.plan) self.old.lanes (gives_in self.old.plan) (λ i. slice_index_or self.old.cells i Cell.Free) (λ id. list_any (is_id id) self.old.placed) event.now }
-        ensures after { self.new ≡ record self.old { cells = cells_then self.old.cells event.now result } }
+    fn touch(&mut self, touch: Touch, lane: u16, cell: usize) -> Answer
+        ensures answer { result ≡ answer_in self.old.plan self.old.lanes self.old.cells self.old.placed touch lane cell }
+        ensures after { self.new ≡ record self.old { cells = cells_then self.old.cells touch lane cell result } }
     {
-        let answer = answer_at(&self.plan, &self.lanes, &self.cells, &self.placed, event);
-        write_cell(&mut self.cells, event, answer);
+        let answer = answer_at(
+            &self.plan,
+            &self.lanes,
+            &self.cells,
+            &self.placed,
+            touch,
+            lane,
+            cell,
+        );
+        write_cell(&mut self.cells, touch, lane, cell, answer);
         answer
     }
 }
@@ -138,13 +174,18 @@ pub fn one_holder()
     ensures { (lanes : List ℕ) (h : History) (w v i : ℕ) → Legal lanes h → IsTrue (holds h w i) → IsTrue (holds h v i) → w ≡ v }
 {}
 
-/// In a history that is legal for a plan, where lane w finished cell i: the cell was not finished before, and its id
-/// was placed before.
-pub fn finished_once()
-    ensures { (lanes : List ℕ) (fixed : Planned) (before after : History) (w i : ℕ) → legal_after lanes fixed [] (before ++ (RoundEvent.Finish w i, Answer.Finished) ∷ after) → (has_finished before i ≡ false) × IsTrue (is_placed before (slice_index_or fixed.gives i no_give).0) }
+/// What a cell is after a legal history: held by a lane just where the lane's last answer on it is Won, done just
+/// after an answer Finished, missed just after an answer MissedIt, else free.
+pub fn cell_is()
+    ensures held { (lanes : List ℕ) (h : History) (w i : ℕ) → Legal lanes h → ((cell_after h i ≡ Cell.Held w) ↔ IsTrue (holds h w i)) }
+    ensures done { (lanes : List ℕ) (h : History) (i : ℕ) → Legal lanes h → ((cell_after h i ≡ Cell.Done) ↔ IsTrue (has_finished h i)) }
+    ensures missed { (lanes : List ℕ) (h : History) (i : ℕ) → Legal lanes h → ((cell_after h i ≡ Cell.Missed) ↔ IsTrue (has_missed h i)) }
+    ensures free { (lanes : List ℕ) (h : History) (i : ℕ) → Legal lanes h → ((cell_after h i ≡ Cell.Free) ↔ (((w : ℕ) → holds h w i ≡ false) × (has_finished h i ≡ false) × (has_missed h i ≡ false))) }
 {}
 
-/// The table that a history leaves stands for the sets of ids that its reports name, a relay's set each.
-pub fn table_stands()
-    ensures { (h : History) (table : Table) → TableOf h table → StandsFor table.offers (λ r i. wants h r i ≡ true) }
+/// In a history that is legal for these plans, where lane w finished cell i: no cell of its id was finished before,
+/// and the id was placed before.
+pub fn finished_once()
+    ensures once { (lanes : List ℕ) (plans : List Planned) (before after : History) (w i k : ℕ) → legal_after lanes plans [] (before ++ (RoundEvent.Finish w i, Answer.Finished) ∷ after) → IsTrue (has_finished before k) → is_id (slice_index_or (gives_of plans) k no_give).0 (slice_index_or (gives_of plans) i no_give).0 ≡ false }
+    ensures placed { (lanes : List ℕ) (plans : List Planned) (before after : History) (w i : ℕ) → legal_after lanes plans [] (before ++ (RoundEvent.Finish w i, Answer.Finished) ∷ after) → IsTrue (is_placed before (slice_index_or (gives_of plans) i no_give).0) }
 {}

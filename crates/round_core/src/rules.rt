@@ -1,31 +1,40 @@
 //! What each event is answered and what it changes, over the parts of a round.
 
-ghost use Rattle.std.specs.Prelude.{◌≡◌, ◌<◌, ◌==◌, ◌&&◌, ◌||◌, ℕ, length, slice_index_or, is_some, replicate, IfOk, if◌then◌else◌};
+ghost use Rattle.std.specs.Prelude.{◌≡◌, ◌<◌, ◌≤◌, ◌++◌, ℕ, length, map, slice_index_or, is_some, replicate, IfOk, MatchOption, false};
 ghost use Rattle.std.specs.List.{list_any};
-ghost use Rattle.neg_codec.specs.declared.Id.{Id};
-ghost use Rattle.sharing.specs.Offers.{is_id};
-ghost use Rattle.round_core.specs.Legal.{barred, claim_answer, is_held_by, answer_of, no_give};
-ghost use Rattle.round_core.specs.Left.{gives_in, cells_then, IsInRange, Adds, refused_by};
+ghost use Rattle.sharing.specs.declared.TheConstants.{RELAYS};
+ghost use Rattle.sharing.specs.Offers.{is_id, Ascend};
+ghost use Rattle.fetch_plan.specs.declared.cell.Cell.TheVariants.{Free};
+ghost use Rattle.round_core.specs.Legal.{barred, claim_answer, end_answer, is_held, is_held_by, IsLowestHeld};
+ghost use Rattle.round_core.specs.Left.{gives_in, first_in, give_in, answer_in, cells_then, IsInRange, Adds, refused_by, gone_beside, gone_of, PlansWithout};
 
-use crate::{Answer, Refusal, RoundEvent};
-use fetch_plan::{Cell, Plan};
+use crate::{Answer, Refusal, Touch};
+use fetch_plan::{Cell, Plan, plan};
 use neg_codec::Id;
-use offer_table::{OfferFault, OfferTable};
+use offer_table::{Bases, OfferFault, OfferTable, RelaySet};
 use std::alloc::{AllocError, Global};
 use std::collections::BTreeSet;
 
 /// Why a lane may not touch a cell.
-fn find_refusal(plan: &Option<Plan>, lanes: &[u16], lane: u16, cell: usize) -> Option<Refusal>
-    ensures { result ≡ barred (is_some plan.now) lanes.now (gives_in plan.now) lane cell }
+fn find_refusal(
+    plan: &Option<Plan>,
+    lanes: &[u16],
+    cells: &[Cell],
+    lane: u16,
+    cell: usize,
+) -> Option<Refusal>
+    requires { length (gives_in plan.now) ≤ length cells.now }
+    ensures { result ≡ barred (is_some plan.now) lanes.now (first_in plan.now cells.now) (length cells.now) (give_in plan.now cells.now cell).1 lane cell }
 {
     match plan {
         None => Some(Refusal::NotSealed),
         Some(plan) => {
+            let first = cells.len() - plan.len();
             if usize::from(lane) >= lanes.len() {
                 Some(Refusal::NoLane)
-            } else if cell >= plan.len() {
+            } else if cell < first || cell >= cells.len() {
                 Some(Refusal::NoCell)
-            } else if lanes[usize::from(lane)] == plan.cell(cell).1 {
+            } else if lanes[usize::from(lane)] == plan.cell(cell - first).1 {
                 None
             } else {
                 Some(Refusal::OtherRelay)
@@ -34,14 +43,19 @@ fn find_refusal(plan: &Option<Plan>, lanes: &[u16], lane: u16, cell: usize) -> O
     }
 }
 
-/// Whether the id of a cell was placed.
-fn is_cell_placed(plan: &Option<Plan>, cell: usize, placed: &BTreeSet<Id>) -> bool
-    requires { cell < length (gives_in plan.now) }
-    ensures { result ≡ list_any (is_id (slice_index_or (gives_in plan.now) cell no_give).0) placed.now.keys }
+/// Whether the id of a cell of the last plan was placed.
+fn is_cell_placed(plan: &Option<Plan>, cells: &[Cell], cell: usize, placed: &BTreeSet<Id>) -> bool
+    requires long { length (gives_in plan.now) ≤ length cells.now }
+    requires low { first_in plan.now cells.now ≤ cell }
+    requires high { cell < length cells.now }
+    ensures { result ≡ list_any (is_id (give_in plan.now cells.now cell).0) placed.now.keys }
 {
     match plan {
         None => false,
-        Some(plan) => placed.contains(&plan.cell(cell).0),
+        Some(plan) => {
+            let first = cells.len() - plan.len();
+            placed.contains(&plan.cell(cell - first).0)
+        }
     }
 }
 
@@ -67,7 +81,7 @@ fn claimed(cell: Cell) -> Answer
 
 /// What an end of a holding is answered.
 fn ended(cell: Cell, lane: u16, answer: Answer) -> Answer
-    ensures { result ≡ (if is_held_by cell lane then answer else Answer.Refused Refusal.NotHeld) }
+    ensures { result ≡ end_answer cell lane answer }
 {
     if is_holder(cell, lane) {
         answer
@@ -76,69 +90,127 @@ fn ended(cell: Cell, lane: u16, answer: Answer) -> Answer
     }
 }
 
-/// The answer to an event on a cell, or to an insert.
+/// What a lane's touch of a cell is answered.
 pub(crate) fn answer_at(
     plan: &Option<Plan>,
     lanes: &[u16],
     cells: &[Cell],
     placed: &BTreeSet<Id>,
-    event: &RoundEvent,
+    touch: Touch,
+    lane: u16,
+    cell: usize,
 ) -> Answer
-    requires { length cells.now ≡ length (gives_in plan.now) }
-    ensures { result ≡ answer_of (is_some plan.now) lanes.now (gives_in plan.now) (λ i. slice_index_or cells.now i Cell.Free) (λ id. list_any (is_id id) placed.now.keys) event.now }
+    requires { length (gives_in plan.now) ≤ length cells.now }
+    ensures { result ≡ answer_in plan.now lanes.now cells.now placed.now.keys touch lane cell }
 {
-    match event {
-        RoundEvent::Claim(lane, cell) => match find_refusal(plan, lanes, *lane, *cell) {
-            Some(refusal) => Answer::Refused(refusal),
-            None => claimed(cells[*cell]),
-        },
-        RoundEvent::Finish(lane, cell) => match find_refusal(plan, lanes, *lane, *cell) {
-            Some(refusal) => Answer::Refused(refusal),
-            None => {
-                let answer = if is_cell_placed(plan, *cell, placed) {
-                    Answer::Finished
-                } else {
-                    Answer::Refused(Refusal::NotPlaced)
-                };
-                ended(cells[*cell], *lane, answer)
-            }
-        },
-        RoundEvent::Miss(lane, cell) => match find_refusal(plan, lanes, *lane, *cell) {
-            Some(refusal) => Answer::Refused(refusal),
-            None => ended(cells[*cell], *lane, Answer::MissedIt),
-        },
-        RoundEvent::Release(lane, cell) => match find_refusal(plan, lanes, *lane, *cell) {
-            Some(refusal) => Answer::Refused(refusal),
-            None => ended(cells[*cell], *lane, Answer::Released),
-        },
-        RoundEvent::Insert(id) => Answer::Placed(!placed.contains(id)),
-        RoundEvent::Report(_, _) | RoundEvent::Seal(_) => Answer::Refused(Refusal::NotSealed),
+    if let Some(refusal) = find_refusal(plan, lanes, cells, lane, cell) {
+        return Answer::Refused(refusal);
+    }
+    match touch {
+        Touch::Claim => claimed(cells[cell]),
+        Touch::Finish => {
+            let answer = if is_cell_placed(plan, cells, cell, placed) {
+                Answer::Finished
+            } else {
+                Answer::Refused(Refusal::NotPlaced)
+            };
+            ended(cells[cell], lane, answer)
+        }
+        Touch::Miss => ended(cells[cell], lane, Answer::MissedIt),
+        Touch::Release => ended(cells[cell], lane, Answer::Released),
     }
 }
 
-/// What the event and its answer write into the cells.
-pub(crate) fn write_cell(cells: &mut [Cell], event: &RoundEvent, answer: Answer)
-    requires { IsInRange event.now answer (length cells.old) }
-    ensures { cells.new ≡ cells_then cells.old event.now answer }
+/// What a touch and its answer write into the cells.
+pub(crate) fn write_cell(cells: &mut [Cell], touch: Touch, lane: u16, cell: usize, answer: Answer)
+    requires { IsInRange answer 0 (length cells.old) cell }
+    ensures { cells.new ≡ cells_then cells.old touch lane cell answer }
 {
-    match (event, answer) {
-        (RoundEvent::Claim(lane, cell), Answer::Won) => cells[*cell] = Cell::Held(*lane),
-        (RoundEvent::Finish(_, cell), Answer::Finished) => cells[*cell] = Cell::Done,
-        (RoundEvent::Miss(_, cell), Answer::MissedIt) => cells[*cell] = Cell::Missed,
-        (RoundEvent::Release(_, cell), Answer::Released) => cells[*cell] = Cell::Free,
+    match (touch, answer) {
+        (Touch::Claim, Answer::Won) => cells[cell] = Cell::Held(lane),
+        (Touch::Finish, Answer::Finished) => cells[cell] = Cell::Done,
+        (Touch::Miss, Answer::MissedIt) => cells[cell] = Cell::Missed,
+        (Touch::Release, Answer::Released) => cells[cell] = Cell::Free,
         _ => {}
     }
 }
 
-/// As many free cells.
-pub(crate) fn free_cells(alloc: Global, count: usize) -> Result<Vec<Cell>, AllocError>
-    ensures { IfOk result (λ cells. cells.items ≡ replicate count Cell.Free) }
+/// These cells, and as many free ones after them.
+pub(crate) fn more_cells(
+    alloc: Global,
+    cells: &[Cell],
+    count: usize,
+) -> Result<Vec<Cell>, AllocError>
+    ensures { IfOk result (λ all. all.items ≡ cells.now ++ replicate count Free) }
 {
-    let mut cells = Vec::new(alloc);
+    let mut all = cells.to_vec(alloc)?;
     for _ in 0..count {
-        cells.push(Cell::Free)?;
+        all.push(Cell::Free)?;
     }
-    Ok(cells)
+    Ok(all)
+}
+
+/// The lowest cell that is held.
+pub(crate) fn lowest_held(cells: &[Cell]) -> Option<usize>
+    ensures { MatchOption result ((k : ℕ) → is_held (slice_index_or cells.now k Free) ≡ false) (IsLowestHeld (λ k. slice_index_or cells.now k Free)) }
+{
+    for cell in 0..cells.len() {
+        if let Cell::Held(_) = cells[cell] {
+            return Some(cell);
+        }
+    }
+    None
+}
+
+/// The relays whose offers of its id a cell leaves out of later plans: all where it is done, its own where it is missed.
+fn gone_relays(table: &OfferTable, cell: Cell, give: (Id, u16)) -> RelaySet
+    requires { give.1 < RELAYS }
+    ensures { result ≡ gone_beside table.now.offers cell give }
+{
+    match cell {
+        Cell::Done => table.offers(&give.0),
+        Cell::Missed => RelaySet::one(give.1),
+        _ => RelaySet::empty(),
+    }
+}
+
+/// What the cells of the last plan leave out of later ones: beside each of its ids those relays.
+pub(crate) fn left_out(
+    alloc: Global,
+    table: &OfferTable,
+    last: &Plan,
+    cells: &[Cell],
+) -> Result<Vec<(Id, RelaySet)>, AllocError>
+    requires { length last.now.gives ≤ length cells.now }
+    ensures gone { IfOk result (λ gone. gone.items ≡ gone_of table.now.offers last.now.gives cells.now) }
+    ensures ascend { IfOk result (λ gone. Ascend (map (λ o. o.0) gone.items)) }
+{
+    let first = cells.len() - last.len();
+    let mut gone = Vec::new(alloc);
+    for at in 0..last.len() {
+        let give = last.cell(at);
+        gone.push((give.0, gone_relays(table, cells[first + at], give)))?;
+    }
+    Ok(gone)
+}
+
+/// The plan of the table's offers without those that are gone. The table keeps them, so that it is as it was where
+/// memory runs out. A table has never too many ids for another one.
+pub(crate) fn plan_without(
+    alloc: Global,
+    table: &OfferTable,
+    gone: &[(Id, RelaySet)],
+    bases: &Bases,
+) -> Result<Plan, AllocError>
+    requires { Ascend (map (λ o. o.0) gone.now) }
+    ensures { IfOk result (PlansWithout bases.now table.now.offers gone.now) }
+{
+    let mut left = match OfferTable::of_sets(alloc, table.list().to_vec(alloc)?) {
+        Ok(left) => left,
+        Err(_) => return Err(AllocError),
+    };
+    left.leave_out(gone)?;
+    plan(alloc, &left, bases)
 }
 
 /// What a fault of a report is answered.

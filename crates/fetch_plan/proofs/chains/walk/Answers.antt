@@ -22,9 +22,15 @@ pub back-preserved : goal.back-preserved
 back-preserved c =
     let i = c.back.invariant in
     let low : at c.args.loads.now c.back.at < c.args.most = omega (arith, ap (at c.args.loads.now) c.from.ensures, c.back-test.true) in
-    let found = c.place_of-place.ensures in
-    (i.0, i.1, i.2, i.3, i.4, rw c.from-in-back.ensures
-    (walking_step _ _ _ _ _ _ _ _ _ _ _ _ i.3 i.4 c.back.auto.takers i.5 low c.place_of-place.result found.within (rw c.from-in-back.ensures at found.giver) found.taker))
+    let found = c.place_of-place.ensures in (
+      i.0,
+      i.1,
+      i.2,
+      i.3,
+      i.4,
+      rw c.from-in-back.ensures
+          (walking_step _ _ _ _ _ _ _ _ _ _ _ _ i.3 i.4 c.back.auto.takers i.5 low c.place_of-place.result found.within (rw c.from-in-back.ensures at found.giver) found.taker),
+    )
 
 pub bounds-loads-from : goal.bounds-loads-from
 bounds-loads-from c =

@@ -1,6 +1,5 @@
-use Rattle.std.proofs.Common.{◌≡◌, List, map, refl, sym, ap, ◌∙◌}
-use Rattle.neg_codec.specs.Keys.{least}
-use Rattle.neg_codec.specs.Ranges.{Span, Ascends, edge_of}
+use Rattle.std.proofs.Common.{map, refl}
+use Rattle.neg_codec.specs.Ranges.{edge_of}
 use Rattle.neg_initiator.specs.Findings.{findings_of}
 use Rattle.neg_initiator.specs.Pairs.{pair_of}
 use Rattle.neg_initiator.specs.Settling.{Findings}
@@ -14,7 +13,7 @@ returns-clause-taken c =
     let w = walked c.args.limit c.args.roll.now c.args.asked.now c.args.answered.now (edge_of c.in-Ok.read.1) (findings_of c.args.found.now) (findings_of c.walk.new.found)
     (record { need = c.walk.new.found.need.keys; have = c.walk.new.found.have.keys; trusted = map pair_of c.trust_skipped.new.trusted.items }) c.in-Ok.read.0 c.in-Ok.ensures.draft c.in-Ok.ensures.read c.in_ok-trust_skipped.ensures refl refl in
     let taken = taken_from c.args.limit c.args.roll.now c.args.asked.now c.args.answered.now c.in-Ok.read.0.spans (edge_of c.in-Ok.read.1) (findings_of c.args.found.now) (findings_of c.walk.new.found)
-    (record { need = c.walk.new.found.need.keys; have = c.walk.new.found.have.keys; trusted = map pair_of c.trust_skipped.new.trusted.items }) c.args.found.now.most c.requires.enough c.requires.roll c.requires.ascends c.requires.truth
+    (record { need = c.walk.new.found.need.keys; have = c.walk.new.found.have.keys; trusted = map pair_of c.trust_skipped.new.trusted.items }) c.args.found.now.most c.requires.enough c.requires.roll c.requires.ascends c.in-Ok.ensures.read.ascends c.requires.truth
     c.in-Ok.ensures.read.found c.in_ok-trust_skipped.ensures refl refl c.in-Ok.ensures.draft.ascends c.in-Ok.ensures.draft.none_empty w in
     rw (c.into_message.ensures.value, c.in-Ok.ensures.most) taken
 

@@ -1,16 +1,15 @@
-use Rattle.std.proofs.Common.{◌≡◌, ◌<◌, ◌≤◌, List, [], ◌∷◌, length, map, take, refl, sym, ap, ◌∙◌, arith, Result, Err}
+use Rattle.std.proofs.Common.{◌≡◌, ◌<◌, ◌≤◌, [], ◌∷◌, length, map, take, refl, sym, ap, ◌∙◌, arith, Result, Err}
 use Rattle.std.proofs.lemmas.List.{take_all}
 use Rattle.neg_codec.specs.declared.Bound.{Bound}
 use Rattle.neg_codec.specs.Keys.{place, least}
-use Rattle.neg_codec.specs.Ranges.{Span, Ascends, edge_of, span_of}
+use Rattle.neg_codec.specs.Ranges.{Ascends, span_of}
 use Rattle.neg_draft.specs.declared.draft.Draft.{Draft}
 use Rattle.neg_draft.proofs.Covering.{end-append}
 use Rattle.neg_draft.proofs.Walking.{ranges_upto}
 use Rattle.neg_initiator.specs.Findings.{findings_of}
-use Rattle.neg_initiator.specs.Walked.{IsRead}
 use Rattle.neg_initiator.specs.declared.fault.InitFault.{InitFault}
 use Rattle.neg_initiator.specs.declared.fault.InitFault.TheVariants as fault
-use Rattle.neg_initiator.proofs.Stepping.{Stepped, progress_none, read_whole}
+use Rattle.neg_initiator.proofs.Stepping.{progress_none, read_whole}
 use Rattle.neg_initiator.proofs.Taking.{stepped_at, progress_at, read_at, too_many_at}
 use Rattle.neg_initiator.proofs.Trusts.{reaches_upper}
 use Rattle.neg_initiator.proofs.settle.walk.Goals as goal
@@ -79,8 +78,9 @@ loop-range-preserved c =
 pub returns-clause-read : goal.returns-clause-read
 returns-clause-read c =
     let le : length c.ranges-range-items.result.now ≤ c.loop-range.range-index = omega arith in
+    let up : Ascends least (map span_of c.ranges-range-items.result.now) = rw c.ranges-range-items.ensures.value c.ranges-range-items.ensures.ordered.ascends in
     rw (← c.ranges-range-items.ensures.value)
-    (read_whole c.args.limit c.args.roll.now (map span_of c.ranges-range-items.result.now) (findings_of c.args.found.now) (findings_of c.loop-range.found) c.loop-range.draft c.end.ensures.draft
+    (read_whole c.args.limit c.args.roll.now (map span_of c.ranges-range-items.result.now) (findings_of c.args.found.now) (findings_of c.loop-range.found) c.loop-range.draft up c.end.ensures.draft
     (rw (take_all c.loop-range.range-index c.ranges-range-items.result.now le) at c.loop-range.invariant.progress))
 
 pub returns-clause-most : goal.returns-clause-most

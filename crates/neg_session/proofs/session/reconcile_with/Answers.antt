@@ -1,4 +1,4 @@
-use Rattle.std.proofs.Common.{rules, ◌≡◌, ◌<◌, ◌≤◌, ◌+◌, ◌∙◌, List, inl, inr, length, Result, Err, arith, refl, sym, ap, subst}
+use Rattle.std.proofs.Common.{rules, ◌≡◌, ◌<◌, ◌≤◌, ◌+◌, List, inl, inr, length, Result, Err, arith, refl, sym, ap, subst}
 use Rattle.std.proofs.lemmas.Result.{err_from_is_err_and}
 use Rattle.neg_codec.specs.declared.CodecFault.{CodecFault}
 use Rattle.neg_initiator.specs.declared.fault.InitFault.{InitFault}
@@ -8,7 +8,7 @@ use Rattle.neg_codec.specs.declared.Item.{Item}
 use Rattle.neg_initiator.specs.Session.{IsAskDue}
 use Rattle.neg_session.specs.Ran.{Ran}
 use Rattle.neg_session.specs.declared.fault.SessionFault.TheVariants.{Bad}
-use Rattle.neg_session.proofs.Driver.{going_first, going_more, ran_rounds, ran_log_full, ran_unanswered, ran_quiet, ran_done, ran_fault}
+use Rattle.neg_session.proofs.Driver.{next_resumes, asks_for_few, going_first, going_more, ran_rounds, ran_log_full, ran_unanswered, ran_quiet, ran_done, ran_fault}
 use Rattle.neg_session.proofs.session.reconcile_with.Goals as goal
 
 is_bad : (e : InitFault) (c f : CodecFault) → e ≡ initiator.Bad c → Bad c ≡ Bad f → ◌≡◌ {A = Result Next InitFault} (Err e) (Err (initiator.Bad f))
@@ -29,16 +29,16 @@ returns-in_err-answer-clause-ran g c =
     let room : c.loop-round.round ≤ c.args.limits.now.rounds = omega (arith, c.loop-round-test.true) in
     rw (p.1, p.2) (ran_unanswered _ _ _ _ _ _ _ _ _ _ _ _ c.loop-round.invariant.going c.in_err-answer.ensures.err room c.in_err-answer.field-0.0 (λ e. (c.in_err-answer.ensures.failed (ap Err e)).0) (λ e. c.in_err-answer.ensures.memory (ap Err e)))
 
-pub returns-in-Ok-Done-clause-ran : goal.returns-in-Ok-Done-clause-ran
-returns-in-Ok-Done-clause-ran g c =
+pub returns-in-Some-left_after-clause-ran : goal.returns-in-Some-left_after-clause-ran
+returns-in-Some-left_after-clause-ran g c =
     let asked = rw c.deref.ensures.value at c.in_ok-answer.ensures.ok in
-    let room : length c.in_ok-answer.answer.items ≤ c.loop-round.left = omega arith in
+    let room : length c.in_ok-answer.answer.items ≤ c.loop-round.left = (let some = rw c.deref-in-Ok-Done.ensures.value at c.in-Some-left_after.ensures.some in omega (arith, some)) in
     let taken = rw c.deref-in-loop-round.ensures.value at c.in-Ok-Done.ensures.taken in
     let few = c.in-Ok-Done.ensures.within in
     let done = rw c.in-Ok-Done.field-0-is at c.in-Ok-Done.ensures.leaves in
     let over = rw (c.deref-in-loop-round.ensures.value, c.in-Ok-Done.field-0-is) at c.in-Ok-Done.ensures.due in
     ran_done _ _ _ _ _ _ _ _ _ _ _ _ c.loop-round.invariant.going _ asked.0 asked.1 c.one_message.ensures c.take.new.self taken.0 c.loop-round-test.true room taken.1 taken.2 taken.3 few done over c.outcome.result
-    c.outcome.ensures.need c.outcome.ensures.have c.outcome.ensures.trusted
+    c.outcome.ensures.need c.outcome.ensures.have c.outcome.ensures.trusted c.outcome.ensures.once
 
 pub returns-in-Err-Bad-clause-ran : goal.returns-in-Err-Bad-clause-ran
 returns-in-Err-Bad-clause-ran g c =
@@ -71,14 +71,13 @@ returns-in-Err-Memory-clause-ran g c =
 pub loop-round-preserved : goal.loop-round-preserved
 loop-round-preserved g c =
     let asked = rw c.deref.ensures.value at c.in_ok-answer.ensures.ok in
-    let room : length c.in_ok-answer.answer.items ≤ c.loop-round.left = omega arith in
+    let rest = rw c.deref-in-Ok-Ask.ensures.value at c.in-Some.ensures.some in
     let taken = rw c.deref-in-loop-round.ensures.value at c.in-Ok-Ask.ensures.taken in
     let few = c.in-Ok-Ask.ensures.within in
     let goes = rw c.in-Ok-Ask.field-0-is at c.in-Ok-Ask.ensures.leaves in
     let due = rw (c.deref-in-loop-round.ensures.value, c.in-Ok-Ask.field-0-is) at c.in-Ok-Ask.ensures.due in
-    let size : c.len-left.result ≡ length c.in_ok-answer.answer.items = search rules in
     record {
-      going = rw size (going_more _ _ _ _ _ _ _ _ _ _ _ _ c.loop-round.invariant.going _ asked.0 asked.1 c.one_message.ensures c.take.new.self taken.0 _ room taken.1 taken.2 taken.3 few goes due);
+      going = going_more _ _ _ _ _ _ _ _ _ _ _ _ c.loop-round.invariant.going _ asked.0 asked.1 c.one_message.ensures c.take.new.self taken.0 _ _ rest taken.1 taken.2 taken.3 few goes due;
       becomes = search rules;
     }
 
@@ -96,19 +95,24 @@ returns-then-round-limits-clause-ran g c =
     let due : IsAskDue c.args.roll.now c.in_ok-answer.answer.items = subst (λ (w : List Item). IsAskDue w c.in_ok-answer.answer.items) c.loop-round.invariant.going.roll asks in
     ran_rounds _ _ _ _ _ _ _ _ _ _ _ _ c.loop-round.invariant.going _ asked.0 asked.1 c.loop-round-test.true end due taken.0 taken.2
 
-pub returns-then-len-left-clause-ran : goal.returns-then-len-left-clause-ran
-returns-then-len-left-clause-ran g c =
+pub returns-in-None-clause-ran : goal.returns-in-None-clause-ran
+returns-in-None-clause-ran g c =
     let asked = rw c.deref.ensures.value at c.in_ok-answer.ensures.ok in
     let taken = rw c.deref-in-loop-round.ensures.value at c.in-Ok-Ask.ensures.taken in
-    let more : c.loop-round.left < length c.in_ok-answer.answer.items = omega arith in
+    let goes = rw c.in-Ok-Ask.field-0-is at c.in-Ok-Ask.ensures.leaves in
+    let more = rw c.deref-in-Ok-Ask.ensures.value at c.in-None.ensures.none refl in
     let fewer : c.loop-round.round + 1 < c.args.limits.now.rounds = omega arith in
-    ran_log_full _ _ _ _ _ _ _ _ _ _ _ _ c.loop-round.invariant.going _ asked.0 asked.1 c.loop-round-test.true more (inl fewer) taken.0 taken.2
+    let few = asks_for_few _ _ _ _ _ _ _ _ _ _ _ _ c.loop-round.invariant.going _ asked.0 asked.1 c.take.new.self taken.0 taken.2 taken.3 c.in-Ok-Ask.ensures.within
+    (inr (_, goes.spelled, next_resumes _ _ _ _ _ _ _ _ _ _ _ _ c.loop-round.invariant.going _ asked.0 asked.1 c.take.new.self taken.0 _ taken.1 taken.3 goes)) in
+    ran_log_full _ _ _ _ _ _ _ _ _ _ _ _ c.loop-round.invariant.going _ asked.0 asked.1 c.loop-round-test.true more (inl fewer) few taken.0 taken.2
 
-pub returns-then-len-left-2-clause-ran : goal.returns-then-len-left-2-clause-ran
-returns-then-len-left-2-clause-ran g c =
+pub returns-in-None-left_after-clause-ran : goal.returns-in-None-left_after-clause-ran
+returns-in-None-left_after-clause-ran g c =
     let asked = rw c.deref.ensures.value at c.in_ok-answer.ensures.ok in
     let taken = rw c.deref-in-loop-round.ensures.value at c.in-Ok-Done.ensures.taken in
-    let more : c.loop-round.left < length c.in_ok-answer.answer.items = omega arith in
+    let done = rw c.in-Ok-Done.field-0-is at c.in-Ok-Done.ensures.leaves in
+    let more = rw c.deref-in-Ok-Done.ensures.value at c.in-None-left_after.ensures.none refl in
     let none = rw (c.deref-in-loop-round.ensures.value, c.in-Ok-Done.field-0-is) at c.in-Ok-Done.ensures.due in
     let over : IsAskDue c.args.roll.now c.in_ok-answer.answer.items → ⊥ = subst (λ (w : List Item). IsAskDue w c.in_ok-answer.answer.items → ⊥) c.loop-round.invariant.going.roll none in
-    ran_log_full _ _ _ _ _ _ _ _ _ _ _ _ c.loop-round.invariant.going _ asked.0 asked.1 c.loop-round-test.true more (inr over) taken.0 taken.2
+    let few = asks_for_few _ _ _ _ _ _ _ _ _ _ _ _ c.loop-round.invariant.going _ asked.0 asked.1 c.take.new.self taken.0 taken.2 taken.3 c.in-Ok-Done.ensures.within (inl done.skips_all) in
+    ran_log_full _ _ _ _ _ _ _ _ _ _ _ _ c.loop-round.invariant.going _ asked.0 asked.1 c.loop-round-test.true more (inr over) few taken.0 taken.2

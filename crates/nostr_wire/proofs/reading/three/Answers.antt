@@ -1,4 +1,4 @@
-use Rattle.std.proofs.Common.{◌≡◌, true, inl, inr, rules, arith}
+use Rattle.std.proofs.Common.{◌≡◌, true, inl, inr, rules}
 use Rattle.std.proofs.lemmas.Result.{err_from_is_err_and}
 use Rattle.serde_json.specs.View.{view}
 use Rattle.nostr_wire.specs.Elements.{has_type}

@@ -1,4 +1,4 @@
-use Rattle.std.proofs.Common.{◌∙◌, subst}
+use Rattle.std.proofs.Common.{subst}
 use Rattle.nostr_wire.specs.Elements.{Says, sub}
 use Rattle.nostr_wire.proofs.Several.{AreSaid}
 use Rattle.nostr_wire.proofs.writing.request.Goals as goal

@@ -6,5 +6,5 @@ use Rattle.plan_run.proofs.planning.run_plan.Goals as goal
 pub returns-clause-ok : goal.returns-clause-ok
 returns-clause-ok g c =
     plan_written c.write_plan.result (g.R.Read.remaining c.args.reader.now) (g.W.Write.contents c.args.writer.now) (g.W.Write.contents c.write_plan.new.writer)
-    _ _ c.in_ok-made.end c.in_ok-made.made c.in_ok-text.ensures.ok c.in_ok-text.ensures.short (ap (take c.in_ok-made.end) c.as_bytes.ensures.value)
-    (subst (λ t. IsPlannedText t c.in_ok-made.end c.in_ok-made.made) c.as_str.ensures.value c.in_ok-made.ensures.ok) c.write_plan.ensures.ok
+    _ _ c.in_ok-end.end c.in_ok-end.made c.in_ok-text.ensures.ok c.in_ok-text.ensures.short (ap (take c.in_ok-end.end) c.as_bytes.ensures.value)
+    (subst (λ t. IsPlannedText t c.in_ok-end.end c.in_ok-end.made) c.as_str.ensures.value c.in_ok-end.ensures.ok) c.write_plan.ensures.ok

@@ -1,5 +1,4 @@
-use Rattle.std.proofs.Common.{◌≡◌, ℕ, sym, ◌∙◌}
-use Rattle.fetch_plan.specs.declared.cell.Cell.{Cell}
+use Rattle.std.proofs.Common.{◌≡◌, sym, ◌∙◌}
 use Rattle.fetch_plan.specs.declared.cell.Cell.TheVariants.{Held}
 use Rattle.round_core.proofs.Holders.{held_cell}
 use Rattle.round_core.proofs.round.one_holder.Goals as goal

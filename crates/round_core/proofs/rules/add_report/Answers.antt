@@ -1,5 +1,4 @@
-use Rattle.std.proofs.Common.{◌≡◌, sym, ap, ◌∙◌, subst, refl, ℕ, List, Ok, Err}
-use Rattle.std.specs.Prelude.{Result}
+use Rattle.std.proofs.Common.{sym, subst, refl}
 use Rattle.offer_table.specs.Table.{Table}
 use Rattle.offer_table.specs.Faults.{merge_fault}
 use Rattle.round_core.specs.Left.{Adds}

@@ -1,4 +1,4 @@
-use Rattle.std.proofs.Common.{rules, arith, ◌≡◌, ◌∙◌, List, [], ◌∷◌, length, map, refl, sym, ap, Result, Err}
+use Rattle.std.proofs.Common.{rules, arith, ◌≡◌, ◌∙◌, List, [], ◌∷◌, length, map, refl, sym, Result, Err}
 use Rattle.std.proofs.lemmas.Bool.{eqb-true}
 use Rattle.neg_codec.specs.declared.CodecFault.{CodecFault}
 use Rattle.neg_codec.specs.Ranges.{Span, span_of}

@@ -1,6 +1,4 @@
-use Rattle.std.proofs.Common.{◌≡◌, List, ℕ, [], rules, sym, ap, ◌∙◌, refl, None}
-use Rattle.offer_table.specs.Table.{Table}
-use Rattle.round_core.specs.Left.{State, Leaves}
+use Rattle.std.proofs.Common.{◌≡◌, rules}
 use Rattle.round_core.proofs.Start.{leaves_none}
 use Rattle.round_core.proofs.round.Round.new.Goals as goal
 

@@ -1,11 +1,11 @@
-use Rattle.std.proofs.Common.{◌≡◌, ◌<◌, ◌≤◌, ◌+◌, ◌++◌, ◌∷◌, [], ℕ, length, take, sym, ap, ◌∙◌, subst, refl, arith}
+use Rattle.std.proofs.Common.{◌+◌, take, sym, ap, ◌∙◌, subst, arith}
 use Rattle.std.specs.List.{zip}
 use Rattle.std.proofs.lemmas.List.{length_push}
 use Rattle.round_core.specs.History.{History}
 use Rattle.round_core.specs.Legal.{Legal}
-use Rattle.round_core.specs.Left.{State, Leaves}
+use Rattle.round_core.specs.Left.{Leaves}
 use Rattle.round_core.proofs.Runs.{zip_more, left_more, take_whole}
-use Rattle.round_core.proofs.Behind.{leaves_legal}
+use Rattle.round_core.proofs.Left.{leaves_legal}
 use Rattle.round_core.proofs.round.Round.run.Goals as goal
 
 pub loop-event-preserved : goal.loop-event-preserved
