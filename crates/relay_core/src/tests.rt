@@ -90,11 +90,11 @@ fn serve<J: Naming, D: Wait + Drop, R: Wait>(
     let Step { mut out, store } = conn.serve(reader, text).ok()?;
     if let Some(event) = store {
         let id = event.id();
-        let message = match desk.insert(rt, event) {
-            Ok(placed) => conn.stored(reader, id, Ok(&placed)),
-            Err((fault, _)) => conn.stored(reader, id, Err(&fault)),
+        let placed = match desk.insert(rt, event) {
+            Ok(placed) => Ok(placed),
+            Err((fault, _event)) => Err(fault),
         };
-        out.push(message.ok()?).ok()?;
+        out.push(conn.stored(reader, id, placed.as_ref()).ok()?).ok()?;
     }
     Some(out)
 }
