@@ -94,7 +94,8 @@ fn serve<J: Naming, D: Wait + Drop, R: Wait>(
             Ok(placed) => Ok(placed),
             Err((fault, _event)) => Err(fault),
         };
-        out.push(conn.stored(reader, id, placed.as_ref()).ok()?).ok()?;
+        out.push(conn.stored(reader, id, placed.as_ref()).ok()?)
+            .ok()?;
     }
     Some(out)
 }
@@ -486,5 +487,30 @@ fn beginnings_of_a_reply(rt: HostRuntime) -> Result<(), Fail> {
     assert_eq!(rt; reply.len(), 3_992);
     let right = fronts::<Brand, _>(&rt, alloc, Blank::new(), &reply);
     assert_eq!(rt; right, Some(3_992));
+    Ok(())
+}
+
+/// What is answered once the store is gone, and after that.
+fn ends<J: Naming, D: Wait + Drop>(
+    keep: D,
+    alloc: Global,
+    blank: Blank,
+) -> Option<(ConnFault, ConnFault)>
+    requires book { blank ≡ J.book }
+    requires most { J.most ≡ 1000000 }
+{
+    let (desk, mut readers) = open_store::<J, D>(keep, alloc, blank, 1).ok()?;
+    let mut reader = readers.pop()?;
+    let mut conn = Conn::new(alloc, RelayLimits::default());
+    drop(desk);
+    let first = conn.catch_up(&mut reader).err()?;
+    let second = conn.serve(&mut reader, PLAIN).err()?;
+    Some((first, second))
+}
+
+#[test]
+fn a_store_that_is_gone(rt: HostRuntime) -> Result<(), Fail> {
+    let ended = ends::<Brand, _>(&rt, rt.alloc(), Blank::new());
+    assert_eq!(rt; ended, Some((ConnFault::Gone, ConnFault::Closed)));
     Ok(())
 }
