@@ -1,0 +1,4 @@
+pub mod Placing
+pub mod Passing
+pub mod Pinned
+pub mod Served

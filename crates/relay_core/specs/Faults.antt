@@ -1,0 +1,17 @@
+-- How a connection goes on, and when a call is refused.
+use Rattle.std.specs.Prelude.{◌≡◌, Option, Some, None}
+use Rattle.relay_core.specs.declared.fault.ConnFault.{ConnFault}
+use Rattle.relay_core.specs.declared.fault.ConnFault.TheVariants.{Gone, Memory, Closed}
+use Rattle.relay_core.specs.Kept.{Kept}
+
+-- an open connection goes on so, and stays open
+abbrev pub GoesOnBy : (Kept → Kept → Type 0) → Option Kept → Option Kept → Type 0
+GoesOnBy R (Some old) (Some new) = R old new
+GoesOnBy R (Some old) None = ⊥
+GoesOnBy R None new = ⊥
+
+-- closed just where a call before ended in a fault; each fault closes
+abbrev pub RefusesRightly : Option Kept → ConnFault → Option Kept → Type 0
+RefusesRightly old Closed new = (old ≡ None) × (new ≡ None)
+RefusesRightly old Gone new = ((t : Kept) × (old ≡ Some t)) × (new ≡ None)
+RefusesRightly old Memory new = ((t : Kept) × (old ≡ Some t)) × (new ≡ None)

@@ -1,0 +1,11 @@
+pub mod Limits
+pub mod Most
+pub mod Messages
+pub mod Kept
+pub mod Turns
+pub mod Requests
+pub mod Sessions
+pub mod Serving
+pub mod Stored
+pub mod Due
+pub mod Faults

@@ -1,0 +1,16 @@
+-- What is said of an event that was to be stored (OK of NIP-01).
+use Rattle.std.specs.Prelude.{Bool, true, false, if◌then◌else◌, codes}
+use Rattle.neg_codec.specs.declared.Id.{Id}
+use Rattle.event_store.specs.declared.desk.InsertFault.{InsertFault}
+use Rattle.event_store.specs.declared.desk.InsertFault.TheVariants.{Full, Memory}
+use Rattle.nostr_wire.specs.Forms.{Form}
+use Rattle.relay_core.specs.Messages.{okay}
+
+-- it is published, now or before
+abbrev pub placed_answer : Id → Bool → Form
+placed_answer id fresh = okay id true (if fresh then codes "" else codes "duplicate: already have this event")
+
+-- it isn't published
+abbrev pub fault_answer : {J : Type 0} → Id → InsertFault J → Form
+fault_answer id (Full filled) = okay id false (codes "error: the store is full")
+fault_answer id Memory = okay id false (codes "error: out of memory")

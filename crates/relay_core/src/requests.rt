@@ -1,0 +1,106 @@
+//! Requests for events (REQ of NIP-01).
+ghost use Rattle.std.specs.Prelude.{◌≡◌, List, [], ◌∷◌, ◌++◌, false, map, filter_map, slice_get, option_to_list, bytes_eq, IfOk, OnOk};
+ghost use Rattle.std.specs.List.{list_any};
+ghost use Rattle.std.specs.Arc.{arc_value};
+ghost use Rattle.std.specs.declared.alloc.Global.{Global as AGlobal};
+ghost use Rattle.std.specs.declared.sync.Arc.{Arc as AnArc};
+ghost use mathlib.Core.List.{IsPrefix};
+ghost use Rattle.nostr_event.specs.EventView.{EventView};
+ghost use Rattle.nostr_filter.specs.Choice.{chosen};
+ghost use Rattle.nostr_wire.specs.Forms.{relay_form};
+ghost use Rattle.relay_core.specs.Messages.{event_to};
+ghost use Rattle.relay_core.specs.Requests.{stored_events as all_stored, subscribed, Requests};
+ghost use Rattle.relay_core.specs.Turns.{turn_of};
+
+use crate::fault::Broken;
+use crate::limits::RelayLimits;
+use crate::messages::{closed, copied, event_for};
+use crate::step::Step;
+use crate::subs::Subscription;
+use crate::talk::Talk;
+use event_store::{EventList, Naming, Reader};
+use nostr_filter::Filter;
+use nostr_wire::{Filters, FromRelay, Sub};
+use std::alloc::{AllocError, Global};
+
+// The events at the places, in their order, and that these were all.
+fn stored_events(
+    alloc: Global,
+    name: &Sub,
+    events: &EventList,
+    places: &[usize],
+) -> Result<Vec<FromRelay>, AllocError>
+    ensures { IfOk result (λ v. map relay_form v.items ≡ all_stored name.now events.now places.now) }
+{
+    let mut out = Vec::with_capacity(alloc, places.len())?;
+    for place in places {
+        put_event(&mut out, alloc, name, events, *place)?;
+    }
+    out.push(FromRelay::Eose {
+        sub: copied(alloc, name)?,
+    })?;
+    Ok(out)
+}
+
+// Puts the event at the place behind the others, if there is one.
+fn put_event(
+    out: &mut Vec<FromRelay>,
+    alloc: Global,
+    name: &Sub,
+    events: &EventList,
+    place: usize,
+) -> Result<(), AllocError>
+    ensures { OnOk result (map relay_form out.new.items ≡ map relay_form out.old.items ++ map (event_to name.now) (option_to_list (slice_get events.now place))) }
+{
+    if place < events.len() {
+        out.push(event_for(alloc, name, events.get(place))?)?;
+    }
+    Ok(())
+}
+
+// Sends what the filters choose, of all that is published, and keeps the subscription.
+fn subscribe<J: Naming>(
+    talk: &mut Talk,
+    alloc: Global,
+    reader: &mut Reader<J>,
+    name: Sub,
+    filters: Filters,
+) -> Result<Step, Broken>
+    requires { list_any (λ s. bytes_eq s.name name) talk.old.subs ≡ false }
+    ensures turn { IfOk result (λ s. (shared : List (AnArc EventView AGlobal)) → map arc_value shared ≡ reader.new → turn_of s talk.new ≡ subscribed reader.new name filters (chosen filters shared) talk.old) }
+    ensures reader { IsPrefix reader.old reader.new }
+{
+    let pin = reader.pin(alloc, &Filter::all())?;
+    let places = pin.choose(alloc, filters.as_slice())?;
+    let out = stored_events(alloc, &name, pin.events(), places.as_slice())?;
+    talk.put_sub(Subscription {
+        name,
+        filters,
+        mark: pin.front(),
+    })?;
+    Ok(Step { out, store: None })
+}
+
+/// Serves a request, which ends the subscription of its name.
+pub fn request<J: Naming>(
+    talk: &mut Talk,
+    alloc: Global,
+    limits: &RelayLimits,
+    reader: &mut Reader<J>,
+    name: Sub,
+    filters: Filters,
+) -> Result<Step, Broken>
+    ensures turn { IfOk result (λ s. Requests limits.now reader.new name filters talk.old (turn_of s talk.new)) }
+    ensures reader { IsPrefix reader.old reader.new }
+{
+    talk.end_sub(&name);
+    if filters.as_slice().len() > limits.filters {
+        let message = closed(alloc, name, "blocked: too many filters")?;
+        return Ok(Step::one(alloc, message)?);
+    }
+    if talk.subs().len() >= limits.subs {
+        let message = closed(alloc, name, "blocked: too many subscriptions")?;
+        return Ok(Step::one(alloc, message)?);
+    }
+    subscribe(talk, alloc, reader, name, filters)
+}

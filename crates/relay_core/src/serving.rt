@@ -1,0 +1,95 @@
+//! A client's text, and what it brings about.
+ghost use Rattle.std.specs.Prelude.{◌≡◌, ◌≢◌, IfOk};
+ghost use mathlib.Core.List.{IsPrefix};
+ghost use Rattle.relay_core.specs.Kept.{Kept};
+ghost use Rattle.relay_core.specs.Serving.{refusal, Brings, Serves};
+ghost use Rattle.relay_core.specs.Turns.{turn_of, says_one};
+
+use crate::fault::Broken;
+use crate::limits::RelayLimits;
+use crate::messages::{notice, okay};
+use crate::requests::request;
+use crate::sessions;
+use crate::step::Step;
+use crate::talk::Talk;
+use event_store::{Naming, Reader};
+use nostr_wire::{FromClient, WireFault, read_client};
+use std::alloc::{AllocError, Global};
+
+// Tells why a text is no message.
+fn refuse(alloc: Global, fault: WireFault) -> Result<Step, AllocError>
+    ensures memory { IfOk result (λ _. fault ≢ WireFault.Memory) }
+    ensures told { IfOk result (λ s. (k : Kept) → turn_of s k ≡ says_one (refusal fault) k) }
+{
+    let message = match fault {
+        WireFault::Memory => return Err(AllocError),
+        WireFault::Event(_, Some(id)) => okay(alloc, id, false, "invalid: bad event")?,
+        _ => notice(alloc, "invalid: bad message")?,
+    };
+    Step::one(alloc, message)
+}
+
+// Does what the message asks for.
+fn bring<J: Naming>(
+    talk: &mut Talk,
+    alloc: Global,
+    limits: &RelayLimits,
+    reader: &mut Reader<J>,
+    message: FromClient,
+) -> Result<Step, Broken>
+    ensures turn { IfOk result (λ s. Brings limits.now reader.new talk.old message (turn_of s talk.new)) }
+    ensures reader { IsPrefix reader.old reader.new }
+{
+    match message {
+        FromClient::Event(event) => Ok(Step {
+            out: Vec::new(alloc),
+            store: Some(event),
+        }),
+        FromClient::Req { sub, filters } => request(talk, alloc, limits, reader, sub, filters),
+        FromClient::Close { sub } => {
+            talk.end_sub(&sub);
+            Ok(Step::quiet(alloc))
+        }
+        FromClient::NegOpen {
+            sub,
+            filter,
+            message,
+        } => sessions::open(
+            talk,
+            alloc,
+            limits,
+            reader,
+            sub,
+            &filter,
+            message.as_slice(),
+        ),
+        FromClient::NegMsg { sub, message } => {
+            Ok(sessions::go_on(talk, alloc, limits, sub, message.as_slice())?)
+        }
+        FromClient::NegClose { sub } => {
+            talk.end_session(&sub);
+            Ok(Step::quiet(alloc))
+        }
+    }
+}
+
+/// Serves a text.
+pub fn serve_text<J: Naming>(
+    talk: &mut Talk,
+    alloc: Global,
+    limits: &RelayLimits,
+    reader: &mut Reader<J>,
+    text: &str,
+) -> Result<Step, Broken>
+    ensures turn { IfOk result (λ s. Serves limits.now reader.new text.now talk.old (turn_of s talk.new)) }
+    ensures reader { IsPrefix reader.old reader.new }
+{
+    if text.len() > limits.text {
+        let message = notice(alloc, "invalid: message too long")?;
+        return Ok(Step::one(alloc, message)?);
+    }
+    match read_client(alloc, text) {
+        Ok(message) => bring(talk, alloc, limits, reader, message),
+        Err(fault) => Ok(refuse(alloc, fault)?),
+    }
+}
