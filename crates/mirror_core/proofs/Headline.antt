@@ -76,7 +76,7 @@ Unbased =
 
 unloaded : (base : ℕ → ℕ) (offers : List (Id × List ℕ)) (f : Id → ℕ) (most : ℕ) → ((base : ℕ → ℕ) (offers : List (Id × List ℕ)) (f : Id → ℕ) (r : ℕ) → base r ≡ 0 → load base f offers r ≡ taken f offers r) → ((r : ℕ) → base r ≡ 0)
     → IsGreatest (load base f offers) most → IsGreatest (taken f offers) most
-unloaded base offers f most same zero h = (λ r. subst (λ n. n ≤ most) (same base offers f r (zero r)) (h.0 r), (h.1.0, sym (same base offers f h.1.0 (zero h.1.0)) ∙ h.1.1))
+unloaded base offers f most same begins h = (λ r. subst (λ n. n ≤ most) (same base offers f r (begins r)) (h.0 r), (h.1.0, sym (same base offers f h.1.0 (begins h.1.0)) ∙ h.1.1))
 
 module _ {P : Type 0} (log : P → List Exchange) (faults : P → ℕ) (becomes : P → P → Type 0) (own : List Item) (limits : SessionLimits) (olds news : List P) (ends : List End) (ran : EachRan log faults becomes own limits olds news ends)
     (holds : ℕ → List Item) (may : MayHoldAll log own olds news ends holds) where
@@ -126,11 +126,11 @@ module _ {P : Type 0} (log : P → List Exchange) (faults : P → ℕ) (becomes 
 
   -- where all loads begin at 0
   pub to_plain : Unbased → ((r : ℕ) → base_of bases r ≡ 0) → PlainHeadline log own olds news ends table plan
-  to_plain unbased zero holds may =
+  to_plain unbased begins holds may =
       let h : IsLeastPlan (base_of bases) (Offers own ends holds) table plan = to_headline holds may in
       record {
         gives = h.gives;
-        greatest = unloaded (base_of bases) table.offers (relay_in plan.gives) plan.least_max unbased.0 zero h.greatest;
-        none_fewer = (unbased.2 (base_of bases) table.offers plan.least_max zero).0 h.none_smaller;
-        shown = (unbased.1 (base_of bases) table.offers plan.group plan.least_max zero).0 h.shown;
+        greatest = unloaded (base_of bases) table.offers (relay_in plan.gives) plan.least_max unbased.0 begins h.greatest;
+        none_fewer = (unbased.2 (base_of bases) table.offers plan.least_max begins).0 h.none_smaller;
+        shown = (unbased.1 (base_of bases) table.offers plan.group plan.least_max begins).0 h.shown;
       }
