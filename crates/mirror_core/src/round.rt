@@ -1,13 +1,15 @@
 //! A round: sessions with all peers, and a plan made of what they found.
 
-ghost use Rattle.std.specs.Prelude.{◌≡◌, ◌<◌, ◌^◌, ◌-◌, ℕ, All, IfOk, Err, length};
+ghost use Rattle.std.specs.Prelude.{◌≡◌, ◌<◌, ◌^◌, ◌-◌, ℕ, List, All, IfOk, Err, length};
 ghost use Rattle.sharing.specs.declared.TheConstants.{RELAYS};
 ghost use Rattle.sharing.specs.Bases.{base_of};
 ghost use Rattle.fetch_plan.specs.Plan.{IsPlanOf};
 ghost use Rattle.mirror_core.specs.Ends.{EachRan};
 ghost use Rattle.mirror_core.specs.Tables.{IsTableOf};
 ghost use Rattle.mirror_core.specs.Headline.{Headline, PlainHeadline};
-ghost use Rattle.mirror_core.specs.declared.fault.SyncFault.TheVariants.{NoRelay, TooMany};
+ghost use Rattle.mirror_core.specs.declared.fault.SyncFault.TheVariants.{NoRelay, TooMany, TableFull, Memory};
+ghost use Rattle.mirror_core.specs.declared.end.End.{End as EndOf};
+ghost use Rattle.mirror_core.specs.Full.{NeedTooMany};
 
 use crate::end::End;
 use crate::fault::SyncFault;
@@ -44,6 +46,9 @@ pub fn sync_plan<P: Peer + Send, R: Threads + Sync>(
     ensures plain { IfOk result (λ done. ((r : ℕ) → base_of bases.now r ≡ 0) → PlainHeadline P.log roll.now peers.old peers.new done.ends.items done.table done.plan) }
     // The plan is over the bases, and its group is what chains of moves reach.
     ensures planned { IfOk result (λ done. IsPlanOf bases.now done.table.offers done.plan) }
+    // Each session ran all the same: where the table would be too large, more ids are needed than it takes.
+    ensures full { result ≡ Err TableFull → (ends : List EndOf) × EachRan P.log P.faults P.becomes roll.now limits.now peers.old peers.new ends × NeedTooMany ends }
+    ensures memory { result ≡ Err Memory → (ends : List EndOf) × EachRan P.log P.faults P.becomes roll.now limits.now peers.old peers.new ends }
     // These two are answered just where their cause is there, and nobody is asked.
     ensures none { result ≡ Err NoRelay → (length peers.old ≡ 0) × (peers.new ≡ peers.old) }
     ensures is_none { length peers.old ≡ 0 → result ≡ Err NoRelay }

@@ -3,10 +3,10 @@
 ghost use Rattle.std.specs.Prelude.{◌≡◌, ℕ, ◌+◌, ◌<◌, ◌^◌, ◌-◌, List, [], ◌∷◌, IfOk, IfErr};
 
 use super::*;
-use item_roll::Roll;
+use item_roll::{Roll, RollFault};
 use neg_codec::{Id, Item};
-use offer_table::Bases;
-use neg_session::{LocalPeer, Pair, Peer, PeerFault, SessionLimits};
+use neg_session::{LocalPeer, Pair, Peer, PeerFault, SessionFault, SessionLimits};
+use offer_table::{BaseFault, Bases};
 use std::alloc::Global;
 use std::rt::Clock;
 use std::sync::atomic::{AtomicU64, Ordering};
@@ -14,52 +14,152 @@ use std::test::Fail;
 use std::thread;
 use std::time::Duration;
 
-fn item(time: u64, byte: u8) -> Item {
-    Item {
-        time,
-        id: Id([byte; 32]),
+/// Lists the id 01..01: 37 bytes.
+const LISTS_ONE: &[u8] =
+    b"\x61\x00\x00\x02\x01\x01\x01\x01\x01\x01\x01\x01\x01\x01\x01\x01\x01\x01\x01\x01\x01\x01\x01\x01\x01\x01\x01\x01\x01\x01\x01\x01\x01\x01\x01\x01\x01";
+
+/// The roll of an item for each of these bytes, in order.
+fn roll_of(alloc: Global, bytes: &[u8]) -> Result<Roll, RollFault> {
+    let mut items = Vec::new(alloc);
+    for byte in bytes {
+        items.push(Item {
+            time: u64::from(*byte),
+            id: Id([*byte; 32]),
+        })?;
     }
+    Roll::from_items(alloc, &items)
+}
+
+/// Peers of rolls of these bytes.
+fn peers_of(alloc: Global, relays: &[&[u8]]) -> Result<Vec<LocalPeer>, RollFault> {
+    let mut peers = Vec::new(alloc);
+    for bytes in relays {
+        peers.push(LocalPeer::new(alloc, roll_of(alloc, bytes)?, 4096))?;
+    }
+    Ok(peers)
+}
+
+/// The bases of the relays, the first first.
+fn bases_of(loads: &[u64]) -> Result<Bases, BaseFault> {
+    let mut bases = Bases::none();
+    let mut relay = 0;
+    for load in loads {
+        bases.set(relay, *load)?;
+        relay += 1;
+    }
+    Ok(bases)
+}
+
+fn all_finished(ends: &[End]) -> bool {
+    for end in ends {
+        if !matches!(end, End::Finished(_)) {
+            return false;
+        }
+    }
+    true
+}
+
+/// Relays with items of these bytes, what their loads begin with, and the plan for a mirror that holds the item 1.
+struct Case {
+    relays: &'static [&'static [u8]],
+    bases: &'static [u64],
+    gives: &'static [(u8, u16)],
+    least_max: u64,
+    group: &'static [u16],
+}
+
+const CASES: &[Case] = &[
+    Case {
+        relays: &[b"\x01\x02", b"\x02\x03"],
+        bases: &[],
+        gives: &[(2, 0), (3, 1)],
+        least_max: 1,
+        group: &[0, 1],
+    },
+    Case {
+        relays: &[b"\x02\x03", b"\x02\x03", b""],
+        bases: &[5],
+        gives: &[(2, 1), (3, 1)],
+        least_max: 5,
+        group: &[0],
+    },
+    Case {
+        relays: &[b"\x01"],
+        bases: &[],
+        gives: &[],
+        least_max: 0,
+        group: &[],
+    },
+];
+
+/// Whether the round ended as the case says.
+fn is_as_told(done: &Synced, case: &Case) -> bool {
+    for give in case.gives {
+        if done.plan.relay_of(&Id([give.0; 32])) != Some(give.1) {
+            return false;
+        }
+    }
+    for relay in case.group {
+        if !done.plan.group().has(*relay) {
+            return false;
+        }
+    }
+    all_finished(&done.ends)
+        && done.ends.len() == case.relays.len()
+        && done.plan.len() == case.gives.len()
+        && done.plan.least_max() == case.least_max
+        && done.plan.group().iter().count() == case.group.len()
 }
 
 #[test]
 fn needed_ids_are_shared_out(rt: HostRuntime) -> Result<(), Fail> {
     let alloc = rt.alloc();
-    let mine = Roll::from_items(alloc, &[item(10, 0xaa)])?;
-    let mut peers = [
-        LocalPeer::new(
-            alloc,
-            Roll::from_items(alloc, &[item(10, 0xaa), item(11, 0xbb)])?,
-            4096,
-        ),
-        LocalPeer::new(
-            alloc,
-            Roll::from_items(alloc, &[item(11, 0xbb), item(12, 0xcc)])?,
-            4096,
-        ),
-        LocalPeer::new(alloc, Roll::from_items(alloc, &[])?, 4096),
-    ];
-    let done = sync_plan(&rt, alloc, &mut peers, &mine, &Bases::none(), &SessionLimits::default())?;
-    assert_eq!(rt; done.ends.len(), 3);
-    for end in &done.ends {
-        assert!(rt; matches!(end, End::Finished(_)));
+    let mine = roll_of(alloc, b"\x01")?;
+    for case in CASES {
+        let mut peers = peers_of(alloc, case.relays)?;
+        let bases = bases_of(case.bases)?;
+        let limits = SessionLimits::default();
+        let done = sync_plan(&rt, alloc, &mut peers, &mine, &bases, &limits)?;
+        assert!(rt; is_as_told(&done, case));
     }
-    assert!(rt; done.table.reported().has(0));
-    assert!(rt; done.table.reported().has(2));
-    assert_eq!(rt; done.plan.len(), 2);
+    Ok(())
+}
+
+/// That many peers with the item 1.
+fn alike(alloc: Global, count: usize) -> Result<Vec<LocalPeer>, RollFault> {
+    let mut peers = Vec::new(alloc);
+    for _peer in 0..count {
+        peers.push(LocalPeer::new(alloc, roll_of(alloc, b"\x01")?, 4096))?;
+    }
+    Ok(peers)
+}
+
+#[test]
+fn more_than_64_relays_share_out(rt: HostRuntime) -> Result<(), Fail> {
+    let alloc = rt.alloc();
+    let mine = roll_of(alloc, b"")?;
+    let mut peers = alike(alloc, 65)?;
+    let limits = SessionLimits::default();
+    let done = sync_plan(&rt, alloc, &mut peers, &mine, &Bases::none(), &limits)?;
+    assert_eq!(rt; done.ends.len(), 65);
+    assert!(rt; all_finished(&done.ends));
     assert_eq!(rt; done.plan.least_max(), 1);
-    assert_eq!(rt; done.plan.relay_of(&Id([0xbb; 32])), Some(0));
-    assert_eq!(rt; done.plan.relay_of(&Id([0xcc; 32])), Some(1));
-    assert_eq!(rt; done.plan.relay_of(&Id([0xaa; 32])), None);
     Ok(())
 }
 
 #[test]
-fn some_relays_are_asked(rt: HostRuntime) -> Result<(), Fail> {
+fn one_to_256_relays_are_asked(rt: HostRuntime) -> Result<(), Fail> {
     let alloc = rt.alloc();
-    let mine = Roll::from_items(alloc, &[])?;
-    let mut none: [LocalPeer; 0] = [];
-    let ended = sync_plan(&rt, alloc, &mut none, &mine, &Bases::none(), &SessionLimits::default());
-    assert!(rt; ended.err() == Some(SyncFault::NoRelay));
+    let mine = roll_of(alloc, b"")?;
+    let limits = SessionLimits::default();
+    for (count, fault) in [(0, SyncFault::NoRelay), (257, SyncFault::TooMany)] {
+        let mut peers = alike(alloc, count)?;
+        let ended = sync_plan(&rt, alloc, &mut peers, &mine, &Bases::none(), &limits);
+        assert!(rt; ended.err() == Some(fault));
+        for peer in &peers {
+            assert!(rt; peer.pairs().is_empty());
+        }
+    }
     Ok(())
 }
 
@@ -84,18 +184,52 @@ fn pair_of(alloc: Global, question: &[u8], reply: &[u8]) -> Result<Pair, PeerFau
     })
 }
 
-/// A peer that skips all, and answers only once the other one was asked.
+/// A peer that gives one answer, once another one was asked. Without an answer it fails.
 #[derive(Drop)]
-struct Meeting<'a, C> {
+struct Waiting<'a, C> {
     alloc: Global,
     clock: &'a C,
     mine: &'a AtomicU64,
     theirs: &'a AtomicU64,
+    answer: Option<&'static [u8]>,
     pairs: Vec<Pair>,
     failures: u64,
 }
 
-impl<C: Clock> Peer for Meeting<'_, C> {
+impl<'a, C> Waiting<'a, C> {
+    fn new(
+        alloc: Global,
+        clock: &'a C,
+        mine: &'a AtomicU64,
+        theirs: &'a AtomicU64,
+        answer: Option<&'static [u8]>,
+    ) -> Waiting<'a, C>
+        ensures { result.failures ≡ 0 }
+    {
+        Waiting {
+            alloc,
+            clock,
+            mine,
+            theirs,
+            answer,
+            pairs: Vec::new(alloc),
+            failures: 0,
+        }
+    }
+}
+
+impl<C: Clock> Waiting<'_, C> {
+    fn answered(&self) -> Option<&'static [u8]> {
+        self.mine.store(1, Ordering::SeqCst);
+        if is_set_in_time(self.clock, self.theirs) {
+            self.answer
+        } else {
+            None
+        }
+    }
+}
+
+impl<C: Clock> Peer for Waiting<'_, C> {
     ghost log = { λ p. p.pairs.items };
 
     ghost faults = { λ p. p.failures };
@@ -109,12 +243,11 @@ impl<C: Clock> Peer for Meeting<'_, C> {
     ghost goes_on = { λ p q r h k. tt };
 
     fn ask(&mut self, question: &[u8]) -> Result<Vec<u8>, PeerFault> {
-        self.mine.store(1, Ordering::SeqCst);
-        if !is_set_in_time(self.clock, self.theirs) {
+        let Some(answer) = self.answered() else {
             self.failures += 1;
             return Err(PeerFault::Failed);
-        }
-        let reply = vec![in self.alloc; 0x61u8]?;
+        };
+        let reply = answer.to_vec(self.alloc)?;
         let pair = pair_of(self.alloc, question, reply.as_slice())?;
         self.pairs.push(pair)?;
         Ok(reply)
@@ -134,29 +267,34 @@ fn two_sessions_meet(rt: HostRuntime) -> Result<(), Fail> {
     let alloc = rt.alloc();
     let (one, two) = (AtomicU64::new(0), AtomicU64::new(0));
     let mut peers = [
-        Meeting {
-            alloc,
-            clock: &rt,
-            mine: &one,
-            theirs: &two,
-            pairs: Vec::new(alloc),
-            failures: 0,
-        },
-        Meeting {
-            alloc,
-            clock: &rt,
-            mine: &two,
-            theirs: &one,
-            pairs: Vec::new(alloc),
-            failures: 0,
-        },
+        Waiting::new(alloc, &rt, &one, &two, Some(b"\x61")),
+        Waiting::new(alloc, &rt, &two, &one, Some(b"\x61")),
     ];
-    let mine = Roll::from_items(alloc, &[])?;
-    let done = sync_plan(&rt, alloc, &mut peers, &mine, &Bases::none(), &SessionLimits::default())?;
+    let mine = roll_of(alloc, b"")?;
+    let limits = SessionLimits::default();
+    let done = sync_plan(&rt, alloc, &mut peers, &mine, &Bases::none(), &limits)?;
     assert_eq!(rt; done.ends.len(), 2);
-    for end in &done.ends {
-        assert!(rt; matches!(end, End::Finished(_)));
-    }
+    assert!(rt; all_finished(&done.ends));
     assert_eq!(rt; done.plan.len(), 0);
+    Ok(())
+}
+
+#[test]
+fn one_fails(rt: HostRuntime) -> Result<(), Fail> {
+    let alloc = rt.alloc();
+    let set = AtomicU64::new(1);
+    let mut peers = [
+        Waiting::new(alloc, &rt, &set, &set, None),
+        Waiting::new(alloc, &rt, &set, &set, Some(LISTS_ONE)),
+    ];
+    let mine = roll_of(alloc, b"")?;
+    let limits = SessionLimits::default();
+    let done = sync_plan(&rt, alloc, &mut peers, &mine, &Bases::none(), &limits)?;
+    assert_eq!(rt; done.ends.len(), 2);
+    assert!(rt; matches!(&done.ends[0], End::Failed(SessionFault::PeerFailed)));
+    assert!(rt; matches!(&done.ends[1], End::Finished(_)));
+    assert!(rt; !done.table.reported().has(0));
+    assert!(rt; done.table.reported().has(1));
+    assert_eq!(rt; done.plan.relay_of(&Id([1; 32])), Some(1));
     Ok(())
 }
