@@ -1,12 +1,12 @@
 //! Rounds with peers in this process.
 
-ghost use Rattle.std.specs.Prelude.{◌≡◌, ℕ, ◌+◌, ◌<◌, ◌^◌, ◌-◌, List, [], ◌∷◌, IfOk, IfErr};
+ghost use Rattle.std.specs.Prelude.{◌≡◌, ℕ, ◌+◌, ◌<◌, ◌^◌, ◌-◌, List, [], ◌∷◌, All, IfOk, IfErr};
 
 use super::*;
-use item_roll::{Roll, RollFault};
+use item_roll::Roll;
 use neg_codec::{Id, Item};
 use neg_session::{LocalPeer, Pair, Peer, PeerFault, SessionFault, SessionLimits};
-use offer_table::{BaseFault, Bases};
+use offer_table::Bases;
 use std::alloc::Global;
 use std::rt::Clock;
 use std::sync::atomic::{AtomicU64, Ordering};
@@ -19,7 +19,7 @@ const LISTS_ONE: &[u8] =
     b"\x61\x00\x00\x02\x01\x01\x01\x01\x01\x01\x01\x01\x01\x01\x01\x01\x01\x01\x01\x01\x01\x01\x01\x01\x01\x01\x01\x01\x01\x01\x01\x01\x01\x01\x01\x01\x01";
 
 /// The roll of an item for each of these bytes, in order.
-fn roll_of(alloc: Global, bytes: &[u8]) -> Result<Roll, RollFault> {
+fn roll_of(alloc: Global, bytes: &[u8]) -> Result<Roll, Fail> {
     let mut items = Vec::new(alloc);
     for byte in bytes {
         items.push(Item {
@@ -27,11 +27,13 @@ fn roll_of(alloc: Global, bytes: &[u8]) -> Result<Roll, RollFault> {
             id: Id([*byte; 32]),
         })?;
     }
-    Roll::from_items(alloc, &items)
+    Ok(Roll::from_items(alloc, &items)?)
 }
 
 /// Peers of rolls of these bytes.
-fn peers_of(alloc: Global, relays: &[&[u8]]) -> Result<Vec<LocalPeer>, RollFault> {
+fn peers_of(alloc: Global, relays: &[&[u8]]) -> Result<Vec<LocalPeer>, Fail>
+    ensures { IfOk result (λ v. All (λ p. p.faults < 2 ^ 64 - 1) v.items) }
+{
     let mut peers = Vec::new(alloc);
     for bytes in relays {
         peers.push(LocalPeer::new(alloc, roll_of(alloc, bytes)?, 4096))?;
@@ -40,7 +42,7 @@ fn peers_of(alloc: Global, relays: &[&[u8]]) -> Result<Vec<LocalPeer>, RollFault
 }
 
 /// The bases of the relays, the first first.
-fn bases_of(loads: &[u64]) -> Result<Bases, BaseFault> {
+fn bases_of(loads: &[u64]) -> Result<Bases, Fail> {
     let mut bases = Bases::none();
     let mut relay = 0;
     for load in loads {
@@ -126,7 +128,9 @@ fn needed_ids_are_shared_out(rt: HostRuntime) -> Result<(), Fail> {
 }
 
 /// That many peers with the item 1.
-fn alike(alloc: Global, count: usize) -> Result<Vec<LocalPeer>, RollFault> {
+fn alike(alloc: Global, count: usize) -> Result<Vec<LocalPeer>, Fail>
+    ensures { IfOk result (λ v. All (λ p. p.faults < 2 ^ 64 - 1) v.items) }
+{
     let mut peers = Vec::new(alloc);
     for _peer in 0..count {
         peers.push(LocalPeer::new(alloc, roll_of(alloc, b"\x01")?, 4096))?;
