@@ -32,11 +32,13 @@ ids_of offers = map (λ p. p.0) offers
 -- two lists that have nothing in common
 distinct_both : {X : Type 0} (xs ys : List X) → Distinct xs → Distinct ys → ((x : X) → Contains xs x → Contains ys x → ⊥) → Distinct (xs ++ ys)
 distinct_both [] ys h k apart = k
-distinct_both (x ∷ xs) ys h k apart =
-    (λ m. elim (Contains-append_cases xs ys x m) [
-      | inl a ↦ h.0 a
-      | inr b ↦ apart x (contains_head x xs) b
-    ], distinct_both xs ys h.1 k (λ y a b. apart y (contains_tail x xs y a) b))
+distinct_both (x ∷ xs) ys h k apart = (
+  λ m. elim (Contains-append_cases xs ys x m) [
+    | inl a ↦ h.0 a
+    | inr b ↦ apart x (contains_head x xs) b
+  ],
+  distinct_both xs ys h.1 k (λ y a b. apart y (contains_tail x xs y a) b),
+)
 
 -- the ids that the first offers lack
 added : List (Id × List ℕ) → List (Id × List ℕ) → List Id
@@ -132,8 +134,8 @@ pub too_many_both : (base : ℕ) (es fs : List End) (front back : Table) → IsT
 too_many_both base es fs front back f b more = record {
   ids = ids_of front.offers ++ added front.offers back.offers;
   distinct = distinct_both (ids_of front.offers) (added front.offers back.offers) (sorted_distinct id_total (ids_of front.offers) f.table_ok.offers_ok.ascend)
-  (added_distinct front.offers back.offers (sorted_distinct id_total (ids_of back.offers) b.table_ok.offers_ok.ascend))
-  (λ i m n. false≢true (sym (added_is front.offers back.offers i n).1 ∙ is_beside front.offers i ∙ found i (ids_of front.offers) m));
+      (added_distinct front.offers back.offers (sorted_distinct id_total (ids_of back.offers) b.table_ok.offers_ok.ascend))
+      (λ i m n. false≢true (sym (added_is front.offers back.offers i n).1 ∙ is_beside front.offers i ∙ found i (ids_of front.offers) m));
   more = omega (arith, more, length-append (ids_of front.offers) (added front.offers back.offers), length-map front.offers (λ (p : Id × List ℕ). p.0), added_count front.offers back.offers);
   each = λ i m. elim (Contains-append_cases (ids_of front.offers) (added front.offers back.offers) i m) [
     | inl a ↦
