@@ -11,8 +11,10 @@ use nostr_filter::{Bytes32List, Filter};
 use serde_json::Value;
 use std::alloc::{AllocError, Global};
 use std::marker::Brand;
+use std::sync::atomic::{AtomicU64, Ordering};
 use std::sync::{Arc, Mutex, Wait};
 use std::test::*;
+use std::thread::{Threads, join};
 
 const KEY: &str = "0101010101010101010101010101010101010101010101010101010101010101";
 
@@ -311,13 +313,24 @@ fn insert_and_pin<J: Naming, D: Wait + Drop, R: Wait>(
 
 #[test]
 fn told_reader(rt: HostRuntime) -> Result<(), Fail> {
-    let told = tells::<Brand, _, _>(&rt, &rt, rt.alloc(), Blank::new());
-    assert_eq!(rt; told, Some((0, 100)));
+    let seen = tells::<Brand, _, _>(&rt, &rt, rt.alloc(), Blank::new());
+    let (_, told) = seen.unwrap_or((1, 0));
+    assert_eq!(rt; told, 100);
     Ok(())
 }
 
-// How many pins went back while events were inserted, and how many events another reader has that learnt the last.
-fn tells<J: Naming, D: Wait + Drop, R: Wait>(
+#[test]
+fn snapshots_while_events_come(rt: HostRuntime) -> Result<(), Fail> {
+    let seen = tells::<Brand, _, _>(&rt, &rt, rt.alloc(), Blank::new());
+    let (back, _) = seen.unwrap_or((1, 0));
+    assert_eq!(rt; back, 0);
+    Ok(())
+}
+
+// While one thread inserts a hundred events, another pins: how many of its snapshots aren't a beginning of the next, and how many
+// events a reader then has that learnt the last.
+#[tactic(auto, using(crate::proofs::Crossing::desk_send, crate::proofs::Crossing::reader_send))]
+fn tells<J: Naming + Send + Sync, D: Wait + Drop + Send, R: Threads + Wait + Sync>(
     rt: &R,
     keep: D,
     alloc: Global,
@@ -328,31 +341,46 @@ fn tells<J: Naming, D: Wait + Drop, R: Wait>(
 {
     let (mut desk, mut readers) = open_store::<J, D>(keep, alloc, blank, 2).ok()?;
     let mut told = readers.pop()?;
-    let (last, back) = watched(rt, alloc, &mut desk, &mut readers.pop()?)?;
-    told.learn(&last);
+    let mut watcher = readers.pop()?;
+    let stop = AtomicU64::new(0);
+    let (last, back) = join(
+        rt,
+        || fill(rt, alloc, &mut desk, &stop),
+        || watch(alloc, &mut watcher, &stop),
+    );
+    told.learn(&last?);
     let all = told.pin(alloc, &Filter::all()).ok()?;
-    Some((back, all.events().len()))
+    Some((back?, all.events().len()))
 }
 
-// Inserts a hundred events, and pins after each: the last one, and how many pins aren't a beginning of the next.
-fn watched<J: Naming, D: Wait + Drop, R: Wait>(
+// Inserts a hundred events, and answers the last.
+fn fill<J: Naming, D: Wait + Drop, R: Wait>(
     rt: &R,
     alloc: Global,
     desk: &mut Desk<J, D>,
-    reader: &mut Reader<J>,
-) -> Option<(Placed<J>, u64)> {
+    stop: &AtomicU64,
+) -> Option<Placed<J>> {
+    let last = insert_all(rt, alloc, desk, 0, 100);
+    stop.store(1, Ordering::SeqCst);
+    last
+}
+
+// Pins until it is told to stop, and counts the snapshots that aren't a beginning of the next, or none where a pin failed.
+fn watch<J: Naming>(alloc: Global, reader: &mut Reader<J>, stop: &AtomicU64) -> Option<u64> {
     let mut back = 0u64;
-    let mut placed = insert_all(rt, alloc, desk, 0, 1)?;
     let mut last = reader.pin(alloc, &Filter::all()).ok()?;
-    for number in 1..100 {
-        placed = insert_all(rt, alloc, desk, number, 1)?;
+    for _ in 0..u64::MAX {
+        let done = stop.load(Ordering::SeqCst) == 1;
         let next = reader.pin(alloc, &Filter::all()).ok()?;
         if !begins(last.events(), next.events()) {
             back = back.wrapping_add(1);
         }
         last = next;
+        if done {
+            break;
+        }
     }
-    Some((placed, back))
+    Some(back)
 }
 
 fn begins(first: &EventList, next: &EventList) -> bool {
