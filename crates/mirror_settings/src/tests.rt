@@ -1,0 +1,4 @@
+//! Settings from tables of texts.
+
+use crate::{SettingsFault, SettingsKey, read_settings};
+use std::test::*;
