@@ -1,1 +1,3 @@
 mod Forms
+mod Colons
+mod Refusals

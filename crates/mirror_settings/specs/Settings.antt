@@ -133,13 +133,21 @@ IsGood sync t Bases = (relays : List Address) × (v : List ℕ) × HasRelays syn
 IsGood sync t Rounds = (v : ℕ) × HasRounds sync t v
 IsGood sync t PushMs = (v : Option ℕ) × HasPushMs t v
 
+-- the keys before a place are good
+abbrev pub AreGoodBelow : Bool → Members → ℕ → Type 0
+AreGoodBelow sync t n = (key : SettingsKey) → place_of key < n → IsGood sync t key
+
 -- the first key that isn't good
 abbrev pub IsFirstWrong : Bool → Members → SettingsKey → Type 0
-IsFirstWrong sync t key = ((other : SettingsKey) → place_of other < place_of key → IsGood sync t other) × ¬ IsGood sync t key
+IsFirstWrong sync t key = AreGoodBelow sync t (place_of key) × ¬ IsGood sync t key
+
+-- want of memory, or the fault of a key, where its cause stands
+abbrev pub Fails : SettingsKey → Type 0 → SettingsFault → Type 0
+Fails key cause e = (e ≡ Memory) ⊎ ((e ≡ Key key) × cause)
 
 -- the fault of one key
 abbrev pub Stops : Bool → Members → SettingsKey → SettingsFault → Type 0
-Stops sync t key e = (e ≡ Memory) ⊎ ((e ≡ Key key) × ¬ IsGood sync t key)
+Stops sync t key = Fails key (¬ IsGood sync t key)
 
 -- the fault of a table
 abbrev pub RefusesTable : Bool → Members → SettingsFault → Type 0

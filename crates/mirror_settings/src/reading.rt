@@ -1,10 +1,10 @@
 //! The settings that a TOML text tells.
 
-ghost use Rattle.std.specs.Prelude.{◌≡◌, ◌⊎◌, ℕ, Bool, List, IfOk, IfErr};
+ghost use Rattle.std.specs.Prelude.{◌≡◌, ℕ, Bool, List, IfOk, IfErr};
 ghost use Rattle.toml.specs.Data.{Members};
 ghost use Rattle.toml.specs.Parse.{parse_document};
 ghost use Rattle.toml.specs.View.{table_view};
-ghost use Rattle.mirror_settings.specs.Settings.{HasEvents, HasListen, HasConns, HasRelays, HasFilter, HasWorkers, HasBases, HasRounds, HasPushMs, Tells, Refuses, RefusesTable, Stops};
+ghost use Rattle.mirror_settings.specs.Settings.{Fails, HasEvents, HasListen, HasConns, HasRelays, HasFilter, HasWorkers, HasBases, HasRounds, HasPushMs, Tells, Refuses, RefusesTable, Stops};
 
 use crate::address::Address;
 use crate::fault::{SettingsFault, SettingsKey};
@@ -105,8 +105,7 @@ fn bases_at(
     count: usize,
 ) -> Result<Loads, SettingsFault>
     ensures ok { IfOk result (HasBases sync (table_view table.now) count) }
-    ensures err { IfErr result (λ e. (e ≡ SettingsFault.Memory)
-        ⊎ ((e ≡ SettingsFault.Key SettingsKey.Bases) × ((v : List ℕ) → ¬ HasBases sync (table_view table.now) count v))) }
+    ensures err { IfErr result (Fails SettingsKey.Bases ((v : List ℕ) → ¬ HasBases sync (table_view table.now) count v)) }
 {
     if !sync {
         return Ok(Loads::new(Vec::new(alloc)));
@@ -147,7 +146,8 @@ fn settings_of(alloc: Global, table: &Table, sync: bool) -> Result<Settings, Set
     let relays = relays_at(alloc, table, sync)?;
     let filter = filter_at(alloc, table, sync)?;
     let workers = workers_at(table, sync)?;
-    let bases = bases_at(alloc, table, sync, relays.as_slice().len())?;
+    let count = relays.as_slice().len();
+    let bases = bases_at(alloc, table, sync, count)?;
     let rounds = rounds_at(table, sync)?;
     let push_ms = whole_at(table, SettingsKey::PushMs, 1, 60_000)?;
     Ok(Settings {

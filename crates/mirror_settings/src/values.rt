@@ -1,13 +1,13 @@
 //! Values of a TOML table, in the forms that the settings want.
 
-ghost use Rattle.std.specs.Prelude.{◌≡◌, ◌⊎◌, ℕ, List, Option, IfSome, IfNone, IfOk, IfErr, option_map, map, All, replicate};
+ghost use Rattle.std.specs.Prelude.{◌≡◌, ℕ, List, Option, IfSome, IfNone, IfOk, IfErr, option_map, map, All, replicate};
 ghost use Rattle.toml.specs.View.{view, table_view};
 ghost use Rattle.serde_json.specs.Read.{read as read_text};
 ghost use Rattle.serde_json.specs.View.{view as json_view};
 ghost use Rattle.nostr_filter.specs.declared.filter.Filter.{Filter as AFilter};
 ghost use Rattle.mirror_settings.specs.declared.address.Address.{Address as AnAddress};
 ghost use Rattle.mirror_settings.specs.Addresses.{IsAddress};
-ghost use Rattle.mirror_settings.specs.Settings.{at, Holds, IsWhole, IsLoad, whole_data, address_data, IsAddressData, IsFilterData};
+ghost use Rattle.mirror_settings.specs.Settings.{at, Fails, Holds, IsWhole, IsLoad, whole_data, address_data, IsAddressData, IsFilterData};
 
 use crate::address::{Address, read_address};
 use crate::fault::{SettingsFault, SettingsKey};
@@ -68,8 +68,7 @@ pub fn address_in(
     key: SettingsKey,
 ) -> Result<Address, SettingsFault>
     ensures ok { IfOk result (IsAddressData (view value.now)) }
-    ensures err { IfErr result (λ e. (e ≡ SettingsFault.Memory)
-        ⊎ ((e ≡ SettingsFault.Key key) × ((a : AnAddress) → ¬ IsAddressData (view value.now) a))) }
+    ensures err { IfErr result (Fails key ((a : AnAddress) → ¬ IsAddressData (view value.now) a)) }
 {
     let Some(text) = value.as_str() else {
         return Err(SettingsFault::Key(key));
@@ -83,8 +82,7 @@ pub fn address_in(
 /// The addresses that values spell.
 pub fn addresses_in(alloc: Global, values: &[Value]) -> Result<Addresses, SettingsFault>
     ensures ok { IfOk result (λ l. (map view values.now ≡ map address_data l) × All IsAddress l) }
-    ensures err { IfErr result (λ e. (e ≡ SettingsFault.Memory)
-        ⊎ ((e ≡ SettingsFault.Key SettingsKey.Relays) × ((l : List AnAddress) → All IsAddress l → ¬ (map view values.now ≡ map address_data l)))) }
+    ensures err { IfErr result (Fails SettingsKey.Relays ((l : List AnAddress) → All IsAddress l → ¬ (map view values.now ≡ map address_data l))) }
 {
     let mut addresses = Vec::new(alloc);
     for value in values {
@@ -97,8 +95,7 @@ pub fn addresses_in(alloc: Global, values: &[Value]) -> Result<Addresses, Settin
 /// The loads that values are.
 pub fn loads_in(alloc: Global, values: &[Value]) -> Result<Loads, SettingsFault>
     ensures ok { IfOk result (λ l. (map view values.now ≡ map whole_data l) × All IsLoad l) }
-    ensures err { IfErr result (λ e. (e ≡ SettingsFault.Memory)
-        ⊎ ((e ≡ SettingsFault.Key SettingsKey.Bases) × ((l : List ℕ) → All IsLoad l → ¬ (map view values.now ≡ map whole_data l)))) }
+    ensures err { IfErr result (Fails SettingsKey.Bases ((l : List ℕ) → All IsLoad l → ¬ (map view values.now ≡ map whole_data l))) }
 {
     let mut loads = Vec::new(alloc);
     for value in values {
@@ -125,7 +122,7 @@ pub fn no_loads(alloc: Global, count: usize) -> Result<Loads, SettingsFault>
 /// The JSON value that a text is.
 fn json_of(alloc: Global, text: &str) -> Result<Json, SettingsFault>
     ensures ok { IfOk result (λ v. read_text text.now ≡ Some (json_view v)) }
-    ensures err { IfErr result (λ e. (e ≡ SettingsFault.Memory) ⊎ ((e ≡ SettingsFault.Key SettingsKey.Filter) × (read_text text.now ≡ None))) }
+    ensures err { IfErr result (Fails SettingsKey.Filter (read_text text.now ≡ None)) }
 {
     match Json::from_str(alloc, text) {
         Ok(value) => Ok(value),
@@ -140,8 +137,7 @@ fn json_of(alloc: Global, text: &str) -> Result<Json, SettingsFault>
 /// The filter that a value's text is.
 pub fn filter_in(alloc: Global, value: &Value) -> Result<Filter, SettingsFault>
     ensures ok { IfOk result (IsFilterData (view value.now)) }
-    ensures err { IfErr result (λ e. (e ≡ SettingsFault.Memory)
-        ⊎ ((e ≡ SettingsFault.Key SettingsKey.Filter) × ((f : AFilter) → ¬ IsFilterData (view value.now) f))) }
+    ensures err { IfErr result (Fails SettingsKey.Filter ((f : AFilter) → ¬ IsFilterData (view value.now) f)) }
 {
     let Some(text) = value.as_str() else {
         return Err(SettingsFault::Key(SettingsKey::Filter));
