@@ -10,7 +10,9 @@ use crate::address::Address;
 use crate::fault::{SettingsFault, SettingsKey};
 use crate::lists::{Addresses, Loads};
 use crate::settings::Settings;
-use crate::values::{address_in, addresses_in, filter_in, loads_in, no_loads, value_at, whole_at, whole_in};
+use crate::values::{
+    address_in, addresses_in, filter_in, loads_in, no_loads, value_at, whole_at, whole_in,
+};
 use nostr_event::Text;
 use nostr_filter::Filter;
 use std::alloc::Global;
@@ -98,12 +100,7 @@ fn workers_at(table: &Table, sync: bool) -> Result<u64, SettingsFault>
     }
 }
 
-fn bases_at(
-    alloc: Global,
-    table: &Table,
-    sync: bool,
-    count: usize,
-) -> Result<Loads, SettingsFault>
+fn bases_at(alloc: Global, table: &Table, sync: bool, count: usize) -> Result<Loads, SettingsFault>
     ensures ok { IfOk result (HasBases sync (table_view table.now) count) }
     ensures err { IfErr result (Fails SettingsKey.Bases ((v : List ℕ) → ¬ HasBases sync (table_view table.now) count v)) }
 {

@@ -22,7 +22,9 @@ fn told(alloc: Global, settings: &Settings) -> Result<String, AllocError> {
     let rounds = settings.rounds;
     let push_ms = settings.push_ms.unwrap_or(0);
     let kinds = settings.filter.kinds.is_some();
-    let rest = format!(in alloc; " conns {conns} workers {workers} rounds {rounds} push {push_ms} kinds {kinds}")?;
+    let rest = format!(in alloc;
+        " conns {conns} workers {workers} rounds {rounds} push {push_ms} kinds {kinds}"
+    )?;
     text.push_str(rest.as_str())?;
     Ok(text)
 }
@@ -127,7 +129,11 @@ static REFUSED: [(bool, &str, SettingsFault); 12] = [
     (true, "events = 'e'\nevents = 'e'\n", SettingsFault::Text),
     (false, "", SettingsFault::Key(SettingsKey::Events)),
     (false, "events = 1", SettingsFault::Key(SettingsKey::Events)),
-    (false, "events = 'e'", SettingsFault::Key(SettingsKey::Listen)),
+    (
+        false,
+        "events = 'e'",
+        SettingsFault::Key(SettingsKey::Listen),
+    ),
     (
         false,
         "events = 'e'\nlisten = 'a:1'",
@@ -138,7 +144,11 @@ static REFUSED: [(bool, &str, SettingsFault); 12] = [
         "events = 'e'\nlisten = 'a:1'\nconns = 1\npush_ms = 0",
         SettingsFault::Key(SettingsKey::PushMs),
     ),
-    (true, "events = 'e'", SettingsFault::Key(SettingsKey::Relays)),
+    (
+        true,
+        "events = 'e'",
+        SettingsFault::Key(SettingsKey::Relays),
+    ),
     (
         true,
         "events = 'e'\nrelays = []",

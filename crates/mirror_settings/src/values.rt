@@ -62,11 +62,7 @@ pub fn whole_at(
 }
 
 /// The address that a value spells.
-pub fn address_in(
-    alloc: Global,
-    value: &Value,
-    key: SettingsKey,
-) -> Result<Address, SettingsFault>
+pub fn address_in(alloc: Global, value: &Value, key: SettingsKey) -> Result<Address, SettingsFault>
     ensures ok { IfOk result (IsAddressData (view value.now)) }
     ensures err { IfErr result (Fails key ((a : AnAddress) → ¬ IsAddressData (view value.now) a)) }
 {

@@ -10,8 +10,11 @@ pub returns-then-len-count-clause-err : goal.returns-then-len-count-clause-err
 returns-then-len-count-clause-err c =
     let vs = c.in-Some-as_array.values.now.items in
     let is = stands _ (view c.in-Some.value.now) (items_of (map view vs)) c.in-Some.ensures c.in-Some-as_array.ensures in
-    inr (refl, no_bases c.args.sync (table_view c.args.table.now) c.args.count vs c.if-not-sync.false is
-    (λ l all long same. omega (arith, long, c.len.ensures, c.if-len-count.true, ap length same, length-map vs view, length-map l whole_data)))
+    inr (
+      refl,
+      no_bases c.args.sync (table_view c.args.table.now) c.args.count vs c.if-not-sync.false is
+          (λ l all long same. omega (arith, long, c.len.ensures, c.if-len-count.true, ap length same, length-map vs view, length-map l whole_data)),
+    )
 
 pub returns-clause-err : goal.returns-clause-err
 returns-clause-err c =

@@ -15,8 +15,11 @@ returns-then-count-eq0-clause-err c =
       | then-count-eq0-via-then-count-eq0 w ↦ inl (omega arith)
       | then-count-eq0-via-else-count-eq0+then-count-gt256 w ↦ inr (omega arith)
     ] in
-    inr (refl, no_relays c.args.sync (table_view c.args.table.now) vs c.if-not-sync.false is
-    (λ l all low high same. omega (arith, count, low, high, ap length same, length-map vs view, length-map l address_data)))
+    inr (
+      refl,
+      no_relays c.args.sync (table_view c.args.table.now) vs c.if-not-sync.false is
+          (λ l all low high same. omega (arith, count, low, high, ap length same, length-map vs view, length-map l address_data)),
+    )
 
 pub returns-clause-err : goal.returns-clause-err
 returns-clause-err c =

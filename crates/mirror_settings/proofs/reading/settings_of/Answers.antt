@@ -52,7 +52,7 @@ returns-in_err-bases-clause-err c =
     let s = c.args.sync in
     let t = table_view c.args.table.now in
     let p = err_from_is_err_and c.from_residual-in_err-bases.result c.from_residual-in_err-bases.ensures.1 in
-    rw (p.1, p.2) (stopped s t Bases _ (one_more s t Workers (one_more s t Filter (one_more s t Relays (one_more s t Conns (one_more s t Listen (one_more s t Events (none_below s t) (c.in_ok-events.events, c.in_ok-events.ensures.ok)) (c.in_ok-listen.listen, c.in_ok-listen.ensures.ok)) (c.in_ok-conns.conns, c.in_ok-conns.ensures.ok)) (c.in_ok-relays.relays, c.in_ok-relays.ensures.ok)) (c.in_ok-filter.filter, c.in_ok-filter.ensures.ok)) (c.in_ok-workers.workers, c.in_ok-workers.ensures.ok)) (elim c.in_err-bases.ensures.err [ | inl memory ↦ inl memory | inr wrong ↦ inr (wrong.0, not_as_many s t c.in_ok-relays.relays (length c.as_slice-count.result.now) c.in_ok-relays.ensures.ok (ap length c.as_slice-count.ensures) wrong.1) ]))
+    rw (p.1, p.2) (stopped s t Bases _ (one_more s t Workers (one_more s t Filter (one_more s t Relays (one_more s t Conns (one_more s t Listen (one_more s t Events (none_below s t) (c.in_ok-events.events, c.in_ok-events.ensures.ok)) (c.in_ok-listen.listen, c.in_ok-listen.ensures.ok)) (c.in_ok-conns.conns, c.in_ok-conns.ensures.ok)) (c.in_ok-relays.relays, c.in_ok-relays.ensures.ok)) (c.in_ok-filter.filter, c.in_ok-filter.ensures.ok)) (c.in_ok-workers.workers, c.in_ok-workers.ensures.ok)) (elim c.in_err-bases.ensures.err [ inl memory ↦ inl memory | inr wrong ↦ inr (wrong.0, not_as_many s t c.in_ok-relays.relays (length c.as_slice-count.result.now) c.in_ok-relays.ensures.ok (ap length c.as_slice-count.ensures) wrong.1) ]))
 
 pub returns-in_err-rounds-clause-err : goal.returns-in_err-rounds-clause-err
 returns-in_err-rounds-clause-err c =

@@ -14,6 +14,9 @@ returns-in_err-address-clause-err c =
       | inl memory ↦ inl memory
       | inr h ↦
           (let none : (a : Address) → ¬ IsAddressData (view c.value-item.result) a = h.1 in
-          inr (h.0, wrong_at address_data IsAddress c.args.values.now c.loop-value.value-index c.value-item.result (omega arith)
-          (rw (← c.value-item.is) (λ a is e. none a (e, is)))))
+          inr (
+            h.0,
+            wrong_at address_data IsAddress c.args.values.now c.loop-value.value-index c.value-item.result (omega arith)
+                (rw (← c.value-item.is) (λ a is e. none a (e, is))),
+          ))
     ])
