@@ -8,8 +8,9 @@ ghost use Rattle.ws_link.specs.Wired.{Wired, unused, failed_by, answer_of, Fails
 use crate::client::{close, connected, heard, named, say};
 use crate::fault::LinkFault;
 use neg_session::{Pair, Peer, PeerFault};
+use nostr_event::Text;
 use nostr_filter::{Filter, FilterFault};
-use nostr_wire::{Bytes, FromClient, FromRelay};
+use nostr_wire::{Bytes, FromClient, FromRelay, Sub};
 use std::alloc::Global;
 use std::io::{Read, Write};
 use std::marker::Model;
@@ -156,15 +157,22 @@ impl<S: Read + Write + Drop, K: MaskKeys + Drop> WsPeer<S, K> {
         let Some(socket) = &mut self.socket else {
             return Err(LinkFault::Link);
         };
-        let sub = named(alloc, NAME)?;
+        let sub = session(alloc)?;
         say(alloc, socket, &FromClient::NegClose { sub })?;
         close(socket)
     }
 }
 
+/// The session's name.
+fn session(alloc: Global) -> Result<Sub, LinkFault>
+    ensures { IfErr result IsOfStream }
+{
+    named(alloc, NAME)
+}
+
 /// The message of a question: the one that opens the session, if the filter is given, or a further one.
 fn message(alloc: Global, filter: Option<Filter>, question: &[u8]) -> Result<FromClient, LinkFault> {
-    let sub = named(alloc, NAME)?;
+    let sub = session(alloc)?;
     let message = Bytes::new(question.to_vec(alloc)?);
     Ok(match filter {
         Some(filter) => FromClient::NegOpen {
@@ -194,10 +202,21 @@ fn answer<S: Read + Write + Drop, K: MaskKeys + Drop>(
 /// The answer that the message gives, if it is one of the session.
 fn answer_in(message: FromRelay) -> Result<Option<Vec<u8>>, LinkFault> {
     match message {
-        FromRelay::NegMsg { sub, message } if sub.as_str() == NAME => Ok(Some(message.into_vec())),
-        FromRelay::NegErr { sub, reason } if sub.as_str() == NAME => Err(LinkFault::Refused(reason)),
-        FromRelay::Closed { sub, text } if sub.as_str() == NAME => Err(LinkFault::Refused(text)),
-        _ => Ok(None),
+        FromRelay::NegMsg { sub, message } => {
+            Ok((sub.as_str() == NAME).then_some(message.into_vec()))
+        }
+        FromRelay::NegErr { sub, reason } => refused(&sub, reason),
+        FromRelay::Closed { sub, text } => refused(&sub, text),
+        _other => Ok(None),
+    }
+}
+
+/// A refusal, if it is one of the session.
+fn refused(sub: &Sub, text: Text) -> Result<Option<Vec<u8>>, LinkFault> {
+    if sub.as_str() == NAME {
+        Err(LinkFault::Refused(text))
+    } else {
+        Ok(None)
     }
 }
 

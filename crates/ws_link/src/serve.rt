@@ -72,6 +72,7 @@ fn accepted<S: Read + Write + Drop>(
 }
 
 /// What a read has brought.
+#[derive(Clone, Copy, Debug, PartialEq, Eq)]
 enum Went {
     Text,
     /// Another message, or none.
@@ -92,28 +93,37 @@ enum Heard {
 }
 
 /// Reads once.
-fn heard<S: Read + Write + Drop, K: MaskKeys + Drop>(
+fn hear<S: Read + Write + Drop, K: MaskKeys + Drop>(
     socket: &mut WebSocket<S, K>,
 ) -> Result<Heard, LinkFault>
     ensures { IfErr result IsOfStream }
 {
     match socket.read() {
-        Ok(Message::Text(text)) => Ok(Heard::Text(text)),
-        Ok(Message::Binary(_)) => Ok(Heard::Binary),
-        Ok(Message::Ping(_) | Message::Pong(_)) => Ok(Heard::Nothing),
-        Ok(Message::Close(_)) | Err(Error::ConnectionClosed) => Ok(Heard::Close),
-        Err(error) if is_quiet(&error) => Ok(Heard::Nothing),
-        Err(error) => Err(error.into()),
+        Ok(message) => Ok(heard_of(message)),
+        Err(error) => unheard(error),
     }
 }
 
-/// Whether the stream has nothing for now.
-fn is_quiet(error: &Error) -> bool {
+fn heard_of(message: Message) -> Heard {
+    match message {
+        Message::Text(text) => Heard::Text(text),
+        Message::Binary(_bytes) => Heard::Binary,
+        Message::Ping(_bytes) | Message::Pong(_bytes) => Heard::Nothing,
+        Message::Close(_frame) => Heard::Close,
+    }
+}
+
+/// What it comes to that nothing was read.
+fn unheard(error: Error) -> Result<Heard, LinkFault>
+    ensures { IfErr result IsOfStream }
+{
     match error {
-        Error::Io(error) => {
-            matches!(error.kind(), ErrorKind::WouldBlock | ErrorKind::TimedOut)
-        }
-        _ => false,
+        Error::ConnectionClosed => Ok(Heard::Close),
+        Error::Io(error) => match error.kind() {
+            ErrorKind::WouldBlock | ErrorKind::TimedOut => Ok(Heard::Nothing),
+            _ => Err(Error::Io(error).into()),
+        },
+        other => Err(other.into()),
     }
 }
 
@@ -129,28 +139,57 @@ fn go_on<W: Wait, S: Read + Write + Drop, K: MaskKeys + Drop, J: Naming, D: Wait
     ensures fault { IfErr result IsOfStream }
     ensures reader { IsPrefix reader.old reader.new }
 {
-    let went = match heard(socket)? {
+    let went = heed(rt, alloc, socket, conn, reader, desk)?;
+    if went == Went::Closed {
+        // The reply to the close goes out.
+        socket.flush()?;
+        return Ok(went);
+    }
+    catch_up(alloc, socket, conn, reader)?;
+    socket.flush()?;
+    Ok(went)
+}
+
+/// Reads once, and answers.
+fn heed<W: Wait, S: Read + Write + Drop, K: MaskKeys + Drop, J: Naming, D: Wait + Drop>(
+    rt: &W,
+    alloc: Global,
+    socket: &mut WebSocket<S, K>,
+    conn: &mut Conn,
+    reader: &mut Reader<J>,
+    desk: &Mutex<Desk<J, D>>,
+) -> Result<Went, LinkFault>
+    ensures fault { IfErr result IsOfStream }
+    ensures reader { IsPrefix reader.old reader.new }
+{
+    match hear(socket)? {
         Heard::Text(text) => {
             let out = answered(rt, conn, reader, desk, text.as_str())?;
             say_all(alloc, socket, &out)?;
-            Went::Text
+            Ok(Went::Text)
         }
         Heard::Binary => {
             let text = Text::new(String::from_str(alloc, "invalid: bad message")?);
             say(alloc, socket, &FromRelay::Notice { text })?;
-            Went::Other
+            Ok(Went::Other)
         }
-        Heard::Nothing => Went::Other,
-        Heard::Close => {
-            // The reply to the close goes out, if it can.
-            let _ = socket.flush();
-            return Ok(Went::Closed);
-        }
-    };
+        Heard::Nothing => Ok(Went::Other),
+        Heard::Close => Ok(Went::Closed),
+    }
+}
+
+/// Puts what was published for the client behind what waits to be sent.
+fn catch_up<S: Read + Write + Drop, K: MaskKeys + Drop, J: Naming>(
+    alloc: Global,
+    socket: &mut WebSocket<S, K>,
+    conn: &mut Conn,
+    reader: &mut Reader<J>,
+) -> Result<(), LinkFault>
+    ensures fault { IfErr result IsOfStream }
+    ensures reader { IsPrefix reader.old reader.new }
+{
     let due = conn.catch_up(reader)?;
-    say_all(alloc, socket, &due)?;
-    socket.flush()?;
-    Ok(went)
+    say_all(alloc, socket, &due)
 }
 
 /// What is sent for a text, whose event is put into the store if it is one.
@@ -165,10 +204,13 @@ fn answered<W: Wait, J: Naming, D: Wait + Drop>(
     ensures reader { IsPrefix reader.old reader.new }
 {
     let Step { mut out, store } = conn.serve(reader, text)?;
-    if let Some(event) = store {
-        out.push(stored(rt, conn, reader, desk, event)?)?;
+    match store {
+        Some(event) => {
+            out.push(stored(rt, conn, reader, desk, event)?)?;
+            Ok(out)
+        }
+        None => Ok(out),
     }
-    Ok(out)
 }
 
 /// Puts the event into the store, and tells whether it is there.
@@ -183,12 +225,11 @@ fn stored<W: Wait, J: Naming, D: Wait + Drop>(
     ensures reader { IsPrefix reader.old reader.new }
 {
     let id = event.id();
-    let inserted = desk.lock(rt).insert(rt, event);
-    let told = match &inserted {
-        Ok(placed) => conn.stored(reader, id, Ok(placed)),
-        Err((fault, _event)) => conn.stored(reader, id, Err(fault)),
+    let placed = match desk.lock(rt).insert(rt, event) {
+        Ok(placed) => Ok(placed),
+        Err((fault, _event)) => Err(fault),
     };
-    Ok(told?)
+    Ok(conn.stored(reader, id, placed.as_ref())?)
 }
 
 /// Puts the messages behind what waits to be sent.
