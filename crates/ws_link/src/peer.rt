@@ -171,7 +171,11 @@ fn session(alloc: Global) -> Result<Sub, LinkFault>
 }
 
 /// The message of a question: the one that opens the session, if the filter is given, or a further one.
-fn message(alloc: Global, filter: Option<Filter>, question: &[u8]) -> Result<FromClient, LinkFault> {
+fn message(
+    alloc: Global,
+    filter: Option<Filter>,
+    question: &[u8],
+) -> Result<FromClient, LinkFault> {
     let sub = session(alloc)?;
     let message = Bytes::new(question.to_vec(alloc)?);
     Ok(match filter {

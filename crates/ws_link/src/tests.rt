@@ -20,8 +20,11 @@ use std::test::Fail;
 use std::thread::{Threads, join};
 
 /// The request and the answer of RFC 6455 section 1.3.
-const ASKS: &[u8] = b"GET /chat HTTP/1.1\r\nHost: server.example.com\r\nUpgrade: websocket\r\nConnection: Upgrade\r\nSec-WebSocket-Key: dGhlIHNhbXBsZSBub25jZQ==\r\nSec-WebSocket-Version: 13\r\n\r\n";
-const ACCEPTS: &[u8] = b"HTTP/1.1 101 Switching Protocols\r\nUpgrade: websocket\r\nConnection: Upgrade\r\nSec-WebSocket-Accept: s3pPLMBiTxaQ9kYGzzhZRbK+xOo=\r\n\r\n";
+const ASKS: &[u8] =
+    b"GET /chat HTTP/1.1\r\nHost: server.example.com\r\nUpgrade: websocket\r\nConnection: Upgrade\r\nSec-WebSocket-Key: dGhlIHNhbXBsZSBub25jZQ==\r\nSec-WebSocket-Version: 13\r\n\r\n";
+
+const ACCEPTS: &[u8] =
+    b"HTTP/1.1 101 Switching Protocols\r\nUpgrade: websocket\r\nConnection: Upgrade\r\nSec-WebSocket-Accept: s3pPLMBiTxaQ9kYGzzhZRbK+xOo=\r\n\r\n";
 
 /// Its nonce is that of RFC 6455 section 1.3.
 #[derive(Clone, Copy)]
@@ -134,7 +137,7 @@ fn asked(alloc: Global, times: usize, text: &str, fails_at: u64) -> Option<u8> {
     };
     match peer.ask(b"\x61") {
         Ok(answer) => {
-            let kept = answer.as_slice() == b"\x61\x00" && peer.pairs().len() == 1;
+            let kept = answer.as_slice() == b"\x61\x00".as_slice() && peer.pairs().len() == 1;
             (kept && peer.failures() == 0 && peer.last_fault().is_none()).then_some(0)
         }
         Err(fault) => {
@@ -172,11 +175,17 @@ static TALKS: [(&str, usize, u8); 12] = [
 fn questions(rt: HostRuntime) -> Result<(), Fail> {
     let alloc = rt.alloc();
     for (text, times, number) in TALKS {
-        assert_eq!(rt; (text, times, asked(alloc, times, text, 0)), (text, times, Some(number)));
+        assert_eq!(rt;
+            (text, times, asked(alloc, times, text, 0)),
+            (text, times, Some(number))
+        );
     }
     // The handshake's write and read, and those of the question.
     for fails_at in 1..5 {
-        assert_eq!(rt; (fails_at, asked(alloc, 0, "", fails_at)), (fails_at, Some(1)));
+        assert_eq!(rt;
+            (fails_at, asked(alloc, 0, "", fails_at)),
+            (fails_at, Some(1))
+        );
     }
     assert_eq!(rt; asked(alloc, 0, "", 5), Some(0));
     Ok(())
@@ -197,17 +206,26 @@ fn served<J: Naming, D: Wait + Drop, R: Wait>(
     let mut reader = readers.pop()?;
     let desk = Mutex::new(desk);
     let limits = RelayLimits {
+        subs: 4,
+        filters: 2,
         text: 400,
-        ..RelayLimits::default()
+        sessions: 1,
+        records: 100,
+        limit: 4_096,
     };
-    Some(match serve_conn(rt, alloc, stream, &mut reader, &desk, limits) {
-        Ok(texts) => Ok(texts),
-        Err(fault) => Err(fault.number()),
-    })
+    Some(
+        match serve_conn(rt, alloc, stream, &mut reader, &desk, limits) {
+            Ok(texts) => Ok(texts),
+            Err(fault) => Err(fault.number()),
+        },
+    )
 }
 
-const EVENT_1: &str = r##"{"id":"dcde1a2a9420ced2833ecdf9a0c3feb9cd9b2d277370b065433fc3dab1ae960a","pubkey":"0101010101010101010101010101010101010101010101010101010101010101","created_at":9,"kind":1,"tags":[],"content":"1","sig":"5a5a5a5a5a5a5a5a5a5a5a5a5a5a5a5a5a5a5a5a5a5a5a5a5a5a5a5a5a5a5a5a5a5a5a5a5a5a5a5a5a5a5a5a5a5a5a5a5a5a5a5a5a5a5a5a5a5a5a5a5a5a5a5a"}"##;
-const EVENT_2: &str = r##"{"id":"ddc79761c55c70341e7c207d769ad686a8b8e3f82408006465aeb8dde0119e79","pubkey":"0101010101010101010101010101010101010101010101010101010101010101","created_at":10,"kind":1,"tags":[],"content":"2","sig":"5a5a5a5a5a5a5a5a5a5a5a5a5a5a5a5a5a5a5a5a5a5a5a5a5a5a5a5a5a5a5a5a5a5a5a5a5a5a5a5a5a5a5a5a5a5a5a5a5a5a5a5a5a5a5a5a5a5a5a5a5a5a5a5a"}"##;
+const EVENT_1: &str =
+    r##"{"id":"dcde1a2a9420ced2833ecdf9a0c3feb9cd9b2d277370b065433fc3dab1ae960a","pubkey":"0101010101010101010101010101010101010101010101010101010101010101","created_at":9,"kind":1,"tags":[],"content":"1","sig":"5a5a5a5a5a5a5a5a5a5a5a5a5a5a5a5a5a5a5a5a5a5a5a5a5a5a5a5a5a5a5a5a5a5a5a5a5a5a5a5a5a5a5a5a5a5a5a5a5a5a5a5a5a5a5a5a5a5a5a5a5a5a5a5a"}"##;
+
+const EVENT_2: &str =
+    r##"{"id":"ddc79761c55c70341e7c207d769ad686a8b8e3f82408006465aeb8dde0119e79","pubkey":"0101010101010101010101010101010101010101010101010101010101010101","created_at":10,"kind":1,"tags":[],"content":"2","sig":"5a5a5a5a5a5a5a5a5a5a5a5a5a5a5a5a5a5a5a5a5a5a5a5a5a5a5a5a5a5a5a5a5a5a5a5a5a5a5a5a5a5a5a5a5a5a5a5a5a5a5a5a5a5a5a5a5a5a5a5a5a5a5a5a"}"##;
 
 fn event(alloc: Global, text: &str) -> Option<Arc<Event>> {
     let value = Value::from_str(alloc, text).ok()?;
@@ -217,21 +235,33 @@ fn event(alloc: Global, text: &str) -> Option<Arc<Event>> {
 /// What a client sends: the first byte of the frame, and the payload. Where there is no byte, the stream would block.
 static SAID: [(u8, &str); 9] = [
     (0x81, r##"["REQ","a",{}]"##),
-    (0x81, r##"["EVENT",{"id":"ddc79761c55c70341e7c207d769ad686a8b8e3f82408006465aeb8dde0119e79","pubkey":"0101010101010101010101010101010101010101010101010101010101010101","created_at":10,"kind":1,"tags":[],"content":"2","sig":"5a5a5a5a5a5a5a5a5a5a5a5a5a5a5a5a5a5a5a5a5a5a5a5a5a5a5a5a5a5a5a5a5a5a5a5a5a5a5a5a5a5a5a5a5a5a5a5a5a5a5a5a5a5a5a5a5a5a5a5a5a5a5a5a"}]"##),
+    (
+        0x81,
+        r##"["EVENT",{"id":"ddc79761c55c70341e7c207d769ad686a8b8e3f82408006465aeb8dde0119e79","pubkey":"0101010101010101010101010101010101010101010101010101010101010101","created_at":10,"kind":1,"tags":[],"content":"2","sig":"5a5a5a5a5a5a5a5a5a5a5a5a5a5a5a5a5a5a5a5a5a5a5a5a5a5a5a5a5a5a5a5a5a5a5a5a5a5a5a5a5a5a5a5a5a5a5a5a5a5a5a5a5a5a5a5a5a5a5a5a5a5a5a5a"}]"##,
+    ),
     (0, ""),
     (0x82, "bytes"),
     (0x89, "beat"),
     (0x8a, ""),
     (0x81, "hello"),
-    (0x81, r##"["CLOSE","xxxxxxxxxxxxxxxxxxxxxxxxxxxxxxxxxxxxxxxxxxxxxxxxxxxxxxxxxxxxxxxxxxxxxxxxxxxxxxxxxxxxxxxxxxxxxxxxxxxxxxxxxxxxxxxxxxxxxxxxxxxxxxxxxxxxxxxxxxxxxxxxxxxxxxxxxxxxxxxxxxxxxxxxxxxxxxxxxxxxxxxxxxxxxxxxxxxxxxxxxxxxxxxxxxxxxxxxxxxxxxxxxxxxxxxxxxxxxxxxxxxxxxxxxxxxxxxxxxxxxxxxxxxxxxxxxxxxxxxxxxxxxxxxxxxxxxxxxxxxxxxxxxxxxxxxxxxxxxxxxxxxxxxxxxxxxxxxxxxxxxxxxxxxxxxxxxxxxxxxxxxxxxxxxxxxxxxxxxxxxxxxxxxxx"]"##),
+    (
+        0x81,
+        r##"["CLOSE","xxxxxxxxxxxxxxxxxxxxxxxxxxxxxxxxxxxxxxxxxxxxxxxxxxxxxxxxxxxxxxxxxxxxxxxxxxxxxxxxxxxxxxxxxxxxxxxxxxxxxxxxxxxxxxxxxxxxxxxxxxxxxxxxxxxxxxxxxxxxxxxxxxxxxxxxxxxxxxxxxxxxxxxxxxxxxxxxxxxxxxxxxxxxxxxxxxxxxxxxxxxxxxxxxxxxxxxxxxxxxxxxxxxxxxxxxxxxxxxxxxxxxxxxxxxxxxxxxxxxxxxxxxxxxxxxxxxxxxxxxxxxxxxxxxxxxxxxxxxxxxxxxxxxxxxxxxxxxxxxxxxxxxxxxxxxxxxxxxxxxxxxxxxxxxxxxxxxxxxxxxxxxxxxxxxxxxxxxxxxxxxxxxxxx"]"##,
+    ),
     (0x88, ""),
 ];
 
 /// What it is sent for that.
 static HEARD: [(u8, &str); 8] = [
     (0x81, r##"["EOSE","a"]"##),
-    (0x81, r##"["OK","ddc79761c55c70341e7c207d769ad686a8b8e3f82408006465aeb8dde0119e79",true,""]"##),
-    (0x81, r##"["EVENT","a",{"content":"2","created_at":10,"id":"ddc79761c55c70341e7c207d769ad686a8b8e3f82408006465aeb8dde0119e79","kind":1,"pubkey":"0101010101010101010101010101010101010101010101010101010101010101","sig":"5a5a5a5a5a5a5a5a5a5a5a5a5a5a5a5a5a5a5a5a5a5a5a5a5a5a5a5a5a5a5a5a5a5a5a5a5a5a5a5a5a5a5a5a5a5a5a5a5a5a5a5a5a5a5a5a5a5a5a5a5a5a5a5a","tags":[]}]"##),
+    (
+        0x81,
+        r##"["OK","ddc79761c55c70341e7c207d769ad686a8b8e3f82408006465aeb8dde0119e79",true,""]"##,
+    ),
+    (
+        0x81,
+        r##"["EVENT","a",{"content":"2","created_at":10,"id":"ddc79761c55c70341e7c207d769ad686a8b8e3f82408006465aeb8dde0119e79","kind":1,"pubkey":"0101010101010101010101010101010101010101010101010101010101010101","sig":"5a5a5a5a5a5a5a5a5a5a5a5a5a5a5a5a5a5a5a5a5a5a5a5a5a5a5a5a5a5a5a5a5a5a5a5a5a5a5a5a5a5a5a5a5a5a5a5a5a5a5a5a5a5a5a5a5a5a5a5a5a5a5a5a","tags":[]}]"##,
+    ),
     (0x81, r##"["NOTICE","invalid: bad message"]"##),
     (0x8a, "beat"),
     (0x81, r##"["NOTICE","invalid: bad message"]"##),
@@ -268,7 +298,11 @@ static BROKEN: [(&[u8], &[u8], u8); 4] = [
     // An unmasked frame.
     (ASKS, b"\x81\x00", 3),
     // A text of 4,194,305 bytes, of which none comes.
-    (ASKS, b"\x81\xff\x00\x00\x00\x00\x00\x40\x00\x01\x00\x00\x00\x00", 3),
+    (
+        ASKS,
+        b"\x81\xff\x00\x00\x00\x00\x00\x40\x00\x01\x00\x00\x00\x00",
+        3,
+    ),
     // The end, without a close.
     (ASKS, b"\x8a\x80\x00\x00\x00\x00", 1),
 ];
