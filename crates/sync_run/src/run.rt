@@ -17,7 +17,7 @@ use std::io::Write;
 use std::marker::Brand;
 use std::net::Net;
 use std::random::RandomSource;
-use std::rt::{AllocGlobal, Files};
+use std::rt::Files;
 use std::sync::Wait;
 use std::thread::Threads;
 
@@ -44,6 +44,12 @@ fn say<W: Write>(writer: &mut W, text: &str) -> Result<(), SyncRefusal> {
     }
 }
 
+/// Tells how far the job is, as far as that can be written.
+fn tell<P: Write>(progress: &mut P, count: usize, what: &str) {
+    let _ = write!(progress, "{count} {what}\n");
+    let _ = progress.flush();
+}
+
 /// Puts the events of the file into the store.
 fn filled<J: Naming, D: Wait + Drop, R: Wait + Files + AllocGlobal>(
     rt: &R,
@@ -60,17 +66,20 @@ fn filled<J: Naming, D: Wait + Drop, R: Wait + Files + AllocGlobal>(
 }
 
 /// Sessions with the relays over the events that the filter matches, and the plan made of what they found.
-fn synced<J: Naming, R: Net + RandomSource + Threads + Sync>(
+fn synced<J: Naming, R: Net + RandomSource + Threads + Sync, P: Write>(
     rt: &R,
     alloc: Global,
     settings: &Settings,
     reader: &mut Reader<J>,
+    progress: &mut P,
 ) -> Result<Synced, SyncRefusal>
 where
     R::Stream: Send,
 {
     let snapshot = reader.pin(alloc, &settings.filter)?;
+    tell(progress, snapshot.events().len(), "events are compared");
     let mut peers = linked_all(rt, alloc, settings.relays.as_slice(), &settings.filter)?;
+    tell(progress, peers.len(), "relays are asked");
     let bases = bases_of(settings.bases.as_slice());
     let limits = SessionLimits::default();
     let done = sync_plan(rt, alloc, peers.as_mut_slice(), &snapshot, &bases, &limits);
@@ -79,17 +88,19 @@ where
 }
 
 /// Runs the sessions, and prints how they ended and the plan.
-fn run_round<J: Naming, R: Net + RandomSource + Threads + Sync, W: Write>(
+fn run_round<J: Naming, R: Net + RandomSource + Threads + Sync, W: Write, P: Write>(
     rt: &R,
     alloc: Global,
     settings: &Settings,
     reader: &mut Reader<J>,
     writer: &mut W,
+    progress: &mut P,
 ) -> Result<(), SyncRefusal>
 where
     R::Stream: Send,
 {
-    let done = synced(rt, alloc, settings, reader)?;
+    let done = synced(rt, alloc, settings, reader, progress)?;
+    tell(progress, done.plan.len(), "ids are planned");
     let mut text = String::new(alloc);
     put_ends(alloc, &mut text, done.ends.as_slice())?;
     put_plan(alloc, &mut text, &done.plan)?;
@@ -115,12 +126,14 @@ fn run_named<
     J: Naming,
     R: Net + RandomSource + Threads + Wait + Files + AllocGlobal + Sync,
     W: Write,
+    P: Write,
 >(
     rt: &R,
     alloc: Global,
     blank: Blank,
     settings: &Settings,
     writer: &mut W,
+    progress: &mut P,
 ) -> Result<(), SyncRefusal>
 where
     R::Stream: Send,
@@ -137,27 +150,29 @@ where
         Ok(file) => file,
         Err(error) => return Err(write_refusal(&error)),
     };
-    if let Err(refusal) = run_round(rt, alloc, settings, &mut reader, writer) {
+    if let Err(refusal) = run_round(rt, alloc, settings, &mut reader, writer, progress) {
         let _ = file.discard(rt);
         return Err(refusal);
     }
     save(rt, alloc, &mut reader, file)
 }
 
-/// Reads settings, puts the events of the file into a store, has sessions with the relays, and prints how they ended and the
-/// plan made of what they found.
+/// Reads settings, puts the events of the file into a store, has sessions with the relays, prints how they ended and the plan
+/// made of what they found, and writes the file. How far it is goes to `progress`, whatever becomes of it there.
 pub fn run_sync<
     R: Net + RandomSource + Threads + Wait + Files + AllocGlobal + Sync,
     W: Write,
+    P: Write,
 >(
     rt: &R,
     alloc: Global,
     text: &str,
     writer: &mut W,
+    progress: &mut P,
 ) -> Result<(), SyncRefusal>
 where
     R::Stream: Send,
 {
     let settings = read_settings(alloc, text, true)?;
-    run_named::<Brand, R, W>(rt, alloc, Blank::new(), &settings, writer)
+    run_named::<Brand, R, W, P>(rt, alloc, Blank::new(), &settings, writer, progress)
 }
