@@ -1,0 +1,14 @@
+//! Nostr over WebSocket (NIP-01, NIP-77, RFC 6455), on any stream that reads and writes.
+#![tactic(auto)]
+
+mod client;
+mod fault;
+mod peer;
+mod serve;
+
+pub use fault::LinkFault;
+pub use peer::WsPeer;
+pub use serve::serve_conn;
+
+#[cfg(test)]
+mod tests;

@@ -1,0 +1,269 @@
+//! A peer over a WebSocket.
+ghost use Rattle.std.specs.Prelude.{◌≡◌, ◌+◌, ◌<◌, ◌^◌, ◌-◌, [], ◌∷◌, ◌++◌, IfOk, IfErr, OnErr, true, false, Some, None, Err, Ok};
+ghost use Rattle.std.specs.Option.{option_copied};
+ghost use Rattle.neg_session.specs.Exchange.{exchange};
+ghost use Rattle.ws_link.specs.Faults.{IsOfStream};
+ghost use Rattle.ws_link.specs.Wired.{Wired, unused, failed_by, answer_of, FailsBy};
+
+use crate::client::{close, connected, heard, named, say};
+use crate::fault::LinkFault;
+use neg_session::{Pair, Peer, PeerFault};
+use nostr_event::Text;
+use nostr_filter::{Filter, FilterFault};
+use nostr_wire::{Bytes, FromClient, FromRelay, Sub};
+use std::alloc::Global;
+use std::io::{Read, Write};
+use std::marker::Model;
+use std::random::RandomSource;
+use tungstenite::{MaskKeys, RandomKeys, WebSocket};
+
+/// The name of the session.
+const NAME: &str = "mirror";
+
+/// How many messages are read for one question.
+const MOST_READS: u32 = 1_000;
+
+/// A peer behind a stream: a Negentropy session with a relay (NIP-77) over the events that a filter matches. `K` gives the
+/// masking keys. Once a call has failed, every question fails.
+#[derive(Drop)]
+pub struct WsPeer<S, K> {
+    alloc: Global,
+    // None once a call has failed, so that no later question gets an earlier one's answer.
+    socket: Option<WebSocket<S, K>>,
+    // What the first question opens the session with.
+    filter: Option<Filter>,
+    pairs: Vec<Pair>,
+    failures: u64,
+    last_fault: Option<LinkFault>,
+}
+
+impl<S, K> Model for WsPeer<S, K> {
+    ghost use Rattle.std.specs.Option.{is_some};
+    ghost use Rattle.ws_link.specs.Wired.{Wired};
+
+    ghost Value = { Wired };
+
+    ghost view = { λ p. record { live = is_some p.socket; log = p.pairs.items; faults = p.failures; last = p.last_fault } };
+}
+
+impl<S: Read + Write + Drop, R: RandomSource + Drop> WsPeer<S, RandomKeys<R>> {
+    /// Does the client's handshake with the host. The masking keys come from `source`. The session begins with the first
+    /// question.
+    pub fn start(
+        alloc: Global,
+        source: R,
+        stream: S,
+        host: &str,
+        filter: &Filter,
+    ) -> Result<WsPeer<S, RandomKeys<R>>, LinkFault>
+        ensures ok { IfOk result (λ p. p ≡ unused true) }
+        ensures err { IfErr result IsOfStream }
+    {
+        let filter = copied(alloc, filter)?;
+        let socket = connected(alloc, source, stream, host)?;
+        Ok(WsPeer {
+            alloc,
+            socket: Some(socket),
+            filter: Some(filter),
+            pairs: Vec::new(alloc),
+            failures: 0,
+            last_fault: None,
+        })
+    }
+}
+
+/// The same filter.
+fn copied(alloc: Global, filter: &Filter) -> Result<Filter, LinkFault>
+    ensures value { IfOk result (λ f. f ≡ filter.now) }
+    ensures memory { IfErr result (λ f. f ≡ LinkFault.Memory) }
+{
+    let value = filter.to_json(alloc)?;
+    match Filter::from_json(alloc, &value) {
+        Ok(copy) => Ok(copy),
+        Err(FilterFault::Memory) => Err(LinkFault::Memory),
+        Err(_) => unreachable!(),
+    }
+}
+
+impl<S: Drop, K: Drop> WsPeer<S, K> {
+    /// A peer that can't be reached: every question fails. It takes no memory.
+    pub fn unreachable(alloc: Global) -> WsPeer<S, K>
+        ensures { result ≡ unused false }
+    {
+        WsPeer {
+            alloc,
+            socket: None,
+            filter: None,
+            pairs: Vec::new(alloc),
+            failures: 0,
+            last_fault: None,
+        }
+    }
+
+    /// Why the last question that failed did so.
+    pub fn last_fault(&self) -> Option<&LinkFault>
+        ensures { option_copied result ≡ self.now.last }
+    {
+        self.last_fault.as_ref()
+    }
+
+    // Notes the fault, after which every question fails. Want of memory is no failure of the peer.
+    fn fail(&mut self, fault: LinkFault) -> PeerFault
+        requires { self.old.faults < 2 ^ 64 - 1 }
+        ensures peer { self.new ≡ failed_by fault self.old }
+        ensures answer { result ≡ answer_of fault }
+    {
+        let answer = match &fault {
+            LinkFault::Memory => PeerFault::Memory,
+            _ => PeerFault::Failed,
+        };
+        self.socket = None;
+        if answer == PeerFault::Failed {
+            self.failures += 1;
+        }
+        self.last_fault = Some(fault);
+        answer
+    }
+}
+
+impl<S: Read + Write + Drop, K: MaskKeys + Drop> WsPeer<S, K> {
+    // Asks, and keeps the pair.
+    fn try_ask(&mut self, question: &[u8]) -> Result<Vec<u8>, LinkFault>
+        ensures ok { IfOk result (λ answer. (self.old.live ≡ true) × (self.new ≡ record self.old { log = self.old.log ++ exchange question.now answer.items ∷ [] })) }
+        ensures err { OnErr result (self.new ≡ self.old) }
+        ensures dead { self.old.live ≡ false → result ≡ Err LinkFault.Link }
+    {
+        let alloc = self.alloc;
+        let filter = self.filter.take();
+        let Some(socket) = &mut self.socket else {
+            return Err(LinkFault::Link);
+        };
+        say(alloc, socket, &message(alloc, filter, question)?)?;
+        let answer = answer(alloc, socket)?;
+        let pair = Pair {
+            asked: question.to_vec(alloc)?,
+            answered: answer.to_vec(alloc)?,
+        };
+        self.pairs.push(pair)?;
+        Ok(answer)
+    }
+
+    /// Ends the session, and closes the connection.
+    pub fn finish(mut self) -> Result<(), LinkFault>
+        ensures dead { self.live ≡ false → result ≡ Err LinkFault.Link }
+        ensures err { IfErr result IsOfStream }
+    {
+        let alloc = self.alloc;
+        let Some(socket) = &mut self.socket else {
+            return Err(LinkFault::Link);
+        };
+        let sub = session(alloc)?;
+        say(alloc, socket, &FromClient::NegClose { sub })?;
+        close(socket)
+    }
+}
+
+/// The session's name.
+fn session(alloc: Global) -> Result<Sub, LinkFault>
+    ensures { IfErr result IsOfStream }
+{
+    named(alloc, NAME)
+}
+
+/// The message of a question: the one that opens the session, if the filter is given, or a further one.
+fn message(
+    alloc: Global,
+    filter: Option<Filter>,
+    question: &[u8],
+) -> Result<FromClient, LinkFault> {
+    let sub = session(alloc)?;
+    let message = Bytes::new(question.to_vec(alloc)?);
+    Ok(match filter {
+        Some(filter) => FromClient::NegOpen {
+            sub,
+            filter,
+            message,
+        },
+        None => FromClient::NegMsg { sub, message },
+    })
+}
+
+/// Reads until the answer, past at most 999 other messages.
+fn answer<S: Read + Write + Drop, K: MaskKeys + Drop>(
+    alloc: Global,
+    socket: &mut WebSocket<S, K>,
+) -> Result<Vec<u8>, LinkFault> {
+    for _read in 0..MOST_READS {
+        if let Some(message) = heard(alloc, socket)? {
+            if let Some(answer) = answer_in(message)? {
+                return Ok(answer);
+            }
+        }
+    }
+    Err(LinkFault::TooManyOthers)
+}
+
+/// The answer that the message gives, if it is one of the session.
+fn answer_in(message: FromRelay) -> Result<Option<Vec<u8>>, LinkFault> {
+    match message {
+        FromRelay::NegMsg { sub, message } => {
+            Ok((sub.as_str() == NAME).then_some(message.into_vec()))
+        }
+        FromRelay::NegErr { sub, reason } => refused(&sub, reason),
+        FromRelay::Closed { sub, text } => refused(&sub, text),
+        _other => Ok(None),
+    }
+}
+
+/// A refusal, if it is one of the session.
+fn refused(sub: &Sub, text: Text) -> Result<Option<Vec<u8>>, LinkFault> {
+    if sub.as_str() == NAME {
+        Err(LinkFault::Refused(text))
+    } else {
+        Ok(None)
+    }
+}
+
+impl<S: Read + Write + Drop, K: MaskKeys + Drop> Peer for WsPeer<S, K> {
+    ghost use Rattle.std.specs.Prelude.{◌≡◌, false, ⊤};
+
+    ghost log = { λ p. p.log };
+
+    ghost faults = { λ p. p.faults };
+
+    // Once it has failed it asks no more.
+    ghost becomes = { λ p q. p.live ≡ false → q.live ≡ false };
+
+    // At any question the link may fail.
+    ghost fails = { λ q. ⊤ };
+
+    ghost stays = { λ p h. h };
+
+    ghost goes_on = { λ p q r h k l. k (h l) };
+
+    fn ask(&mut self, question: &[u8]) -> Result<Vec<u8>, PeerFault>
+        requires { self.old.faults < 2 ^ 64 - 1 }
+        ensures ok { IfOk result (λ answer. (self.new.log ≡ self.old.log ++ exchange question.now answer.items ∷ []) × (self.new.faults ≡ self.old.faults)) }
+        ensures err { OnErr result (self.new.log ≡ self.old.log) }
+        ensures failed { result ≡ Err PeerFault.Failed → (self.old.faults < self.new.faults) × ⊤ }
+        ensures memory { result ≡ Err PeerFault.Memory → self.new.faults ≡ self.old.faults }
+        ensures becomes { self.old.live ≡ false → self.new.live ≡ false }
+        // What else it leaves.
+        ensures lives { IfOk result (λ _. (self.old.live ≡ true) × (self.new.live ≡ true) × (self.new.last ≡ self.old.last)) }
+        ensures fault { IfErr result (FailsBy self.old self.new) }
+        ensures dead { self.old.live ≡ false → (result ≡ Err PeerFault.Failed) × (self.new.last ≡ Some LinkFault.Link) }
+    {
+        match self.try_ask(question) {
+            Ok(answer) => Ok(answer),
+            Err(fault) => Err(self.fail(fault)),
+        }
+    }
+
+    fn pairs(&self) -> &[Pair] {
+        self.pairs.as_slice()
+    }
+
+    fn failures(&self) -> u64 {
+        self.failures
+    }
+}
