@@ -1,10 +1,11 @@
 -- The words that the program takes.
-use Rattle.std.specs.Prelude.{◌≡◌, ◌≢◌, ◌≤◌, ℕ, true, List, [], codes, Option, Some, None, option_map, option_and_then}
+use Rattle.std.specs.Prelude.{◌≡◌, ◌≢◌, ◌≤◌, ℕ, Bool, true, false, List, [], codes, Option, Some, None, option_map, option_and_then}
 use Rattle.std.specs.Str.Parse.{digits_value, without_leading_plus}
-use Rattle.clap.specs.Words.{App, IsUnsignedIn, Row, Rule, Text, new_app, new_rule, one_of, with_rule, with_subcommand, subcommand_of, fault_of}
+use Rattle.clap.specs.Words.{App, IsUnsignedIn, Row, Rule, Text, new_app, new_rule, first_of, one_of, with_rule, with_subcommand, subcommand_of, fault_of}
+use Rattle.clap.specs.declared.builder.action.ArgAction.TheVariants.{SetTrue}
 use Rattle.clap.specs.declared.builder.value_parser.ValueParser.TheVariants as parser
 use Rattle.mirror_app.specs.declared.words.Words.{Words}
-use Rattle.mirror_app.specs.declared.words.Words.TheVariants.{Recon, Plan, Check}
+use Rattle.mirror_app.specs.declared.words.Words.TheVariants.{Recon, Plan, Check, Serve, Sync}
 use Rattle.mirror_app.specs.declared.usage.WordsFault.{WordsFault}
 use Rattle.mirror_app.specs.declared.usage.WordsFault.TheVariants.{Usage, Memory}
 
@@ -21,6 +22,20 @@ plan = new_app (codes "plan")
 abbrev pub check : App
 check = new_app (codes "check")
 
+-- the path of the settings, which has to be there
+abbrev pub settings_rule : Rule
+settings_rule = record (new_rule (codes "SETTINGS")) { required = true }
+
+-- `--progress`
+abbrev pub progress_rule : Rule
+progress_rule = record (new_rule (codes "progress")) { long = Some (codes "progress"); action = Some SetTrue }
+
+abbrev pub serve : App
+serve = with_rule (new_app (codes "serve")) settings_rule
+
+abbrev pub sync : App
+sync = with_rule (with_rule (new_app (codes "sync")) settings_rule) progress_rule
+
 abbrev pub wants_subcommand : App → App
 wants_subcommand a = record a { top = record a.top { subcommand_required = true } }
 
@@ -33,13 +48,15 @@ program = wants_subcommand (tells_version (new_app (codes "nostr-mirror")))
 
 -- one of the subcommands has to be named, and no other word
 abbrev pub nostr_mirror : App
-nostr_mirror = with_subcommand (with_subcommand (with_subcommand program recon.top) plan.top) check.top
+nostr_mirror = with_subcommand (with_subcommand (with_subcommand (with_subcommand (with_subcommand program recon.top) plan.top) check.top) serve.top) sync.top
 
 -- the name of the subcommand
 abbrev pub name_of : Words → Text
 name_of (Recon limit) = codes "recon"
 name_of Plan = codes "plan"
 name_of Check = codes "check"
+name_of (Serve path) = codes "serve"
+name_of (Sync path progress) = codes "sync"
 
 -- the limit of a session's messages is in its range
 abbrev pub IsWithin : Words → Type 0
@@ -55,10 +72,27 @@ abbrev pub IsLimitOf : Option Text → ℕ → Type 0
 IsLimitOf None limit = limit ≡ 60000
 IsLimitOf (Some text) limit = IsUnsignedIn 4096 1048576 text → limit ≡ digits_value 10 (without_leading_plus text)
 
--- the limit of the job is the one that was found
-abbrev pub TellsLimit : Option (Text × List Row) → Words → Type 0
-TellsLimit found (Recon limit) = IsLimitOf (limit_text found) limit
-TellsLimit found job = Unit {0}
+-- the path is the text of SETTINGS; clap takes no words without it
+abbrev pub IsPathOf : Option Text → Text → Type 0
+IsPathOf None path = path ≡ []
+IsPathOf (Some text) path = path ≡ text
+
+abbrev pub path_text : Option (Text × List Row) → Option Text
+path_text found = option_and_then (λ s. first_of (codes "SETTINGS") s.1) found
+
+-- whether `--progress` is there: clap keeps `true` or `false` for it
+abbrev pub IsFlagOf : Option Text → Bool → Type 0
+IsFlagOf text flag = (text ≡ None → flag ≡ false) × (text ≡ Some (codes "true") → flag ≡ true) × (text ≡ Some (codes "false") → flag ≡ false)
+
+abbrev pub progress_text : Option (Text × List Row) → Option Text
+progress_text found = option_and_then (λ s. one_of (codes "progress") s.1) found
+
+-- what the job is told is what was found
+abbrev pub Tells : Option (Text × List Row) → Words → Type 0
+Tells found (Recon limit) = IsLimitOf (limit_text found) limit
+Tells found (Serve path) = IsPathOf (path_text found) path
+Tells found (Sync path progress) = IsPathOf (path_text found) path × IsFlagOf (progress_text found) progress
+Tells found job = Unit {0}
 
 -- the name of a job
 abbrev pub IsJob : Option Text → Type 0

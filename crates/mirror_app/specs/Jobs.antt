@@ -1,5 +1,5 @@
 -- Which job the words name, what it writes, and how the program ends.
-use Rattle.std.specs.Prelude.{◌≡◌, ◌≢◌, ◌⊎◌, ℕ, List, [], ◌∷◌, ◌++◌, codes, Option, IfSome, string_bytes}
+use Rattle.std.specs.Prelude.{◌≡◌, ◌≢◌, ◌⊎◌, ℕ, List, [], ◌∷◌, ◌++◌, codes, Option, Result, Ok, Err, IfSome, string_bytes}
 use Rattle.mirror_run.specs.declared.refusal.Refusal.{Refusal}
 use Rattle.mirror_run.specs.declared.refusal.Refusal.TheVariants.{Write, Memory as NoMemory}
 use Rattle.mirror_run.specs.Reconciled.{IsPrinted, IsReconRefusal}
@@ -7,31 +7,43 @@ use Rattle.mirror_run.specs.RefusalText.{refusal_text}
 use Rattle.plan_run.specs.Jobs.{IsPlanWritten, IsPlanRefusal, IsLeastWritten, IsCheckRefusal}
 use Rattle.clap.specs.Words.{Text, fault_of, subcommand_of}
 use Rattle.mirror_app.specs.declared.words.Words.{Words}
-use Rattle.mirror_app.specs.declared.words.Words.TheVariants.{Recon, Plan, Check}
+use Rattle.mirror_app.specs.declared.words.Words.TheVariants.{Recon, Plan, Check, Serve, Sync}
 use Rattle.mirror_app.specs.declared.usage.WordsFault.{WordsFault}
 use Rattle.mirror_app.specs.declared.usage.WordsFault.TheVariants as fault
 use Rattle.mirror_app.specs.declared.jobs.End.{End}
 use Rattle.mirror_app.specs.declared.jobs.End.TheVariants.{Done, Refused, Usage}
-use Rattle.mirror_app.specs.CommandLine.{nostr_mirror, IsAccepted, IsNamed, IsWithin, TellsLimit}
+use Rattle.mirror_app.specs.declared.jobs.Went.{Went}
+use Rattle.mirror_app.specs.declared.jobs.Went.TheVariants.{Ended, Left}
+use Rattle.mirror_app.specs.CommandLine.{nostr_mirror, IsAccepted, IsNamed, IsWithin, Tells}
 
 -- the words name the job
 pub record Names (words : List Text) (job : Words) : Type 0 where
   pub accepted : IsAccepted words
   pub named : IsNamed words job
   pub within : IsWithin job
-  pub limit : TellsLimit (subcommand_of nostr_mirror words) job
+  pub told : Tells (subcommand_of nostr_mirror words) job
+
+-- the job reads its input from standard input
+abbrev pub IsOfText : Words → Type 0
+IsOfText (Serve path) = ⊥
+IsOfText (Sync path progress) = ⊥
+IsOfText job = Unit {0}
 
 -- what the job writes of its input
 abbrev pub IsDoneBy : Words → List ℕ → Option (List ℕ) → Option (List ℕ) → Type 0
 IsDoneBy (Recon limit) input old new = IsPrinted limit input old new
 IsDoneBy Plan input old new = IsPlanWritten input old new
 IsDoneBy Check input old new = IsLeastWritten input old new
+IsDoneBy (Serve path) input old new = ⊥
+IsDoneBy (Sync path progress) input old new = ⊥
 
 -- why the job refuses its input
 abbrev pub IsRefusedBy : Words → List ℕ → Refusal → Type 0
 IsRefusedBy (Recon limit) input e = IsReconRefusal limit input e
 IsRefusedBy Plan input e = IsPlanRefusal input e
 IsRefusedBy Check input e = IsCheckRefusal input e
+IsRefusedBy (Serve path) input e = ⊥
+IsRefusedBy (Sync path progress) input e = ⊥
 
 -- The end of the program: the job that the words name was done, or refused its input, where that is known; or the words
 -- name none.
@@ -41,11 +53,22 @@ EndsAs words input old new (Refused e) =
     (e ≡ NoMemory) ⊎ ((job : Words) × Names words job × IfSome input (λ text. IsRefusedBy job text e))
 EndsAs words input old new (Usage text) = fault_of nostr_mirror words ≢ []
 
--- only these ends leave the output other than it was
-abbrev pub MayHaveWritten : End → Type 0
-MayHaveWritten Done = Unit {0}
-MayHaveWritten (Refused e) = e ≡ Write
-MayHaveWritten (Usage text) = ⊥
+-- How the program goes: it ends, or the words name a job that isn't done on standard input.
+abbrev pub RunsAs : List Text → Option (List ℕ) → Option (List ℕ) → Option (List ℕ) → Went → Type 0
+RunsAs words input old new (Ended e) = EndsAs words input old new e
+RunsAs words input old new (Left job) = Names words job × ¬ IsOfText job
+
+-- only these leave the output other than it was
+abbrev pub MayHaveWritten : Went → Type 0
+MayHaveWritten (Ended Done) = Unit {0}
+MayHaveWritten (Ended (Refused e)) = e ≡ Write
+MayHaveWritten (Ended (Usage text)) = ⊥
+MayHaveWritten (Left job) = ⊥
+
+-- the end of a job
+abbrev pub ending : Result (Unit {0}) Refusal → End
+ending (Ok done) = Done
+ending (Err e) = Refused e
 
 -- the exit status
 abbrev pub status_of : End → ℕ

@@ -1,9 +1,8 @@
 //! The jobs, and how the program ends.
 
-ghost use Rattle.std.specs.Prelude.{◌≡◌, ◌≢◌, IfOk, IfErr, OnOk, IfSome, map, string_bytes};
+ghost use Rattle.std.specs.Prelude.{◌≡◌, map, string_bytes};
 ghost use Rattle.std.specs.Io.KnownBytes.{Keeps};
-ghost use Rattle.mirror_app.specs.CommandLine.{IsWithin};
-ghost use Rattle.mirror_app.specs.Jobs.{IsDoneBy, IsRefusedBy, EndsAs, MayHaveWritten, status_of};
+ghost use Rattle.mirror_app.specs.Jobs.{RunsAs, MayHaveWritten, ending, status_of};
 
 use crate::usage::WordsFault;
 use crate::words::{Words, read_words};
@@ -66,42 +65,44 @@ impl From<WordsFault> for End {
     }
 }
 
-/// Does a job.
-fn run_job<R: Read, W: Write>(
-    alloc: Global,
-    job: Words,
-    reader: &mut R,
-    writer: &mut W,
-) -> Result<(), Refusal>
-    requires { IsWithin job }
-    ensures ok { OnOk result (IfSome (R.remaining reader.old) (λ input.
-        IsDoneBy job input (W.contents writer.old) (W.contents writer.new))) }
-    ensures err { IfErr result (λ e. IfSome (R.remaining reader.old) (λ input. IsRefusedBy job input e)) }
-    ensures unwritten { IfErr result (λ e. e ≢ Refusal.Write → Keeps (W.contents writer.old) (W.contents writer.new)) }
+/// What a run of the program comes to.
+#[derive(Debug, Drop)]
+pub enum Went {
+    /// It has ended.
+    Ended(End),
+    /// What is left to do isn't done on standard input: `serve` or `sync`.
+    Left(Words),
+}
+
+/// How a job ended.
+fn ended(done: Result<(), Refusal>) -> End
+    ensures { result ≡ ending done }
 {
-    match job {
-        Words::Recon(limit) => run_recon(alloc, reader, writer, limit),
-        Words::Plan => run_plan(alloc, reader, writer),
-        Words::Check => run_check(alloc, reader, writer),
+    match done {
+        Ok(()) => End::Done,
+        Err(refusal) => End::Refused(refusal),
     }
 }
 
-/// Does the job that the words name, the program's name first.
+/// Does the job that the words name, the program's name first, unless it is left to do.
 pub fn run<R: Read, W: Write>(
     alloc: Global,
     words: &[String],
     reader: &mut R,
     writer: &mut W,
-) -> End
-    ensures ends { EndsAs (map string_bytes words.now) (R.remaining reader.old) (W.contents writer.old) (W.contents writer.new) result }
+) -> Went
+    ensures ends { RunsAs (map string_bytes words.now) (R.remaining reader.old) (W.contents writer.old) (W.contents writer.new) result }
     ensures unwritten { ¬ MayHaveWritten result → Keeps (W.contents writer.old) (W.contents writer.new) }
 {
     let job = match read_words(alloc, words) {
         Ok(job) => job,
-        Err(fault) => return End::from(fault),
+        Err(fault) => return Went::Ended(End::from(fault)),
     };
-    match run_job(alloc, job, reader, writer) {
-        Ok(()) => End::Done,
-        Err(refusal) => End::Refused(refusal),
+    match job {
+        Words::Recon(limit) => Went::Ended(ended(run_recon(alloc, reader, writer, limit))),
+        Words::Plan => Went::Ended(ended(run_plan(alloc, reader, writer))),
+        Words::Check => Went::Ended(ended(run_check(alloc, reader, writer))),
+        Words::Serve(path) => Went::Left(Words::Serve(path)),
+        Words::Sync(path, progress) => Went::Left(Words::Sync(path, progress)),
     }
 }

@@ -1,6 +1,6 @@
 //! Words, jobs and ends from tables.
 
-use crate::jobs::{End, run};
+use crate::jobs::{End, Went, run};
 use crate::usage::{WordsFault, words_of};
 use crate::words::{Words, read_words};
 use std::alloc::Global;
@@ -16,20 +16,36 @@ fn named(alloc: Global, line: &str) -> Result<Vec<String>, Fail> {
     Ok(words)
 }
 
+/// The job that the words name, and what it is told.
+fn told(alloc: Global, line: &str) -> Result<String, Fail> {
+    let words = named(alloc, line)?;
+    let text = match read_words(alloc, words.as_slice()) {
+        Ok(Words::Recon(limit)) => format!(in alloc; "recon {limit}")?,
+        Ok(Words::Plan) => String::from_str(alloc, "plan")?,
+        Ok(Words::Check) => String::from_str(alloc, "check")?,
+        Ok(Words::Serve(path)) => format!(in alloc; "serve {}", path.as_str())?,
+        Ok(Words::Sync(path, progress)) => format!(in alloc; "sync {} {progress}", path.as_str())?,
+        Err(_) => String::new(alloc),
+    };
+    Ok(text)
+}
+
 #[test]
 fn words_that_name_a_job(rt: HostRuntime) -> Result<(), Fail> {
     let alloc = rt.alloc();
     for (line, job) in [
-        ("recon", Words::Recon(60_000)),
-        ("recon --limit 4096", Words::Recon(4_096)),
-        ("recon --limit=1048576", Words::Recon(1_048_576)),
-        ("recon --limit +05000", Words::Recon(5_000)),
-        ("plan", Words::Plan),
-        ("check", Words::Check),
+        ("recon", "recon 60000"),
+        ("recon --limit 4096", "recon 4096"),
+        ("recon --limit=1048576", "recon 1048576"),
+        ("recon --limit +05000", "recon 5000"),
+        ("plan", "plan"),
+        ("check", "check"),
+        ("serve relay.toml", "serve relay.toml"),
+        ("sync ./mirror.toml", "sync ./mirror.toml false"),
+        ("sync --progress a", "sync a true"),
+        ("sync -- --progress", "sync --progress false"),
     ] {
-        let words = named(alloc, line)?;
-        let read = read_words(alloc, words.as_slice()).ok();
-        assert_eq!(rt; read, Some(job), "{line}");
+        assert_eq!(rt; told(alloc, line)?.as_str(), job, "{line}");
     }
     Ok(())
 }
@@ -54,7 +70,7 @@ const RECON_USAGE: &str =
 
 /// Words that name no job, and how the text begins and ends that the Rust crate `clap` 4.5 tells of them; behind a
 /// fault of the limit stands how `recon` is used.
-static REFUSED: [(&str, &str, &str); 24] = [
+static REFUSED: [(&str, &str, &str); 27] = [
     ("", "", ""),
     ("--help", ABOUT, ""),
     ("-h", ABOUT, ""),
@@ -119,6 +135,17 @@ static REFUSED: [(&str, &str, &str); 24] = [
         "",
     ),
     ("help plan", "Shares out the offers", ""),
+    (
+        "serve",
+        "error: the following required arguments were not provided:\n  <SETTINGS>\n",
+        "",
+    ),
+    ("sync a b", "error: unexpected argument 'b' found", ""),
+    (
+        "serve --progress a",
+        "error: unexpected argument '--progress' found",
+        "",
+    ),
     (
         "help nothing",
         "error: unrecognized subcommand 'nothing'",
@@ -236,7 +263,10 @@ fn each_job_through_its_words(rt: HostRuntime) -> Result<(), Fail> {
         let input = (*input).replace(alloc, "AA", AA)?;
         let wanted = (*wanted).replace(alloc, "AA", AA)?;
         let mut written = Vec::new(alloc);
-        let end = run(alloc, words.as_slice(), &mut input.as_bytes(), &mut written);
+        let Went::Ended(end) = run(alloc, words.as_slice(), &mut input.as_bytes(), &mut written)
+        else {
+            return Err(Fail::from("left"));
+        };
         let text = format!(in alloc; "{end}")?;
         let is_right = written.as_slice() == wanted.as_bytes()
             && text.as_str() == *told

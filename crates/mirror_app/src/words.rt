@@ -1,21 +1,22 @@
 //! The job that the program's words name.
 
 ghost use Rattle.std.specs.Prelude.{◌≡◌, ◌≤◌, false, map, codes, Some, IfOk, OnOk, IfErr, string_bytes};
-ghost use Rattle.clap.specs.Words.{app_of, rule_of, shape_of, subcommand_name_of, subcommand_of, subcommand_rows_of, found_of, one_of, rows_of};
+ghost use Rattle.clap.specs.Words.{app_of, rule_of, shape_of, subcommand_name_of, subcommand_of, subcommand_rows_of, found_of, first_of, one_of, rows_of};
 ghost use Rattle.clap.specs.declared.builder.command.Command.TheViews.{out-Command as fields_of};
 ghost use Rattle.clap.specs.Simple.{new_shape};
-ghost use Rattle.mirror_app.specs.CommandLine.{nostr_mirror, program as the_program, recon as the_recon, limit_rule, name_of, IsJob, IsWithin, IsLimitOf, TellsLimit, limit_text, IsNamed, IsAccepted, IsDue};
+ghost use Rattle.mirror_app.specs.CommandLine.{nostr_mirror, program as the_program, recon as the_recon, serve as the_serve, sync as the_sync, limit_rule, settings_rule, progress_rule, IsPathOf, Tells, name_of, IsJob, IsWithin, IsLimitOf, limit_text, IsNamed, IsAccepted, IsDue};
 
 use crate::usage::{WordsFault, fault_of};
-use clap::{Arg, ArgMatches, Command, value_parser};
+use clap::{Arg, ArgAction, ArgMatches, Command, value_parser};
 use neg_session::{DEFAULT_LIMIT, LEAST_LIMIT, MOST_LIMIT};
+use nostr_event::Text;
 use std::alloc::{AllocError, Global};
 
 /// What `--version` tells.
 const VERSION: &str = "0.1.0";
 
 /// What the program is to do.
-#[derive(Clone, Copy, Debug, PartialEq, Eq)]
+#[derive(Debug, Drop)]
 pub enum Words {
     /// Compare two lists of items, read from standard input, by messages of at most so many bytes, 4,096 to
     /// 1,048,576.
@@ -24,6 +25,10 @@ pub enum Words {
     Plan,
     /// Tell the busiest load of a plan text, read from standard input, where no sharing has less.
     Check,
+    /// Serve events to connections, by the settings of the file at this path.
+    Serve(Text),
+    /// Synchronise with relays, by the settings of the file at this path, and tell of its progress if that is asked for.
+    Sync(Text, bool),
 }
 
 /// A subcommand that takes no words.
@@ -44,6 +49,49 @@ fn limit_option<'a>(alloc: Global) -> Arg<'a>
         .value_name("N")
         .help("How many bytes a message may have, 4096 to 1048576 [default: 60000]")
         .value_parser(value_parser!(usize).range(4096..=1_048_576))
+}
+
+/// The path of the file of settings.
+fn settings_argument<'a>(alloc: Global) -> Arg<'a>
+    ensures rule { rule_of result ≡ settings_rule }
+    ensures local { result.global ≡ false }
+{
+    Arg::new(alloc, "SETTINGS")
+        .required(true)
+        .help("The path of a TOML file with the settings")
+}
+
+/// The option that asks for progress.
+fn progress_option<'a>(alloc: Global) -> Arg<'a>
+    ensures rule { rule_of result ≡ progress_rule }
+    ensures local { result.global ≡ false }
+{
+    Arg::new(alloc, "progress")
+        .long("progress")
+        .help("Tells on standard error how far it is")
+        .action(ArgAction::SetTrue)
+}
+
+/// The subcommand that serves events.
+fn serve<'a>(alloc: Global) -> Result<Command<'a>, AllocError>
+    ensures shape { IfOk result (λ c. shape_of c ≡ the_serve.top) }
+    ensures local { IfOk result (λ c. (fields_of c).has_globals ≡ false) }
+{
+    bare(alloc, "serve", "Serves events to connections").arg(settings_argument(alloc))
+}
+
+/// The subcommand that synchronises with relays.
+fn sync<'a>(alloc: Global) -> Result<Command<'a>, AllocError>
+    ensures shape { IfOk result (λ c. shape_of c ≡ the_sync.top) }
+    ensures local { IfOk result (λ c. (fields_of c).has_globals ≡ false) }
+{
+    bare(
+        alloc,
+        "sync",
+        "Fetches the events that relays have and the events file lacks",
+    )
+    .arg(settings_argument(alloc))?
+    .arg(progress_option(alloc))
 }
 
 /// The subcommand that compares two lists.
@@ -86,10 +134,14 @@ pub fn command<'a>(alloc: Global) -> Result<Command<'a>, AllocError>
         "check",
         "Prints the busiest load of a plan, read from standard input, if it is shown to be least",
     );
+    let serve = serve(alloc)?;
+    let sync = sync(alloc)?;
     program(alloc)?
         .subcommand(recon)?
         .subcommand(plan)?
-        .subcommand(check)
+        .subcommand(check)?
+        .subcommand(serve)?
+        .subcommand(sync)
 }
 
 /// The limit that the words of a subcommand name, or the default.
@@ -115,19 +167,59 @@ fn limit_of(matches: &ArgMatches) -> usize
     }
 }
 
+/// The path that the words of a subcommand name.
+fn path_named(alloc: Global, matches: &ArgMatches) -> Result<Text, AllocError>
+    ensures { IfOk result (IsPathOf (first_of (codes "SETTINGS") (rows_of (found_of matches.now)))) }
+{
+    match matches.get_str("SETTINGS") {
+        Some(path) => Ok(Text::new(String::from_str(alloc, path)?)),
+        None => Ok(Text::new(String::new(alloc))),
+    }
+}
+
+/// The job `serve`.
+fn serve_of(alloc: Global, matches: &ArgMatches) -> Result<Words, AllocError>
+    requires { subcommand_name_of matches.now ≡ Some (codes "serve") }
+    ensures name { IfOk result (λ job. subcommand_name_of matches.now ≡ Some (name_of job)) }
+    ensures limit { IfOk result IsWithin }
+    ensures exact { IfOk result (Tells (subcommand_rows_of matches.now)) }
+{
+    match matches.subcommand_matches("serve") {
+        Some(serve) => Ok(Words::Serve(path_named(alloc, serve)?)),
+        None => unreachable!(),
+    }
+}
+
+/// The job `sync`.
+fn sync_of(alloc: Global, matches: &ArgMatches) -> Result<Words, AllocError>
+    requires { subcommand_name_of matches.now ≡ Some (codes "sync") }
+    ensures name { IfOk result (λ job. subcommand_name_of matches.now ≡ Some (name_of job)) }
+    ensures limit { IfOk result IsWithin }
+    ensures exact { IfOk result (Tells (subcommand_rows_of matches.now)) }
+{
+    match matches.subcommand_matches("sync") {
+        Some(sync) => Ok(Words::Sync(path_named(alloc, sync)?, sync.get_flag("progress"))),
+        None => unreachable!(),
+    }
+}
+
 /// The job of the subcommand that was met.
-fn job_of(matches: &ArgMatches) -> Words
+fn job_of(alloc: Global, matches: &ArgMatches) -> Result<Words, AllocError>
     requires { IsJob (subcommand_name_of matches.now) }
-    ensures name { subcommand_name_of matches.now ≡ Some (name_of result) }
-    ensures limit { IsWithin result }
-    ensures exact { TellsLimit (subcommand_rows_of matches.now) result }
+    ensures name { IfOk result (λ job. subcommand_name_of matches.now ≡ Some (name_of job)) }
+    ensures limit { IfOk result IsWithin }
+    ensures exact { IfOk result (Tells (subcommand_rows_of matches.now)) }
 {
     if matches.subcommand_matches("plan").is_some() {
-        Words::Plan
+        Ok(Words::Plan)
     } else if matches.subcommand_matches("check").is_some() {
-        Words::Check
+        Ok(Words::Check)
+    } else if matches.subcommand_matches("serve").is_some() {
+        serve_of(alloc, matches)
+    } else if matches.subcommand_matches("sync").is_some() {
+        sync_of(alloc, matches)
     } else {
-        Words::Recon(limit_of(matches))
+        Ok(Words::Recon(limit_of(matches)))
     }
 }
 
@@ -136,12 +228,14 @@ pub fn read_words(alloc: Global, words: &[String]) -> Result<Words, WordsFault>
     ensures accepted { OnOk result (IsAccepted (map string_bytes words.now)) }
     ensures named { IfOk result (IsNamed (map string_bytes words.now)) }
     ensures limit { IfOk result IsWithin }
-    ensures exact { IfOk result (TellsLimit (subcommand_of nostr_mirror (map string_bytes words.now))) }
+    ensures exact { IfOk result (Tells (subcommand_of nostr_mirror (map string_bytes words.now))) }
     ensures refused { IfErr result (IsDue (map string_bytes words.now)) }
 {
     let command = command(alloc)?;
-    match command.try_get_matches_from(words) {
-        Ok(matches) => Ok(job_of(&matches)),
-        Err(error) => Err(fault_of(alloc, error)),
-    }
+    let matches = match command.try_get_matches_from(words) {
+        Ok(matches) => matches,
+        Err(error) => return Err(fault_of(alloc, error)),
+    };
+    let job = job_of(alloc, &matches)?;
+    Ok(job)
 }

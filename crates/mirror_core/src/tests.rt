@@ -121,7 +121,7 @@ fn needed_ids_are_shared_out(rt: HostRuntime) -> Result<(), Fail> {
         let mut peers = peers_of(alloc, case.relays)?;
         let bases = bases_of(case.bases)?;
         let limits = SessionLimits::default();
-        let done = sync_plan(&rt, alloc, &mut peers, &mine, &bases, &limits)?;
+        let done = sync_roll(&rt, alloc, &mut peers, &mine, &bases, &limits)?;
         assert!(rt; is_as_told(&done, case));
     }
     Ok(())
@@ -144,7 +144,7 @@ fn more_than_64_relays_share_out(rt: HostRuntime) -> Result<(), Fail> {
     let mine = roll_of(alloc, b"")?;
     let mut peers = alike(alloc, 65)?;
     let limits = SessionLimits::default();
-    let done = sync_plan(&rt, alloc, &mut peers, &mine, &Bases::none(), &limits)?;
+    let done = sync_roll(&rt, alloc, &mut peers, &mine, &Bases::none(), &limits)?;
     assert_eq!(rt; done.ends.len(), 65);
     assert!(rt; all_finished(&done.ends));
     assert_eq!(rt; done.plan.least_max(), 1);
@@ -158,7 +158,7 @@ fn one_to_256_relays_are_asked(rt: HostRuntime) -> Result<(), Fail> {
     let limits = SessionLimits::default();
     for (count, fault) in [(0, SyncFault::NoRelay), (257, SyncFault::TooMany)] {
         let mut peers = alike(alloc, count)?;
-        let ended = sync_plan(&rt, alloc, &mut peers, &mine, &Bases::none(), &limits);
+        let ended = sync_roll(&rt, alloc, &mut peers, &mine, &Bases::none(), &limits);
         assert!(rt; ended.err() == Some(fault));
         for peer in &peers {
             assert!(rt; peer.pairs().is_empty());
@@ -276,7 +276,7 @@ fn two_sessions_meet(rt: HostRuntime) -> Result<(), Fail> {
     ];
     let mine = roll_of(alloc, b"")?;
     let limits = SessionLimits::default();
-    let done = sync_plan(&rt, alloc, &mut peers, &mine, &Bases::none(), &limits)?;
+    let done = sync_roll(&rt, alloc, &mut peers, &mine, &Bases::none(), &limits)?;
     assert_eq!(rt; done.ends.len(), 2);
     assert!(rt; all_finished(&done.ends));
     assert_eq!(rt; done.plan.len(), 0);
@@ -293,7 +293,7 @@ fn one_fails(rt: HostRuntime) -> Result<(), Fail> {
     ];
     let mine = roll_of(alloc, b"")?;
     let limits = SessionLimits::default();
-    let done = sync_plan(&rt, alloc, &mut peers, &mine, &Bases::none(), &limits)?;
+    let done = sync_roll(&rt, alloc, &mut peers, &mine, &Bases::none(), &limits)?;
     assert_eq!(rt; done.ends.len(), 2);
     assert!(rt; matches!(&done.ends[0], End::Failed(SessionFault::PeerFailed)));
     assert!(rt; matches!(&done.ends[1], End::Finished(_)));

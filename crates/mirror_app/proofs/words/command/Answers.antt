@@ -1,6 +1,6 @@
 use Rattle.std.proofs.Common.{◌≡◌}
-use Rattle.clap.specs.Words.{app_of, with_subcommand}
-use Rattle.mirror_app.specs.CommandLine.{program, recon, plan, check}
+use Rattle.clap.specs.Words.{App, app_of, with_subcommand}
+use Rattle.mirror_app.specs.CommandLine.{program, recon, plan, check, serve, sync}
 use Rattle.mirror_app.proofs.Commands.{added, last_added}
 use Rattle.mirror_app.proofs.words.command.Goals as goal
 
@@ -10,4 +10,10 @@ returns c =
     added c.in_ok-program.field-0 c.in_ok-recon.recon c.in_ok-subcommand.field-0 program recon.top c.in_ok-subcommand.ensures c.in_ok-recon.ensures.local c.in_ok-program.ensures c.in_ok-recon.ensures.shape in
     let two : app_of c.in_ok-subcommand-2.field-0 ≡ with_subcommand (with_subcommand program recon.top) plan.top =
     added c.in_ok-subcommand.field-0 c.bare-plan.result c.in_ok-subcommand-2.field-0 (with_subcommand program recon.top) plan.top c.in_ok-subcommand-2.ensures c.bare-plan.ensures.local one c.bare-plan.ensures.shape in
-    last_added c.subcommand-3.result c.in_ok-subcommand-2.field-0 c.bare-check.result (with_subcommand (with_subcommand program recon.top) plan.top) check.top c.subcommand-3.ensures c.bare-check.ensures.local two c.bare-check.ensures.shape
+    let all2 : App = with_subcommand (with_subcommand program recon.top) plan.top in
+    let three : app_of c.in_ok-subcommand-3.field-0 ≡ with_subcommand all2 check.top =
+    added c.in_ok-subcommand-2.field-0 c.bare-check.result c.in_ok-subcommand-3.field-0 all2 check.top c.in_ok-subcommand-3.ensures c.bare-check.ensures.local two c.bare-check.ensures.shape in
+    let all3 : App = with_subcommand all2 check.top in
+    let four : app_of c.in_ok-subcommand-4.field-0 ≡ with_subcommand all3 serve.top =
+    added c.in_ok-subcommand-3.field-0 c.in_ok-serve.serve c.in_ok-subcommand-4.field-0 all3 serve.top c.in_ok-subcommand-4.ensures c.in_ok-serve.ensures.local three c.in_ok-serve.ensures.shape in
+    last_added c.subcommand-5.result c.in_ok-subcommand-4.field-0 c.in_ok-sync.sync (with_subcommand all3 serve.top) sync.top c.subcommand-5.ensures c.in_ok-sync.ensures.local four c.in_ok-sync.ensures.shape

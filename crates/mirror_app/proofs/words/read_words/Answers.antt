@@ -26,8 +26,8 @@ pub returns-in_err-command-clause-refused : goal.returns-in_err-command-clause-r
 returns-in_err-command-clause-refused c =
     let p = err_from_is_err_and c.from_residual.result c.from_residual.ensures.1 in rw (p.1, p.2) tt
 
-pub returns-in-Ok-clause-accepted : goal.returns-in-Ok-clause-accepted
-returns-in-Ok-clause-accepted c =
+pub returns-clause-accepted : goal.returns-clause-accepted
+returns-clause-accepted c =
     let app = c.in_ok-command.ensures in
     let taken = c.in-Ok.ensures.kinds (ap is_simple_and_free app ∙ is_plain) in
     ap (λ (a : App). fault_of a (map string_bytes c.args.words.now)) (sym app) ∙ taken
@@ -56,9 +56,13 @@ job_of-requires c =
     let taken = ap (λ (a : App). fault_of a words) (sym app) ∙ c.in-Ok.ensures.kinds (ap is_simple_and_free app ∙ is_plain) in
     has_job (app_of c.in_ok-command.command) words c.in-Ok.matches app taken c.in-Ok.ensures.matches
 
-pub returns-in-Ok-clause-named : goal.returns-in-Ok-clause-named
-returns-in-Ok-clause-named c =
+pub returns-clause-named : goal.returns-clause-named
+returns-clause-named c =
     let app = c.in_ok-command.ensures in
     let words : List Text = map string_bytes c.args.words.now in
     let taken = ap (λ (a : App). fault_of a words) (sym app) ∙ c.in-Ok.ensures.kinds (ap is_simple_and_free app ∙ is_plain) in
-    sym (same_name (app_of c.in_ok-command.command) words c.in-Ok.matches app taken c.in-Ok.ensures.matches) ∙ c.job_of.ensures.name
+    sym (same_name (app_of c.in_ok-command.command) words c.in-Ok.matches app taken c.in-Ok.ensures.matches) ∙ c.in_ok-job.ensures.name
+
+pub returns-in_err-job-clause-refused : goal.returns-in_err-job-clause-refused
+returns-in_err-job-clause-refused c =
+    let p = err_from_is_err_and c.from_residual-in_err-job.result c.from_residual-in_err-job.ensures.1 in rw (p.1, p.2) tt

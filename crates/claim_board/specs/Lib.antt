@@ -1,0 +1,4 @@
+pub mod Rules
+pub mod Steps
+pub mod Views
+pub mod Laws

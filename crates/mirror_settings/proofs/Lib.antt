@@ -1,0 +1,3 @@
+mod Forms
+mod Colons
+mod Refusals

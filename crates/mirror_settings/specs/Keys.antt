@@ -1,0 +1,27 @@
+-- The keys of the settings.
+use Rattle.std.specs.Prelude.{ℕ, List, codes}
+use Rattle.mirror_settings.specs.declared.fault.SettingsKey.{SettingsKey}
+use Rattle.mirror_settings.specs.declared.fault.SettingsKey.TheVariants.{Events, Listen, Conns, Relays, Filter, Workers, Bases, Rounds, PushMs}
+
+abbrev pub name_of : SettingsKey → List ℕ
+name_of Events = codes "events"
+name_of Listen = codes "listen"
+name_of Conns = codes "conns"
+name_of Relays = codes "relays"
+name_of Filter = codes "filter"
+name_of Workers = codes "workers"
+name_of Bases = codes "bases"
+name_of Rounds = codes "rounds"
+name_of PushMs = codes "push_ms"
+
+-- its place in the order in which the keys are looked at
+abbrev pub place_of : SettingsKey → ℕ
+place_of Events = 0
+place_of Listen = 1
+place_of Conns = 2
+place_of Relays = 3
+place_of Filter = 4
+place_of Workers = 5
+place_of Bases = 6
+place_of Rounds = 7
+place_of PushMs = 8

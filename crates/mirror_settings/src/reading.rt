@@ -1,0 +1,177 @@
+//! The settings that a TOML text tells.
+
+ghost use Rattle.std.specs.Prelude.{◌≡◌, ℕ, Bool, List, IfOk, IfErr};
+ghost use Rattle.toml.specs.Data.{Members};
+ghost use Rattle.toml.specs.Parse.{parse_document};
+ghost use Rattle.toml.specs.View.{table_view};
+ghost use Rattle.mirror_settings.specs.Settings.{Fails, HasEvents, HasListen, HasConns, HasRelays, HasFilter, HasWorkers, HasBases, HasRounds, HasPushMs, Tells, Refuses, RefusesTable, Stops};
+
+use crate::address::Address;
+use crate::fault::{SettingsFault, SettingsKey};
+use crate::lists::{Addresses, Loads};
+use crate::settings::Settings;
+use crate::values::{
+    address_in, addresses_in, filter_in, loads_in, no_loads, value_at, whole_at, whole_in,
+};
+use nostr_event::Text;
+use nostr_filter::Filter;
+use std::alloc::Global;
+use toml::Table;
+
+fn events_at(alloc: Global, table: &Table) -> Result<Text, SettingsFault>
+    ensures ok { IfOk result (HasEvents (table_view table.now)) }
+    ensures err { IfErr result (λ e. (sync : Bool) → Stops sync (table_view table.now) SettingsKey.Events e) }
+{
+    let Some(value) = value_at(table, SettingsKey::Events) else {
+        return Err(SettingsFault::Key(SettingsKey::Events));
+    };
+    match value.as_str() {
+        Some(path) => Ok(Text::new(String::from_str(alloc, path)?)),
+        None => Err(SettingsFault::Key(SettingsKey::Events)),
+    }
+}
+
+fn listen_at(alloc: Global, table: &Table, sync: bool) -> Result<Option<Address>, SettingsFault>
+    ensures ok { IfOk result (HasListen sync (table_view table.now)) }
+    ensures err { IfErr result (Stops sync (table_view table.now) SettingsKey.Listen) }
+{
+    match value_at(table, SettingsKey::Listen) {
+        Some(value) => Ok(Some(address_in(alloc, value, SettingsKey::Listen)?)),
+        None if sync => Ok(None),
+        None => Err(SettingsFault::Key(SettingsKey::Listen)),
+    }
+}
+
+fn conns_at(table: &Table) -> Result<Option<u64>, SettingsFault>
+    ensures ok { IfOk result (HasConns (table_view table.now)) }
+    ensures err { IfErr result (λ e. (sync : Bool) → Stops sync (table_view table.now) SettingsKey.Conns e) }
+{
+    let is_listening = value_at(table, SettingsKey::Listen).is_some();
+    let conns = whole_at(table, SettingsKey::Conns, 1, 1_000_000)?;
+    if conns.is_none() && is_listening {
+        return Err(SettingsFault::Key(SettingsKey::Conns));
+    }
+    Ok(conns)
+}
+
+fn relays_at(alloc: Global, table: &Table, sync: bool) -> Result<Addresses, SettingsFault>
+    ensures ok { IfOk result (HasRelays sync (table_view table.now)) }
+    ensures err { IfErr result (Stops sync (table_view table.now) SettingsKey.Relays) }
+{
+    if !sync {
+        return Ok(Addresses::new(Vec::new(alloc)));
+    }
+    let Some(value) = value_at(table, SettingsKey::Relays) else {
+        return Err(SettingsFault::Key(SettingsKey::Relays));
+    };
+    let Some(values) = value.as_array() else {
+        return Err(SettingsFault::Key(SettingsKey::Relays));
+    };
+    let count = values.len();
+    if count == 0 || count > 256 {
+        return Err(SettingsFault::Key(SettingsKey::Relays));
+    }
+    addresses_in(alloc, values.as_slice())
+}
+
+fn filter_at(alloc: Global, table: &Table, sync: bool) -> Result<Filter, SettingsFault>
+    ensures ok { IfOk result (HasFilter sync (table_view table.now)) }
+    ensures err { IfErr result (Stops sync (table_view table.now) SettingsKey.Filter) }
+{
+    if !sync {
+        return Ok(Filter::all());
+    }
+    match value_at(table, SettingsKey::Filter) {
+        Some(value) => filter_in(alloc, value),
+        None => Ok(Filter::all()),
+    }
+}
+
+fn workers_at(table: &Table, sync: bool) -> Result<u64, SettingsFault>
+    ensures ok { IfOk result (HasWorkers sync (table_view table.now)) }
+    ensures err { IfErr result (Stops sync (table_view table.now) SettingsKey.Workers) }
+{
+    if !sync {
+        return Ok(1);
+    }
+    match value_at(table, SettingsKey::Workers) {
+        Some(value) => whole_in(value, 1, 4).ok_or(SettingsFault::Key(SettingsKey::Workers)),
+        None => Ok(1),
+    }
+}
+
+fn bases_at(alloc: Global, table: &Table, sync: bool, count: usize) -> Result<Loads, SettingsFault>
+    ensures ok { IfOk result (HasBases sync (table_view table.now) count) }
+    ensures err { IfErr result (Fails SettingsKey.Bases ((v : List ℕ) → ¬ HasBases sync (table_view table.now) count v)) }
+{
+    if !sync {
+        return Ok(Loads::new(Vec::new(alloc)));
+    }
+    let Some(value) = value_at(table, SettingsKey::Bases) else {
+        return no_loads(alloc, count);
+    };
+    let Some(values) = value.as_array() else {
+        return Err(SettingsFault::Key(SettingsKey::Bases));
+    };
+    if values.len() != count {
+        return Err(SettingsFault::Key(SettingsKey::Bases));
+    }
+    loads_in(alloc, values.as_slice())
+}
+
+fn rounds_at(table: &Table, sync: bool) -> Result<u64, SettingsFault>
+    ensures ok { IfOk result (HasRounds sync (table_view table.now)) }
+    ensures err { IfErr result (Stops sync (table_view table.now) SettingsKey.Rounds) }
+{
+    if !sync {
+        return Ok(1);
+    }
+    match value_at(table, SettingsKey::Rounds) {
+        Some(value) => whole_in(value, 1, 16).ok_or(SettingsFault::Key(SettingsKey::Rounds)),
+        None => Ok(1),
+    }
+}
+
+/// The settings that a table tells.
+fn settings_of(alloc: Global, table: &Table, sync: bool) -> Result<Settings, SettingsFault>
+    ensures ok { IfOk result (Tells sync (table_view table.now)) }
+    ensures err { IfErr result (RefusesTable sync (table_view table.now)) }
+{
+    let events = events_at(alloc, table)?;
+    let listen = listen_at(alloc, table, sync)?;
+    let conns = conns_at(table)?;
+    let relays = relays_at(alloc, table, sync)?;
+    let filter = filter_at(alloc, table, sync)?;
+    let workers = workers_at(table, sync)?;
+    let count = relays.as_slice().len();
+    let bases = bases_at(alloc, table, sync, count)?;
+    let rounds = rounds_at(table, sync)?;
+    let push_ms = whole_at(table, SettingsKey::PushMs, 1, 60_000)?;
+    Ok(Settings {
+        events,
+        listen,
+        conns,
+        relays,
+        filter,
+        workers,
+        bases,
+        rounds,
+        push_ms,
+    })
+}
+
+/// The settings that a TOML text tells of a run that synchronises, or else of one that serves. Keys that aren't settings are
+/// passed over.
+pub fn read_settings(alloc: Global, text: &str, sync: bool) -> Result<Settings, SettingsFault>
+    ensures ok { IfOk result (λ s. (t : Members) × (parse_document text.now ≡ Some t) × Tells sync t s) }
+    ensures err { IfErr result (Refuses sync text.now) }
+{
+    match toml::table_from_str(alloc, text) {
+        Ok(table) => settings_of(alloc, &table, sync),
+        Err(error) => Err(if error.is_memory() {
+            SettingsFault::Memory
+        } else {
+            SettingsFault::Text
+        }),
+    }
+}

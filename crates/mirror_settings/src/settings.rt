@@ -1,0 +1,29 @@
+//! The settings of a run.
+
+use crate::address::Address;
+use crate::lists::{Addresses, Loads};
+use nostr_event::Text;
+use nostr_filter::Filter;
+
+/// The settings of a run that serves, or of one that synchronises and may serve beside.
+#[derive(Debug, Drop)]
+pub struct Settings {
+    /// The path of the events file.
+    pub events: Text,
+    /// Where to listen.
+    pub listen: Option<Address>,
+    /// How many connections are served, 1 to 1,000,000.
+    pub conns: Option<u64>,
+    /// The relays to synchronise with, 1 to 256. None are read where the run only serves.
+    pub relays: Addresses,
+    /// Which events to synchronise.
+    pub filter: Filter,
+    /// How many connections fetch from each relay, 1 to 4.
+    pub workers: u64,
+    /// The load that each relay begins with, at most 1,000,000,000.
+    pub bases: Loads,
+    /// How many rounds of planning and fetching there are at most, 1 to 16.
+    pub rounds: u64,
+    /// After how many milliseconds at most a waiting connection is looked at for new events, 1 to 60,000.
+    pub push_ms: Option<u64>,
+}

@@ -1,0 +1,195 @@
+//! Settings from tables of texts.
+
+use crate::{Settings, SettingsFault, SettingsKey, read_settings};
+use std::alloc::{AllocError, Global};
+use std::test::*;
+
+/// The settings, as one line.
+fn told(alloc: Global, settings: &Settings) -> Result<String, AllocError> {
+    let mut text = format!(in alloc; "{}", settings.events.as_str())?;
+    match &settings.listen {
+        Some(address) => text.push_str(format!(in alloc; " at {address}")?.as_str())?,
+        None => {}
+    }
+    for relay in settings.relays.as_slice() {
+        text.push_str(format!(in alloc; " {relay}")?.as_str())?;
+    }
+    for load in settings.bases.as_slice() {
+        text.push_str(format!(in alloc; " {load}")?.as_str())?;
+    }
+    let conns = settings.conns.unwrap_or(0);
+    let workers = settings.workers;
+    let rounds = settings.rounds;
+    let push_ms = settings.push_ms.unwrap_or(0);
+    let kinds = settings.filter.kinds.is_some();
+    let rest = format!(in alloc;
+        " conns {conns} workers {workers} rounds {rounds} push {push_ms} kinds {kinds}"
+    )?;
+    text.push_str(rest.as_str())?;
+    Ok(text)
+}
+
+/// Whether the run synchronises, a text and its settings.
+static TOLD: [(bool, &str, &str); 6] = [
+    (
+        false,
+        "events = 'e'\nlisten = '127.0.0.1:0'\nconns = 1\nrelays = 7\nworkers = 9\n",
+        "e at 127.0.0.1:0 conns 1 workers 1 rounds 1 push 0 kinds false",
+    ),
+    (
+        false,
+        "push_ms = 60000\nconns = 1000000\nlisten = 'relay.example:65535'\nevents = 'a b'\n",
+        "a b at relay.example:65535 conns 1000000 workers 1 rounds 1 push 60000 kinds false",
+    ),
+    (
+        true,
+        "events = 'e'\nrelays = ['localhost:7000']\n",
+        "e localhost:7000 0 conns 0 workers 1 rounds 1 push 0 kinds false",
+    ),
+    (
+        true,
+        "events = 'e'\nlisten = '[::1]:80'\nconns = 5\nrelays = ['a:1', 'b:2']\nfilter = '{\"kinds\":[1]}'\nworkers = 4\nbases = [0, 1000000000]\nrounds = 16\npush_ms = 1\n",
+        "e at [::1]:80 a:1 b:2 0 1000000000 conns 5 workers 4 rounds 16 push 1 kinds true",
+    ),
+    (
+        true,
+        "events = ''\nconns = 3\nrelays = ['a:0']\nfilter = '{}'\n",
+        " a:0 0 conns 3 workers 1 rounds 1 push 0 kinds false",
+    ),
+    (
+        true,
+        "# none\nother = [1, { a = 2 }]\nevents = 'e'\nrelays = ['a:1']\nworkers = 2\n",
+        "e a:1 0 conns 0 workers 2 rounds 1 push 0 kinds false",
+    ),
+];
+
+#[test]
+fn settings_are_told(rt: HostRuntime) -> Result<(), Fail> {
+    let alloc = rt.alloc();
+    for (sync, text, wanted) in &TOLD {
+        let settings = read_settings(alloc, *text, *sync)?;
+        assert_eq!(rt; told(alloc, &settings)?.as_str(), *wanted);
+    }
+    Ok(())
+}
+
+const FRONT: &str = "events = 'e'\nrelays = ['a:1', 'b:2']\n";
+
+/// The key that is told of the front and a line, where the run synchronises.
+static WRONG: [(&str, SettingsKey); 33] = [
+    ("listen = 'a'", SettingsKey::Listen),
+    ("listen = ':1'", SettingsKey::Listen),
+    ("listen = 'a:'", SettingsKey::Listen),
+    ("listen = 'a:65536'", SettingsKey::Listen),
+    ("listen = 'a:01'", SettingsKey::Listen),
+    ("listen = 'a:+1'", SettingsKey::Listen),
+    ("listen = 'a: 1'", SettingsKey::Listen),
+    ("listen = 1", SettingsKey::Listen),
+    ("listen = 'a:1'", SettingsKey::Conns),
+    ("listen = 'a:1'\nconns = 0", SettingsKey::Conns),
+    ("conns = 1000001", SettingsKey::Conns),
+    ("conns = -1", SettingsKey::Conns),
+    ("conns = '1'", SettingsKey::Conns),
+    ("conns = 1.0", SettingsKey::Conns),
+    ("filter = '['", SettingsKey::Filter),
+    ("filter = '[]'", SettingsKey::Filter),
+    ("filter = '{\"kinds\":[65536]}'", SettingsKey::Filter),
+    ("filter = '{\"ids\":[\"AA\"]}'", SettingsKey::Filter),
+    ("filter = {}", SettingsKey::Filter),
+    ("workers = 0", SettingsKey::Workers),
+    ("workers = 5", SettingsKey::Workers),
+    ("workers = [1]", SettingsKey::Workers),
+    ("bases = [1]", SettingsKey::Bases),
+    ("bases = [1, 2, 3]", SettingsKey::Bases),
+    ("bases = [1, 1000000001]", SettingsKey::Bases),
+    ("bases = [-1, 1]", SettingsKey::Bases),
+    ("bases = 1", SettingsKey::Bases),
+    ("rounds = 0", SettingsKey::Rounds),
+    ("rounds = 17", SettingsKey::Rounds),
+    ("push_ms = 0", SettingsKey::PushMs),
+    ("push_ms = 60001", SettingsKey::PushMs),
+    ("push_ms = 0\nbases = []\nworkers = 9", SettingsKey::Workers),
+    ("push_ms = 0\nrounds = 0\nbases = []", SettingsKey::Bases),
+];
+
+#[test]
+fn wrong_keys_are_told(rt: HostRuntime) -> Result<(), Fail> {
+    let alloc = rt.alloc();
+    for (line, key) in &WRONG {
+        let text = format!(in alloc; "{FRONT}{line}\n")?;
+        let fault = read_settings(alloc, text.as_str(), true).err();
+        assert_eq!(rt; fault, Some(SettingsFault::Key(*key)), "{line}");
+    }
+    Ok(())
+}
+
+/// Whether the run synchronises, a whole text and the fault that is told of it.
+static REFUSED: [(bool, &str, SettingsFault); 12] = [
+    (true, "events", SettingsFault::Text),
+    (true, "events = 'e'\nevents = 'e'\n", SettingsFault::Text),
+    (false, "", SettingsFault::Key(SettingsKey::Events)),
+    (false, "events = 1", SettingsFault::Key(SettingsKey::Events)),
+    (
+        false,
+        "events = 'e'",
+        SettingsFault::Key(SettingsKey::Listen),
+    ),
+    (
+        false,
+        "events = 'e'\nlisten = 'a:1'",
+        SettingsFault::Key(SettingsKey::Conns),
+    ),
+    (
+        false,
+        "events = 'e'\nlisten = 'a:1'\nconns = 1\npush_ms = 0",
+        SettingsFault::Key(SettingsKey::PushMs),
+    ),
+    (
+        true,
+        "events = 'e'",
+        SettingsFault::Key(SettingsKey::Relays),
+    ),
+    (
+        true,
+        "events = 'e'\nrelays = []",
+        SettingsFault::Key(SettingsKey::Relays),
+    ),
+    (
+        true,
+        "events = 'e'\nrelays = ['a:1', 'b']",
+        SettingsFault::Key(SettingsKey::Relays),
+    ),
+    (
+        true,
+        "events = 'e'\nrelays = 'a:1'",
+        SettingsFault::Key(SettingsKey::Relays),
+    ),
+    (
+        true,
+        "events = 'e'\nrelays = [['a:1']]",
+        SettingsFault::Key(SettingsKey::Relays),
+    ),
+];
+
+#[test]
+fn other_texts_are_refused(rt: HostRuntime) -> Result<(), Fail> {
+    let alloc = rt.alloc();
+    for (sync, text, wanted) in &REFUSED {
+        let fault = read_settings(alloc, *text, *sync).err();
+        assert_eq!(rt; fault, Some(*wanted), "{text}");
+    }
+    Ok(())
+}
+
+#[test]
+fn so_many_relays(rt: HostRuntime) -> Result<(), Fail> {
+    let alloc = rt.alloc();
+    let many = "'a:1', ".repeat(alloc, 255)?;
+    let text = format!(in alloc; "events = 'e'\nrelays = [{many}'b:2']\n")?;
+    let settings = read_settings(alloc, text.as_str(), true)?;
+    assert_eq!(rt; settings.relays.as_slice().len(), 256);
+    let text = format!(in alloc; "events = 'e'\nrelays = [{many}'b:2', 'c:3']\n")?;
+    let fault = read_settings(alloc, text.as_str(), true).err();
+    assert_eq!(rt; fault, Some(SettingsFault::Key(SettingsKey::Relays)));
+    Ok(())
+}

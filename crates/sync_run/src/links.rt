@@ -1,0 +1,65 @@
+//! Links to relays.
+
+ghost use Rattle.std.specs.Prelude.{◌≡◌, ◌<◌, ◌^◌, ◌-◌, All, IfOk};
+
+use crate::refusal::SyncRefusal;
+use mirror_settings::Address;
+use nostr_filter::Filter;
+use std::alloc::Global;
+use std::io::{Read, Write};
+use std::net::{Net, OpenStream, TcpStream};
+use std::random::RandomSource;
+use tungstenite::RandomKeys;
+use ws_link::{LinkFault, WsPeer};
+
+/// A connection with a relay, if it can be made.
+fn connected<R: Net>(rt: &R, host: &str) -> Option<R::Stream> {
+    let stream = TcpStream::connect(rt, host).ok()?;
+    let _ = stream.set_nodelay(true);
+    Some(stream)
+}
+
+/// A peer that is the relay at this address, or one that can't be reached.
+fn linked<'a, R: Net + RandomSource>(
+    rt: &'a R,
+    alloc: Global,
+    address: &Address,
+    filter: &Filter,
+) -> Result<WsPeer<R::Stream, RandomKeys<&'a R>>, SyncRefusal>
+    ensures { IfOk result (λ peer. peer.faults ≡ 0) }
+{
+    let host = format!(in alloc; "{address}")?;
+    let Some(stream) = connected(rt, host.as_str()) else {
+        return Ok(WsPeer::unreachable(alloc));
+    };
+    match WsPeer::start(alloc, rt, stream, host.as_str(), filter) {
+        Ok(peer) => Ok(peer),
+        Err(LinkFault::Memory) => Err(SyncRefusal::Memory),
+        Err(_) => Ok(WsPeer::unreachable(alloc)),
+    }
+}
+
+/// A peer for each relay, in their order.
+pub fn linked_all<'a, R: Net + RandomSource>(
+    rt: &'a R,
+    alloc: Global,
+    relays: &[Address],
+    filter: &Filter,
+) -> Result<Vec<WsPeer<R::Stream, RandomKeys<&'a R>>>, SyncRefusal>
+    ensures { IfOk result (λ peers. All (λ peer. peer.faults < 2 ^ 64 - 1) peers.items) }
+{
+    let mut peers = Vec::new(alloc);
+    for relay in relays {
+        peers.push(linked(rt, alloc, relay, filter)?)?;
+    }
+    Ok(peers)
+}
+
+/// Ends the sessions, as far as that can be said to the relays.
+pub fn finish_all<S: Read + Write + Drop, R: RandomSource + Drop>(
+    peers: Vec<WsPeer<S, RandomKeys<R>>>,
+) {
+    for peer in peers {
+        let _ = peer.finish();
+    }
+}
