@@ -13,6 +13,7 @@ mod rolls;
 pub mod waiting;
 
 pub use input::{LONGEST_INPUT, read_input};
+pub use lines::cut_line;
 pub use lists::{Lists, read_lists};
 pub use output::write_recon;
 pub use placing::place_items;

@@ -6,7 +6,7 @@ ghost use Rattle.mirror_run.specs.Lines.{lines_of};
 use memchr::memchr;
 
 /// The first line, without the line feed at its end, and the text after it; none where the text is empty.
-pub(crate) fn cut_line(text: &[u8]) -> Option<(&[u8], &[u8])>
+pub fn cut_line(text: &[u8]) -> Option<(&[u8], &[u8])>
     ensures lines { MatchOption result (lines_of text.now ≡ []) (λ cut. lines_of text.now ≡ cut.0.now ∷ lines_of cut.1.now) }
     ensures shorter { IfSome result (λ cut. length cut.1.now < length text.now) }
 {

@@ -1,0 +1,3 @@
+pub mod Plain
+pub mod Written
+pub mod Told

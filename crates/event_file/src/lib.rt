@@ -1,0 +1,15 @@
+//! Files of events: one event as JSON a line. Read into a store, and written from a list.
+#![tactic(auto)]
+
+mod fault;
+mod path;
+mod reading;
+mod writing;
+
+pub use fault::FileFault;
+pub use path::{NewFile, read_file};
+pub use reading::insert_lines;
+pub use writing::write_lines;
+
+#[cfg(test)]
+mod tests;
