@@ -7,3 +7,4 @@ pub mod Picked
 pub mod Asked
 pub mod Stands
 pub mod Ranked
+pub mod Crossing

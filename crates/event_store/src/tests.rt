@@ -11,8 +11,10 @@ use nostr_filter::{Bytes32List, Filter};
 use serde_json::Value;
 use std::alloc::{AllocError, Global};
 use std::marker::Brand;
+use std::sync::atomic::{AtomicU64, Ordering};
 use std::sync::{Arc, Mutex, Wait};
 use std::test::*;
+use std::thread::{Threads, join};
 
 const KEY: &str = "0101010101010101010101010101010101010101010101010101010101010101";
 
@@ -316,8 +318,9 @@ fn told_reader(rt: HostRuntime) -> Result<(), Fail> {
     Ok(())
 }
 
-// How many pins went back while events were inserted, and how many events another reader has that learnt the last.
-fn tells<J: Naming, D: Wait + Drop, R: Wait>(
+// While one thread inserts a hundred events under the desk's lock, another pins until it is told to stop: how many of its pins
+// aren't a beginning of the next, and how many events a reader then has that learnt the last.
+fn tells<J: Naming + Send + Sync, D: Wait + Drop + Send, R: Threads + Wait + Sync>(
     rt: &R,
     keep: D,
     alloc: Global,
@@ -326,33 +329,62 @@ fn tells<J: Naming, D: Wait + Drop, R: Wait>(
     requires book { blank ≡ J.book }
     requires most { J.most ≡ 1000000 }
 {
-    let (mut desk, mut readers) = open_store::<J, D>(keep, alloc, blank, 2).ok()?;
+    let (desk, mut readers) = open_store::<J, D>(keep, alloc, blank, 2).ok()?;
     let mut told = readers.pop()?;
-    let (last, back) = watched(rt, alloc, &mut desk, &mut readers.pop()?)?;
-    told.learn(&last);
+    let mut watcher = readers.pop()?;
+    let desk = Mutex::new(desk);
+    let stop = AtomicU64::new(0);
+    let (back, last) = join(
+        rt,
+        || watch(alloc, &mut watcher, &stop),
+        || fill(rt, alloc, &desk, &stop),
+    );
+    told.learn(&last?);
     let all = told.pin(alloc, &Filter::all()).ok()?;
-    Some((back, all.events().len()))
+    Some((back?, all.events().len()))
 }
 
-// Inserts a hundred events, and pins after each: the last one, and how many pins aren't a beginning of the next.
-fn watched<J: Naming, D: Wait + Drop, R: Wait>(
+// Inserts a hundred events, tells the other thread to stop, and answers the last.
+fn fill<J: Naming, D: Wait + Drop, R: Wait>(
     rt: &R,
     alloc: Global,
-    desk: &mut Desk<J, D>,
-    reader: &mut Reader<J>,
-) -> Option<(Placed<J>, u64)> {
+    desk: &Mutex<Desk<J, D>>,
+    stop: &AtomicU64,
+) -> Option<Placed<J>> {
+    let last = insert_each(rt, alloc, desk);
+    stop.store(1, Ordering::SeqCst);
+    last
+}
+
+fn insert_each<J: Naming, D: Wait + Drop, R: Wait>(
+    rt: &R,
+    alloc: Global,
+    desk: &Mutex<Desk<J, D>>,
+) -> Option<Placed<J>> {
+    let mut last = None;
+    for number in 0..100 {
+        let event = event(alloc, number, time_of(number))?;
+        last = desk.lock(rt).insert(rt, event).ok();
+    }
+    last
+}
+
+// Pins until it is told to stop, and counts the pins that aren't a beginning of the next, or none where a pin failed.
+fn watch<J: Naming>(alloc: Global, reader: &mut Reader<J>, stop: &AtomicU64) -> Option<u64> {
     let mut back = 0u64;
-    let mut placed = insert_all(rt, alloc, desk, 0, 1)?;
     let mut last = reader.pin(alloc, &Filter::all()).ok()?;
-    for number in 1..100 {
-        placed = insert_all(rt, alloc, desk, number, 1)?;
+    for _ in 0..u64::MAX {
+        let done = stop.load(Ordering::SeqCst) == 1;
         let next = reader.pin(alloc, &Filter::all()).ok()?;
         if !begins(last.events(), next.events()) {
             back = back.wrapping_add(1);
         }
         last = next;
+        if done {
+            break;
+        }
     }
-    Some((placed, back))
+    Some(back)
 }
 
 fn begins(first: &EventList, next: &EventList) -> bool {

@@ -1,3 +1,4 @@
 pub mod Insertion
 pub mod Layers
 pub mod Choosing
+pub mod Crossing

@@ -1,0 +1,176 @@
+//! The job `serve`.
+
+ghost use Rattle.std.specs.Prelude.{◌≡◌};
+
+use crate::hall::{Hall, serve_all};
+use crate::refusal::{ServeRefusal, read_refusal, write_refusal};
+use event_file::{NewFile, insert_lines, read_file};
+use event_store::{Blank, Desk, Naming, Reader, open_store};
+use mirror_settings::{Address, Settings, SettingsKey, read_settings};
+use nostr_filter::Filter;
+use std::alloc::Global;
+use std::io::Write;
+use std::marker::Brand;
+use std::net::{Net, TcpListener, TcpStream};
+use std::rt::{AllocGlobal, Files};
+use std::sync::Wait;
+use std::thread::Threads;
+use std::time::Duration;
+
+/// The most connections that are served at once.
+const MOST_AT_ONCE: u64 = 64;
+
+/// As many readers as connections may be served at once: at least one.
+fn readers_for(conns: u64) -> usize {
+    if conns == 0 {
+        return 1;
+    }
+    conns.min(MOST_AT_ONCE) as usize
+}
+
+/// Writes a text, and waits until it is written.
+fn say<W: Write>(writer: &mut W, text: &str) -> Result<(), ServeRefusal> {
+    match writer.write_all(text.as_bytes()) {
+        Ok(()) => {}
+        Err(error) => return Err(write_refusal(&error)),
+    }
+    match writer.flush() {
+        Ok(()) => Ok(()),
+        Err(error) => Err(write_refusal(&error)),
+    }
+}
+
+/// Puts the events of the file into the store.
+fn filled<J: Naming, D: Wait + Drop, R: Wait + Files + AllocGlobal>(
+    rt: &R,
+    alloc: Global,
+    desk: &mut Desk<J, D>,
+    path: &str,
+) -> Result<(), ServeRefusal> {
+    let bytes = match read_file(rt, path) {
+        Ok(bytes) => bytes,
+        Err(error) => return Err(read_refusal(&error)),
+    };
+    insert_lines(rt, alloc, desk, bytes.as_slice())?;
+    Ok(())
+}
+
+/// Listens, and tells where: the host as it was asked for, and the port that was bound.
+pub fn listen<R: Net<Listener = TcpListener, Stream = TcpStream>, W: Write>(
+    rt: &R,
+    alloc: Global,
+    address: &Address,
+    writer: &mut W,
+) -> Result<TcpListener, ServeRefusal> {
+    let text = format!(in alloc; "{address}")?;
+    let Ok(listener) = TcpListener::bind(rt, text.as_str()) else {
+        return Err(ServeRefusal::Listen);
+    };
+    let Ok(bound) = listener.local_addr() else {
+        return Err(ServeRefusal::Listen);
+    };
+    let host = address.host.as_str();
+    let port = bound.port();
+    let text = format!(in alloc; "listening {host}:{port}\n")?;
+    say(writer, text.as_str())?;
+    Ok(listener)
+}
+
+/// Listens, serves the connections, and tells how many there were and how many events the store has then.
+fn serve<
+    J: Naming + Send + Sync,
+    D: Wait + Drop + Send,
+    R: Net<Listener = TcpListener, Stream = TcpStream> + Threads + Wait + Sync,
+    W: Write,
+>(
+    rt: &R,
+    alloc: Global,
+    settings: &Settings,
+    desk: Desk<J, D>,
+    readers: &mut [Reader<J>],
+    writer: &mut W,
+) -> Result<Hall<Desk<J, D>>, ServeRefusal> {
+    let (Some(address), Some(conns)) = (&settings.listen, settings.conns) else {
+        return Err(ServeRefusal::Key(SettingsKey::Listen));
+    };
+    let listener = listen(rt, alloc, address, writer)?;
+    let push = settings.push_ms.map(Duration::from_millis);
+    let hall = Hall::new(listener, conns, push, desk);
+    serve_all(rt, alloc, &hall, readers);
+    Ok(hall)
+}
+
+/// Tells how many connections and events there were, and writes the events file.
+fn end<J: Naming, R: Files, W: Write>(
+    rt: &R,
+    alloc: Global,
+    conns: u64,
+    reader: &mut Reader<J>,
+    file: NewFile<R::File>,
+    writer: &mut W,
+) -> Result<(), ServeRefusal> {
+    let all = reader.pin(alloc, &Filter::all())?;
+    let events = all.front();
+    let text = format!(in alloc; "served {conns}\nevents {events}\n")?;
+    say(writer, text.as_str())?;
+    match file.save(rt, alloc, all.events()) {
+        Ok(()) => Ok(()),
+        Err(error) => Err(write_refusal(&error)),
+    }
+}
+
+/// Does the job in a store of this name.
+fn run_named<
+    J: Naming + Send + Sync,
+    D: Wait + Drop + Send,
+    R: Net<Listener = TcpListener, Stream = TcpStream> + Threads + Wait + Files + AllocGlobal + Sync,
+    W: Write,
+>(
+    rt: &R,
+    keep: D,
+    alloc: Global,
+    blank: Blank,
+    settings: &Settings,
+    writer: &mut W,
+) -> Result<(), ServeRefusal>
+    requires book { blank ≡ J.book }
+    requires most { J.most ≡ 1000000 }
+{
+    let conns = settings.conns.unwrap_or(0);
+    let (mut desk, mut readers) = open_store::<J, D>(keep, alloc, blank, readers_for(conns))?;
+    let path = settings.events.as_str();
+    filled(rt, alloc, &mut desk, path)?;
+    let file = match NewFile::create(rt, alloc, path) {
+        Ok(file) => file,
+        Err(error) => return Err(write_refusal(&error)),
+    };
+    let hall = match serve(rt, alloc, settings, desk, readers.as_mut_slice(), writer) {
+        Ok(hall) => hall,
+        Err(refusal) => {
+            let _ = file.discard(rt);
+            return Err(refusal);
+        }
+    };
+    let Some(mut reader) = readers.pop() else {
+        return Err(ServeRefusal::Store);
+    };
+    // The store's desk, in the hall, is there until the file is written.
+    let done = end(rt, alloc, conns, &mut reader, file, writer);
+    drop(hall);
+    done
+}
+
+/// Reads settings, puts the events of the file into a store, listens, serves so many connections as the settings say, and
+/// writes the file.
+pub fn run_serve<
+    R: Net<Listener = TcpListener, Stream = TcpStream> + Threads + Wait + Files + AllocGlobal + Sync,
+    W: Write,
+>(
+    rt: &R,
+    alloc: Global,
+    text: &str,
+    writer: &mut W,
+) -> Result<(), ServeRefusal> {
+    let settings = read_settings(alloc, text, false)?;
+    run_named::<Brand, &R, R, W>(rt, rt, alloc, Blank::new(), &settings, writer)
+}
