@@ -1,5 +1,6 @@
 //! Links over streams of the tests, and over a loopback socket.
 ghost use Rattle.std.specs.Prelude.{◌≡◌};
+ghost use Rattle.std.specs.Thread.{IsSync, IsSend};
 
 use super::*;
 use event_store::{Blank, Desk, Naming, Reader, open_store};
@@ -18,6 +19,7 @@ use std::random::RandomSource;
 use std::sync::{Arc, Mutex, Wait};
 use std::test::Fail;
 use std::thread::{Threads, join};
+use tungstenite::MaskKeys;
 
 /// The request and the answer of RFC 6455 section 1.3.
 const ASKS: &[u8] =
@@ -104,11 +106,11 @@ fn put_frame(frames: &mut Vec<u8>, first: u8, masked: bool, payload: &[u8]) -> O
     let bit = if masked { 0x80 } else { 0 };
     frames.push(first).ok()?;
     if payload.len() < 126 {
-        frames.push(bit + payload.len() as u8).ok()?;
+        frames.push(bit | u8::try_from(payload.len()).ok()?).ok()?;
     } else {
-        frames.push(bit + 126).ok()?;
-        frames.push((payload.len() / 256) as u8).ok()?;
-        frames.push((payload.len() % 256) as u8).ok()?;
+        frames.push(bit | 126).ok()?;
+        let len = u16::try_from(payload.len()).ok()?;
+        frames.extend_from_slice(&len.to_be_bytes()).ok()?;
     }
     if masked {
         frames.extend_from_slice(&[0; 4]).ok()?;
@@ -116,42 +118,59 @@ fn put_frame(frames: &mut Vec<u8>, first: u8, masked: bool, payload: &[u8]) -> O
     frames.extend_from_slice(payload).ok()
 }
 
+/// The frames of a relay that says the text so often and then the others, behind its answer to the handshake.
+fn relay_parts(alloc: Global, times: usize, text: &str, behind: &[&str]) -> Option<Vec<Vec<u8>>> {
+    let mut frames = Vec::new(alloc);
+    for _ in 0..times {
+        put_frame(&mut frames, 0x81, false, text.as_bytes())?;
+    }
+    for text in behind {
+        put_frame(&mut frames, 0x81, false, text.as_bytes())?;
+    }
+    let mut parts = Vec::new(alloc);
+    parts.push(ACCEPTS.to_vec(alloc).ok()?).ok()?;
+    parts.push(frames).ok()?;
+    Some(parts)
+}
+
 const ANSWER: &str = r##"["NEG-MSG","mirror","6100"]"##;
 
 /// What a question comes to, where the relay says the text so often and then answers, and the read or write of a number fails:
 /// 0 for the answer, or the number of the fault. It is told if it isn't kept as it should be.
 fn asked(alloc: Global, times: usize, text: &str, fails_at: u64) -> Option<u8> {
-    let mut frames = Vec::new(alloc);
-    for _ in 0..times {
-        put_frame(&mut frames, 0x81, false, text.as_bytes())?;
-    }
-    put_frame(&mut frames, 0x81, false, ANSWER.as_bytes())?;
-    let mut parts = Vec::new(alloc);
-    parts.push(ACCEPTS.to_vec(alloc).ok()?).ok()?;
-    parts.push(frames).ok()?;
+    let parts = relay_parts(alloc, times, text, &[ANSWER])?;
     let mut sent = Vec::new(alloc);
     let stream = Played::new(&parts, &mut sent, fails_at);
-    let mut peer = match WsPeer::start(alloc, Sample, stream, "relay", &Filter::all()) {
-        Ok(peer) => peer,
-        Err(fault) => return Some(fault.number()),
-    };
+    match WsPeer::start(alloc, Sample, stream, "relay", &Filter::all()) {
+        Ok(peer) => answered(peer),
+        Err(fault) => Some(fault.number()),
+    }
+}
+
+fn answered<S: Read + Write + Drop, K: MaskKeys + Drop>(mut peer: WsPeer<S, K>) -> Option<u8>
+    requires { peer.faults ≡ 0 }
+{
     match peer.ask(b"\x61") {
         Ok(answer) => {
             let kept = answer.as_slice() == b"\x61\x00".as_slice() && peer.pairs().len() == 1;
             (kept && peer.failures() == 0 && peer.last_fault().is_none()).then_some(0)
         }
         Err(fault) => {
-            let number = match peer.last_fault() {
-                Some(LinkFault::Refused(text)) if text.as_str() != "no" => None,
-                Some(fault) => Some(fault.number()),
-                None => None,
-            }?;
+            let number = number_of(peer.last_fault()?)?;
             let counted = fault == PeerFault::Failed && peer.failures() == 1;
             // Nothing is asked any more.
             let dead = peer.ask(b"\x61").is_err() && peer.failures() == 2;
             let link = matches!(peer.last_fault(), Some(LinkFault::Link));
             (counted && dead && link && peer.pairs().is_empty()).then_some(number)
         }
+    }
+}
+
+/// The fault's number, if a refusal has the text `no`.
+fn number_of(fault: &LinkFault) -> Option<u8> {
+    match fault {
+        LinkFault::Refused(text) => (text.as_str() == "no").then_some(2),
+        other => Some(other.number()),
     }
 }
 
