@@ -1,0 +1,22 @@
+-- What a source was asked and what it gave, as ids, and what a log of them gained.
+use Rattle.std.specs.Prelude.{List, length, drop, map}
+use Rattle.std.specs.Arc.{arc_value}
+use Rattle.std.specs.declared.sync.Arc.{Arc as AnArc}
+use Rattle.std.specs.declared.alloc.Global.{Global as AGlobal}
+use Rattle.neg_codec.specs.declared.Id.{Id}
+use Rattle.nostr_event.specs.EventView.{EventView}
+
+pub record Fetching : Type 0 where
+  pub asked : List Id
+  pub given : List Id
+
+abbrev pub fetching : List Id → List Id → Fetching
+fetching asked given = record { asked = asked; given = given }
+
+-- the ids of these events, in order
+abbrev pub ids_of : List (AnArc EventView AGlobal) → List Id
+ids_of events = map (λ (e : AnArc EventView AGlobal). (arc_value e).id) events
+
+-- what a log has after what it had
+abbrev pub fetched : List Fetching → List Fetching → List Fetching
+fetched old new = drop (length old) new

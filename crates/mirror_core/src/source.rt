@@ -1,0 +1,94 @@
+//! Sources, and what they were asked and gave.
+
+ghost use Rattle.std.specs.Prelude.{◌≡◌, ℕ, ◌+◌, ◌<◌, ◌^◌, ◌-◌, List, [], ◌∷◌, ◌++◌, IfOk, OnErr, Err};
+ghost use Rattle.mirror_core.specs.Fetching.{Fetching, fetching, ids_of};
+
+use neg_codec::Id;
+use nostr_event::Event;
+use std::alloc::{AllocError, AllocFailed};
+use std::marker::Model;
+use std::sync::Arc;
+use thiserror::Error;
+
+/// The ids that a source was asked for, and those of the events that it gave, in order.
+#[derive(Debug, Drop)]
+pub struct Fetch {
+    pub asked: Vec<Id>,
+    pub given: Vec<Id>,
+}
+
+impl Model for Fetch {
+    ghost use Rattle.mirror_core.specs.Fetching.{Fetching};
+
+    ghost Value = { Fetching };
+
+    ghost view = { λ f. record { asked = f.asked.items; given = f.given.items } };
+}
+
+/// Why a source gave nothing.
+#[derive(Clone, Copy, Debug, PartialEq, Eq, Error)]
+pub enum SourceFault {
+    /// The source failed, and its count of failures rose.
+    #[error("the source failed")]
+    Failed,
+    /// No memory was found.
+    #[error("out of memory")]
+    Memory,
+}
+
+impl From<AllocError> for SourceFault {
+    ghost use Rattle.std.specs.Prelude.{◌≡◌};
+    ghost use Rattle.mirror_core.specs.declared.source.SourceFault.TheVariants.{Memory};
+
+    ghost from_gives = { λ _ e. e ≡ Memory };
+
+    fn from(_error: AllocError) -> SourceFault {
+        SourceFault::Memory
+    }
+}
+
+impl<T: Drop> From<AllocFailed<T>> for SourceFault {
+    ghost use Rattle.std.specs.Prelude.{◌≡◌};
+    ghost use Rattle.mirror_core.specs.declared.source.SourceFault.TheVariants.{Memory};
+
+    ghost from_gives = { λ _ e. e ≡ Memory };
+
+    fn from(_error: AllocFailed<T>) -> SourceFault {
+        SourceFault::Memory
+    }
+}
+
+/// What gives events by their ids. It keeps what it was asked and what it gave.
+pub trait Source {
+    /// What it was asked and gave, the first first.
+    ghost log: { Self → List Fetching };
+
+    /// How often it failed.
+    ghost faults: { Self → ℕ };
+
+    /// What calls may make of a source.
+    ghost becomes: { Self → Self → Type 0 };
+
+    /// Asks for the events with these ids, and gives those that came, in any order; some may be missing, come twice, or
+    /// be none of those asked for. What is given is added to the log, and a fault adds nothing. The count of failures
+    /// rises where the source failed, and not for want of memory.
+    fn fetch(&mut self, ids: &[Id]) -> Result<Vec<Arc<Event>>, SourceFault>
+        requires { faults self.old < 2 ^ 64 - 1 }
+        ensures ok { IfOk result (λ given. (log self.new ≡ log self.old ++ fetching ids.now (ids_of given.items) ∷ []) × (faults self.new ≡ faults self.old)) }
+        ensures err { OnErr result (log self.new ≡ log self.old) }
+        ensures failed { result ≡ Err SourceFault.Failed → faults self.old < faults self.new }
+        ensures memory { result ≡ Err SourceFault.Memory → faults self.new ≡ faults self.old }
+        ensures becomes { becomes self.old self.new };
+
+    /// What it was asked and gave, the first first.
+    fn fetches(&self) -> &[Fetch]
+        ensures { result.now ≡ log self.now };
+
+    /// How often it failed.
+    fn failures(&self) -> u64
+        ensures { result ≡ faults self.now };
+
+    ghost stays: { (s : Self) → becomes s s };
+
+    ghost goes_on: { (s t u : Self) → becomes s t → becomes t u → becomes s u };
+}
