@@ -5,6 +5,8 @@ ghost use Rattle.std.specs.Thread.{IsSync, IsSend};
 use super::*;
 use event_store::{Blank, Desk, Naming, Reader, open_store};
 use item_roll::Roll;
+use mirror_core::{Source, SourceFault};
+use neg_codec::Id;
 use neg_session::{Peer, PeerFault, SessionLimits, reconcile_with};
 use nostr_event::Event;
 use nostr_filter::Filter;
@@ -207,6 +209,83 @@ fn questions(rt: HostRuntime) -> Result<(), Fail> {
         );
     }
     assert_eq!(rt; asked(alloc, 0, "", 5), Some(0));
+    Ok(())
+}
+
+/// What a fetch of the second event and one that the relay lacks comes to, where the relay says the text so often and then gives
+/// both its events. It is told as `asked` tells it.
+fn fetched(alloc: Global, times: usize, text: &str, fails_at: u64) -> Option<u8> {
+    let first = event(alloc, EVENT_1)?.id();
+    let second = event(alloc, EVENT_2)?.id();
+    let wanted = [second, Id([7; 32])];
+    let one = format!(in alloc; "[\"EVENT\",\"fetch\",{EVENT_1}]").ok()?;
+    let two = format!(in alloc; "[\"EVENT\",\"fetch\",{EVENT_2}]").ok()?;
+    let end = r##"["EOSE","fetch"]"##;
+    let parts = relay_parts(alloc, times, text, &[one.as_str(), two.as_str(), end])?;
+    let mut sent = Vec::new(alloc);
+    let stream = Played::new(&parts, &mut sent, fails_at);
+    match WsSource::start(alloc, Sample, stream, "relay") {
+        Ok(source) => kept_of(source, &wanted, &[first, second]),
+        Err(fault) => Some(fault.number()),
+    }
+}
+
+fn kept_of<S: Read + Write + Drop, K: MaskKeys + Drop>(
+    mut source: WsSource<S, K>,
+    wanted: &[Id],
+    gives: &[Id],
+) -> Option<u8>
+    requires { source.faults ≡ 0 }
+{
+    match source.fetch(wanted) {
+        Ok(events) => {
+            let [fetch] = source.fetches() else {
+                return None;
+            };
+            let kept = events.len() == gives.len()
+                && fetch.asked.as_slice() == wanted
+                && fetch.given.as_slice() == gives;
+            (kept && source.failures() == 0 && source.last_fault().is_none()).then_some(0)
+        }
+        Err(fault) => {
+            let number = number_of(source.last_fault()?)?;
+            let counted = fault == SourceFault::Failed && source.failures() == 1;
+            let dead = source.fetch(wanted).is_err() && source.failures() == 2;
+            let link = matches!(source.last_fault(), Some(LinkFault::Link));
+            (counted && dead && link && source.fetches().is_empty()).then_some(number)
+        }
+    }
+}
+
+/// A text, how often it comes before the events, and what the fetch comes to.
+static GIFTS: [(&str, usize, u8); 8] = [
+    ("", 0, 0),
+    (r##"["NOTICE","wait"]"##, 999, 0),
+    (r##"["NOTICE","wait"]"##, 1_000, 4),
+    (r##"["CLOSED","fetch","no"]"##, 1, 2),
+    (r##"["EOSE","other"]"##, 1, 0),
+    (r##"["EVENT","fetch",{}]"##, 999, 0),
+    (r##"["EVENT","fetch",{}]"##, 1_000, 4),
+    ("hello", 1, 3),
+];
+
+#[test]
+fn fetches(rt: HostRuntime) -> Result<(), Fail> {
+    let alloc = rt.alloc();
+    for (text, times, number) in GIFTS {
+        assert_eq!(rt;
+            (text, times, fetched(alloc, times, text, 0)),
+            (text, times, Some(number))
+        );
+    }
+    // The handshake's write and read, the request, what is given, and the end of the subscription.
+    for fails_at in 1..6 {
+        assert_eq!(rt;
+            (fails_at, fetched(alloc, 0, "", fails_at)),
+            (fails_at, Some(1))
+        );
+    }
+    assert_eq!(rt; fetched(alloc, 0, "", 6), Some(0));
     Ok(())
 }
 
