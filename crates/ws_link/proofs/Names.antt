@@ -21,3 +21,10 @@ mirror_is_name =
     ascii_name (109 ∷ 105 ∷ 114 ∷ 114 ∷ 111 ∷ 114 ∷ [])
     (omega arith, (omega arith, (omega arith, (omega arith, (omega arith, (omega arith, tt))))))
     refl
+
+-- f, e, t, c, h
+pub fetch_is_name : is_sub (102 ∷ 101 ∷ 116 ∷ 99 ∷ 104 ∷ []) ≡ true
+fetch_is_name =
+    ascii_name (102 ∷ 101 ∷ 116 ∷ 99 ∷ 104 ∷ [])
+    (omega arith, (omega arith, (omega arith, (omega arith, (omega arith, tt)))))
+    refl

@@ -5,10 +5,12 @@ mod client;
 mod fault;
 mod peer;
 mod serve;
+mod source;
 
 pub use fault::LinkFault;
 pub use peer::WsPeer;
 pub use serve::serve_conn;
+pub use source::WsSource;
 
 #[cfg(test)]
 mod tests;

@@ -3,7 +3,8 @@ ghost use Rattle.std.specs.Prelude.{◌≡◌, ◌+◌, ◌<◌, ◌^◌, ◌-�
 ghost use Rattle.std.specs.Option.{option_copied};
 ghost use Rattle.neg_session.specs.Exchange.{exchange};
 ghost use Rattle.ws_link.specs.Faults.{IsOfStream};
-ghost use Rattle.ws_link.specs.Wired.{Wired, unused, failed_by, answer_of, FailsBy};
+ghost use Rattle.ws_link.specs.Wired.{Wired, unused, failed_by};
+ghost use Rattle.ws_link.specs.Failing.{answer_of, FailsBy};
 
 use crate::client::{close, connected, heard, named, say};
 use crate::fault::LinkFault;
@@ -39,9 +40,10 @@ pub struct WsPeer<S, K> {
 
 impl<S, K> Model for WsPeer<S, K> {
     ghost use Rattle.std.specs.Option.{is_some};
+    ghost use Rattle.neg_session.specs.Exchange.{Exchange};
     ghost use Rattle.ws_link.specs.Wired.{Wired};
 
-    ghost Value = { Wired };
+    ghost Value = { Wired Exchange };
 
     ghost view = { λ p. record { live = is_some p.socket; log = p.pairs.items; faults = p.failures; last = p.last_fault } };
 }

@@ -1,9 +1,12 @@
 //! Links over streams of the tests, and over a loopback socket.
 ghost use Rattle.std.specs.Prelude.{◌≡◌};
+ghost use Rattle.std.specs.Thread.{IsSync, IsSend};
 
 use super::*;
 use event_store::{Blank, Desk, Naming, Reader, open_store};
 use item_roll::Roll;
+use mirror_core::{Source, SourceFault};
+use neg_codec::Id;
 use neg_session::{Peer, PeerFault, SessionLimits, reconcile_with};
 use nostr_event::Event;
 use nostr_filter::Filter;
@@ -18,6 +21,7 @@ use std::random::RandomSource;
 use std::sync::{Arc, Mutex, Wait};
 use std::test::Fail;
 use std::thread::{Threads, join};
+use tungstenite::MaskKeys;
 
 /// The request and the answer of RFC 6455 section 1.3.
 const ASKS: &[u8] =
@@ -104,11 +108,11 @@ fn put_frame(frames: &mut Vec<u8>, first: u8, masked: bool, payload: &[u8]) -> O
     let bit = if masked { 0x80 } else { 0 };
     frames.push(first).ok()?;
     if payload.len() < 126 {
-        frames.push(bit + payload.len() as u8).ok()?;
+        frames.push(bit | u8::try_from(payload.len()).ok()?).ok()?;
     } else {
-        frames.push(bit + 126).ok()?;
-        frames.push((payload.len() / 256) as u8).ok()?;
-        frames.push((payload.len() % 256) as u8).ok()?;
+        frames.push(bit | 126).ok()?;
+        let len = u16::try_from(payload.len()).ok()?;
+        frames.extend_from_slice(&len.to_be_bytes()).ok()?;
     }
     if masked {
         frames.extend_from_slice(&[0; 4]).ok()?;
@@ -116,42 +120,59 @@ fn put_frame(frames: &mut Vec<u8>, first: u8, masked: bool, payload: &[u8]) -> O
     frames.extend_from_slice(payload).ok()
 }
 
+/// The frames of a relay that says the text so often and then the others, behind its answer to the handshake.
+fn relay_parts(alloc: Global, times: usize, text: &str, behind: &[&str]) -> Option<Vec<Vec<u8>>> {
+    let mut frames = Vec::new(alloc);
+    for _ in 0..times {
+        put_frame(&mut frames, 0x81, false, text.as_bytes())?;
+    }
+    for text in behind {
+        put_frame(&mut frames, 0x81, false, text.as_bytes())?;
+    }
+    let mut parts = Vec::new(alloc);
+    parts.push(ACCEPTS.to_vec(alloc).ok()?).ok()?;
+    parts.push(frames).ok()?;
+    Some(parts)
+}
+
 const ANSWER: &str = r##"["NEG-MSG","mirror","6100"]"##;
 
 /// What a question comes to, where the relay says the text so often and then answers, and the read or write of a number fails:
 /// 0 for the answer, or the number of the fault. It is told if it isn't kept as it should be.
 fn asked(alloc: Global, times: usize, text: &str, fails_at: u64) -> Option<u8> {
-    let mut frames = Vec::new(alloc);
-    for _ in 0..times {
-        put_frame(&mut frames, 0x81, false, text.as_bytes())?;
-    }
-    put_frame(&mut frames, 0x81, false, ANSWER.as_bytes())?;
-    let mut parts = Vec::new(alloc);
-    parts.push(ACCEPTS.to_vec(alloc).ok()?).ok()?;
-    parts.push(frames).ok()?;
+    let parts = relay_parts(alloc, times, text, &[ANSWER])?;
     let mut sent = Vec::new(alloc);
     let stream = Played::new(&parts, &mut sent, fails_at);
-    let mut peer = match WsPeer::start(alloc, Sample, stream, "relay", &Filter::all()) {
-        Ok(peer) => peer,
-        Err(fault) => return Some(fault.number()),
-    };
+    match WsPeer::start(alloc, Sample, stream, "relay", &Filter::all()) {
+        Ok(peer) => answered(peer),
+        Err(fault) => Some(fault.number()),
+    }
+}
+
+fn answered<S: Read + Write + Drop, K: MaskKeys + Drop>(mut peer: WsPeer<S, K>) -> Option<u8>
+    requires { peer.faults ≡ 0 }
+{
     match peer.ask(b"\x61") {
         Ok(answer) => {
             let kept = answer.as_slice() == b"\x61\x00".as_slice() && peer.pairs().len() == 1;
             (kept && peer.failures() == 0 && peer.last_fault().is_none()).then_some(0)
         }
         Err(fault) => {
-            let number = match peer.last_fault() {
-                Some(LinkFault::Refused(text)) if text.as_str() != "no" => None,
-                Some(fault) => Some(fault.number()),
-                None => None,
-            }?;
+            let number = number_of(peer.last_fault()?)?;
             let counted = fault == PeerFault::Failed && peer.failures() == 1;
             // Nothing is asked any more.
             let dead = peer.ask(b"\x61").is_err() && peer.failures() == 2;
             let link = matches!(peer.last_fault(), Some(LinkFault::Link));
             (counted && dead && link && peer.pairs().is_empty()).then_some(number)
         }
+    }
+}
+
+/// The fault's number, if a refusal has the text `no`.
+fn number_of(fault: &LinkFault) -> Option<u8> {
+    match fault {
+        LinkFault::Refused(text) => (text.as_str() == "no").then_some(2),
+        other => Some(other.number()),
     }
 }
 
@@ -188,6 +209,83 @@ fn questions(rt: HostRuntime) -> Result<(), Fail> {
         );
     }
     assert_eq!(rt; asked(alloc, 0, "", 5), Some(0));
+    Ok(())
+}
+
+/// What a fetch of the second event and one that the relay lacks comes to, where the relay says the text so often and then gives
+/// both its events. It is told as `asked` tells it.
+fn fetched(alloc: Global, times: usize, text: &str, fails_at: u64) -> Option<u8> {
+    let first = event(alloc, EVENT_1)?.id();
+    let second = event(alloc, EVENT_2)?.id();
+    let wanted = [second, Id([7; 32])];
+    let one = format!(in alloc; "[\"EVENT\",\"fetch\",{EVENT_1}]").ok()?;
+    let two = format!(in alloc; "[\"EVENT\",\"fetch\",{EVENT_2}]").ok()?;
+    let end = r##"["EOSE","fetch"]"##;
+    let parts = relay_parts(alloc, times, text, &[one.as_str(), two.as_str(), end])?;
+    let mut sent = Vec::new(alloc);
+    let stream = Played::new(&parts, &mut sent, fails_at);
+    match WsSource::start(alloc, Sample, stream, "relay") {
+        Ok(source) => kept_of(source, &wanted, &[first, second]),
+        Err(fault) => Some(fault.number()),
+    }
+}
+
+fn kept_of<S: Read + Write + Drop, K: MaskKeys + Drop>(
+    mut source: WsSource<S, K>,
+    wanted: &[Id],
+    gives: &[Id],
+) -> Option<u8>
+    requires { source.faults ≡ 0 }
+{
+    match source.fetch(wanted) {
+        Ok(events) => {
+            let [fetch] = source.fetches() else {
+                return None;
+            };
+            let kept = events.len() == gives.len()
+                && fetch.asked.as_slice() == wanted
+                && fetch.given.as_slice() == gives;
+            (kept && source.failures() == 0 && source.last_fault().is_none()).then_some(0)
+        }
+        Err(fault) => {
+            let number = number_of(source.last_fault()?)?;
+            let counted = fault == SourceFault::Failed && source.failures() == 1;
+            let dead = source.fetch(wanted).is_err() && source.failures() == 2;
+            let link = matches!(source.last_fault(), Some(LinkFault::Link));
+            (counted && dead && link && source.fetches().is_empty()).then_some(number)
+        }
+    }
+}
+
+/// A text, how often it comes before the events, and what the fetch comes to.
+static GIFTS: [(&str, usize, u8); 8] = [
+    ("", 0, 0),
+    (r##"["NOTICE","wait"]"##, 999, 0),
+    (r##"["NOTICE","wait"]"##, 1_000, 4),
+    (r##"["CLOSED","fetch","no"]"##, 1, 2),
+    (r##"["EOSE","other"]"##, 1, 0),
+    (r##"["EVENT","fetch",{}]"##, 999, 0),
+    (r##"["EVENT","fetch",{}]"##, 1_000, 4),
+    ("hello", 1, 3),
+];
+
+#[test]
+fn fetches(rt: HostRuntime) -> Result<(), Fail> {
+    let alloc = rt.alloc();
+    for (text, times, number) in GIFTS {
+        assert_eq!(rt;
+            (text, times, fetched(alloc, times, text, 0)),
+            (text, times, Some(number))
+        );
+    }
+    // The handshake's write and read, the request, what is given, and the end of the subscription.
+    for fails_at in 1..6 {
+        assert_eq!(rt;
+            (fails_at, fetched(alloc, 0, "", fails_at)),
+            (fails_at, Some(1))
+        );
+    }
+    assert_eq!(rt; fetched(alloc, 0, "", 6), Some(0));
     Ok(())
 }
 
