@@ -1,0 +1,222 @@
+#!/usr/bin/env python3
+"""Measures `serve` and `sync`.
+
+    bench/relay.py [--baseline PATH] [--mirror PATH] [--events N] [--only WORD,WORD,..] [--runs R]
+
+Each row starts the program anew. `serve` reads a file of events with right ids (`inputs.py`), and is then asked by clients of
+this script (`wire.py`): it takes all events from one client and from eight, answers 1,000 requests, is connected to 200
+times. `sync` brings a store that has a part of the events level with four relays that have half of them each. The relays
+are the same program's. Shown are the processor time that the work took, without the reading and writing of the file, and
+the greatest peak of resident memory.
+
+With `--baseline`, a plain program with the same commands, both run in turn, R times each; the least times are shown, and
+the ratio of ours to its.
+"""
+import argparse
+import json
+import os
+import random
+import subprocess
+import sys
+import tempfile
+import threading
+import time
+
+from inputs import events as write_events
+from inputs import made
+from measure import program_of
+from wire import Client
+
+TICKS = os.sysconf("SC_CLK_TCK")
+
+
+def spent(pid):
+    """The processor time that a process has taken so far, with that of its threads, in seconds."""
+    with open("/proc/%d/stat" % pid) as text:
+        fields = text.read().rsplit(")", 1)[1].split()
+    return (int(fields[11]) + int(fields[12])) / TICKS
+
+
+def peak(pid):
+    """The greatest resident memory of a process so far, in MiB."""
+    with open("/proc/%d/status" % pid) as text:
+        return next(int(line.split()[1]) / 1024 for line in text if line.startswith("VmHWM"))
+
+
+def settings(path, **keys):
+    with open(path, "w") as text:
+        for key, value in keys.items():
+            text.write("%s = %s\n" % (key, json.dumps(value)))
+    return path
+
+
+class Serving:
+    """A relay that serves so many connections, over a copy of a file of events or over none."""
+
+    def __init__(self, program, folder, name, connections, lines=()):
+        file = os.path.join(folder, name + ".jsonl")
+        with open(file, "w", encoding="utf-8") as text:
+            text.writelines(lines)
+        conf = settings(os.path.join(folder, name + ".toml"), events=file, listen="127.0.0.1:0", conns=connections)
+        self.child = subprocess.Popen([program, "serve", conf], stdout=subprocess.PIPE)
+        line = self.child.stdout.readline().decode()
+        if not line.startswith("listening "):
+            raise SystemExit("%s said %r" % (program, line))
+        self.port = int(line.rsplit(":", 1)[1])
+        self.before = spent(self.child.pid)
+
+    def cost(self):
+        return spent(self.child.pid) - self.before, peak(self.child.pid)
+
+    def end(self):
+        said = self.child.stdout.read().decode()
+        self.child.stdout.close()
+        if self.child.wait() != 0:
+            raise SystemExit("a relay ended with status %d" % self.child.returncode)
+        return said
+
+
+def put(client, lines, window=64):
+    """Sends events, of which at most so many are unanswered."""
+    texts = [b'["EVENT",%s]' % line.strip().encode() for line in lines]
+    sent = 0
+    for answered in range(len(texts)):
+        more = texts[sent:answered + window]
+        if len(more) > window // 2 or sent == answered:
+            client.send(*more)
+            sent += len(more)
+        if b",true," not in client.read():
+            raise SystemExit("an event was refused")
+
+
+def ask(port, filters):
+    """Asks for each filter in turn, and tells how many events came."""
+    client = Client(port)
+    came = 0
+    for filter in filters:
+        client.send(b'["REQ","q",%s]' % json.dumps(filter).encode())
+        while True:
+            text = client.read()
+            if text.startswith(b'["EOSE"'):
+                break
+            came += 1
+    client.close()
+    return came
+
+
+def side_by_side(calls):
+    threads = [threading.Thread(target=call) for call in calls]
+    for thread in threads:
+        thread.start()
+    for thread in threads:
+        thread.join()
+
+
+def row_of_putting(program, folder, lines, clients):
+    relay = Serving(program, folder, "put", clients)
+    # The connections stay until the time is read, since the file is written once they have ended.
+    connections = [Client(relay.port) for _ in range(clients)]
+    side_by_side([lambda i=i: put(connections[i], lines[i::clients]) for i in range(clients)])
+    found = relay.cost()
+    for client in connections:
+        client.close()
+    relay.end()
+    return found, len(lines)
+
+
+def row_of_asking(program, folder, lines, filters):
+    relay = Serving(program, folder, "ask", 2, lines)
+    holder = Client(relay.port)
+    came = ask(relay.port, filters)
+    found = relay.cost()
+    holder.close()
+    relay.end()
+    return found, came
+
+
+def row_of_connecting(program, folder, times):
+    relay = Serving(program, folder, "connect", times + 1)
+    holder = Client(relay.port)
+    for _ in range(times):
+        Client(relay.port).close()
+    found = relay.cost()
+    holder.close()
+    relay.end()
+    return found, times
+
+
+def row_of_syncing(program, folder, lines, relays, share, workers, partner):
+    rng = random.Random(3)
+    held = [[line for line in lines if rng.random() < 0.5] for _ in range(relays)]
+    # One session, one connection a worker, for each round one more.
+    serving = [Serving(partner, folder, "relay%d" % i, 1 + workers, part) for i, part in enumerate(held)]
+    mine = os.path.join(folder, "mine.jsonl")
+    own = [line for line in lines if rng.random() < share]
+    with open(mine, "w", encoding="utf-8") as text:
+        text.writelines(own)
+    conf = settings(os.path.join(folder, "sync.toml"), events=mine, relays=["127.0.0.1:%d" % it.port for it in serving], workers=workers)
+    child = subprocess.Popen([program, "sync", conf], stdout=subprocess.PIPE)
+    said = child.stdout.read().decode()
+    _, status, usage = os.wait4(child.pid, 0)
+    child.returncode = os.waitstatus_to_exitcode(status)
+    if child.returncode != 0:
+        raise SystemExit("sync ended with status %d: %s" % (child.returncode, said[-300:]))
+    for relay in serving:
+        relay.child.kill()
+        relay.child.wait()
+    given = [line for line in said.splitlines() if line.startswith(("given", "missed", "left", "least"))]
+    return (usage.ru_utime + usage.ru_stime, usage.ru_maxrss / 1024), " ".join(given)
+
+
+def filters_of(lines, rng):
+    events = [json.loads(line) for line in lines]
+    pick = lambda: rng.choice(events)
+    tagged = [(tag[0], tag[1]) for event in events for tag in event["tags"] if len(tag[0]) == 1]
+    return {
+        "ids": [{"ids": [pick()["id"] for _ in range(100)]} for _ in range(1000)],
+        "kind": [{"kinds": [pick()["kind"]], "limit": 100} for _ in range(1000)],
+        "author": [{"authors": [pick()["pubkey"]]} for _ in range(1000)],
+        "tag": [{"#" + name: [value], "limit": 100} for name, value in (rng.choice(tagged) for _ in range(1000))],
+        "newest": [{"limit": 100}] * 1000,
+    }
+
+
+def main():
+    parser = argparse.ArgumentParser(description=__doc__.split("\n")[0])
+    parser.add_argument("--baseline", help="a plain program to compare with")
+    parser.add_argument("--mirror", default=program_of("mirror_app"))
+    parser.add_argument("--events", type=int, default=50000)
+    parser.add_argument("--only", default="put1,put8,ids,kind,author,tag,newest,connect,sync")
+    parser.add_argument("--runs", type=int, default=2)
+    options = parser.parse_args()
+    programs = [options.mirror] + ([options.baseline] if options.baseline else [])
+    with tempfile.TemporaryDirectory() as folder:
+        source = os.path.join(folder, "events")
+        made(write_events, source, options.events)
+        with open(source, encoding="utf-8") as text:
+            lines = text.readlines()
+        filters = filters_of(lines, random.Random(2))
+        rows = {
+            "put1": lambda it: row_of_putting(it, folder, lines, 1),
+            "put8": lambda it: row_of_putting(it, folder, lines, 8),
+            "connect": lambda it: row_of_connecting(it, folder, 200),
+            "sync": lambda it: row_of_syncing(it, folder, lines * 1, 4, 0.6, 1, programs[-1]),
+        }
+        for name, asked in filters.items():
+            rows[name] = lambda it, asked=asked: row_of_asking(it, folder, lines, asked)
+        print("%d events, %.0f MB" % (len(lines), os.path.getsize(source) / 1e6))
+        for name in options.only.split(","):
+            best = []
+            for program in programs:
+                runs = [rows[name](program) for _ in range(options.runs)]
+                best.append((min(cost[0] for cost, _ in runs), max(cost[1] for cost, _ in runs), runs[0][1]))
+            line = "%-8s %8.2f s %7.0f MiB" % (name, best[0][0], best[0][1])
+            if len(best) == 2:
+                line += "   plain %8.2f s (%5.2f) %7.0f MiB (%5.2f)%s" % (
+                    best[1][0], best[0][0] / max(best[1][0], 0.01), best[1][1], best[0][1] / best[1][1],
+                    "" if best[0][2] == best[1][2] else "   THE ANSWERS DIFFER: %s, %s" % (best[0][2], best[1][2]))
+            print(line, flush=True)
+
+
+if __name__ == "__main__":
+    sys.exit(main())
