@@ -173,7 +173,8 @@ impl Board {
     /// A cell's id, in ascending order, and the relay that it is given to.
     pub fn cell(&self, i: usize) -> (Id, u16)
         requires { i < length self.now.cells }
-        ensures { slice_get self.now.cells i ≡ Some result }
+        ensures value { slice_get self.now.cells i ≡ Some result }
+        ensures relay { slice_index (relays self.now.cells) i ≡ result.1 }
     {
         self.layout.cells[i]
     }

@@ -4,7 +4,7 @@ ghost use Rattle.claim_board.specs.Rules.{relays, fresh, IsIdOf};
 ghost use Rattle.claim_board.specs.Views.{placed_at};
 
 use crate::{Board, BoardFault, Cell, Claimed, Lane};
-use event_store::{Blank, Naming, open_store};
+use event_store::{Blank, Naming, Placed, open_store};
 use fetch_plan::{Plan, plan};
 use neg_codec::Id;
 use nostr_event::{Draft, Event, Spelling, Tags, Text, id_of};
@@ -53,7 +53,11 @@ fn two_lanes(alloc: Global, id: &Id) -> Option<(Board, Lane, Lane)>
 {
     let plan = plan_of(alloc, id)?;
     let (board, mut lanes) = Board::new(alloc, &plan, &[0, 0]).ok()?;
-    if board.len() != 1 || board.cell(0) != (*id, 0) {
+    if board.len() != 1 {
+        return None;
+    }
+    let (first_id, relay) = board.cell(0);
+    if first_id != *id || relay != 0 {
         return None;
     }
     let second = lanes.pop()?;
@@ -61,7 +65,40 @@ fn two_lanes(alloc: Global, id: &Id) -> Option<(Board, Lane, Lane)>
     Some((board, first, second))
 }
 
-// Whether the claims, a release and a finish are answered as they must be.
+// What two lanes find that claim, release and finish the one cell, and what it is in the end.
+fn played<J: Naming>(
+    board: Board,
+    first: Lane,
+    second: Lane,
+    placed: &Placed<J>,
+) -> Option<(Cell, Cell, Vec<Cell>)>
+    requires board { (length board.cells ≡ 1) × (slice_index (relays board.cells) 0 ≡ 0) × IsIdOf board.cells 0 placed.now.id }
+    requires lanes { (first ≡ placed_at board.board (fresh 0 0)) × (second ≡ placed_at board.board (fresh 1 0)) }
+{
+    let (mut first, mut second) = (first, second);
+    let Claimed::Won = board.claim(&mut first, 0) else {
+        return None;
+    };
+    let Claimed::Lost(held) = board.claim(&mut second, 0) else {
+        return None;
+    };
+    board.release(&mut first, 0);
+    let Cell::Free = board.look(&mut first, 0) else {
+        return None;
+    };
+    let Claimed::Won = board.claim(&mut second, 0) else {
+        return None;
+    };
+    board.finish(&mut second, 0, placed);
+    let Claimed::Lost(done) = board.claim(&mut first, 0) else {
+        return None;
+    };
+    board.leave(&mut second, first);
+    let cells = board.close(second).ok()?;
+    Some((held, done, cells))
+}
+
+// Whether a cell of a store's event goes to one lane at a time.
 fn goes_to_one_lane<J: Naming, D: Wait + Drop, R: Wait>(
     rt: &R,
     keep: D,
@@ -73,23 +110,16 @@ fn goes_to_one_lane<J: Naming, D: Wait + Drop, R: Wait>(
 {
     let (mut desk, _) = open_store::<J, D>(keep, alloc, blank, 1).ok()?;
     let event = event(alloc)?;
-    let (board, mut first, mut second) = two_lanes(alloc, &event.id())?;
     let placed = desk.insert(rt, event).ok()?;
-    let Claimed::Won = board.claim(&mut first, 0) else {
-        return None;
-    };
-    let held = board.claim(&mut second, 0) == Claimed::Lost(Cell::Held(0));
-    board.release(&mut first, 0);
-    let free = board.look(&mut first, 0) == Cell::Free;
-    let Claimed::Won = board.claim(&mut second, 0) else {
-        return None;
-    };
-    board.finish(&mut second, 0, &placed);
-    let done = board.claim(&mut first, 0) == Claimed::Lost(Cell::Done);
-    let relays = first.relay() == 0 && second.relay() == 0;
-    board.leave(&mut second, first);
-    let cells = board.close(second).ok()?;
-    Some(held && free && done && relays && cells.as_slice() == [Cell::Done].as_slice())
+    let (board, first, second) = two_lanes(alloc, &placed.id())?;
+    let relays = (first.relay(), second.relay());
+    let (held, done, cells) = played(board, first, second, &placed)?;
+    Some(
+        relays == (0, 0)
+            && held == Cell::Held(0)
+            && done == Cell::Done
+            && cells.as_slice() == [Cell::Done].as_slice(),
+    )
 }
 
 #[test]
