@@ -73,11 +73,7 @@ impl<J: Naming, D: Wait + Drop> Duty<Reader<J>> for Hall<Desk<J, D>> {
 
 /// Serves the hall's connections, with a reader for each at a time: where all are lent none is accepted. A connection that
 /// can't be accepted, or ends by a fault, counts and touches no other.
-pub fn serve_all<
-    R: Threads + Wait + Sync,
-    J: Naming + Send + Sync,
-    D: Wait + Drop + Send,
->(
+pub fn serve_all<R: Threads + Wait + Sync, J: Naming + Send + Sync, D: Wait + Drop + Send>(
     rt: &R,
     alloc: Global,
     hall: &Hall<Desk<J, D>>,

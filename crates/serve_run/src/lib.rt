@@ -9,6 +9,3 @@ mod workers;
 pub use hall::{Hall, serve_all};
 pub use refusal::ServeRefusal;
 pub use run::run_serve;
-
-#[cfg(test)]
-mod tests;

@@ -12,7 +12,7 @@ use std::alloc::Global;
 use std::io::Write;
 use std::marker::Brand;
 use std::net::{Net, TcpListener, TcpStream};
-use std::rt::{AllocGlobal, Files};
+use std::rt::Files;
 use std::sync::Wait;
 use std::thread::Threads;
 use std::time::Duration;
@@ -123,7 +123,12 @@ fn end<J: Naming, R: Files, W: Write>(
 fn run_named<
     J: Naming + Send + Sync,
     D: Wait + Drop + Send,
-    R: Net<Listener = TcpListener, Stream = TcpStream> + Threads + Wait + Files + AllocGlobal + Sync,
+    R: Net<Listener = TcpListener, Stream = TcpStream>
+        + Threads
+        + Wait
+        + Files
+        + AllocGlobal
+        + Sync,
     W: Write,
 >(
     rt: &R,
@@ -163,14 +168,14 @@ fn run_named<
 /// Reads settings, puts the events of the file into a store, listens, serves so many connections as the settings say, and
 /// writes the file.
 pub fn run_serve<
-    R: Net<Listener = TcpListener, Stream = TcpStream> + Threads + Wait + Files + AllocGlobal + Sync,
+    R: Net<Listener = TcpListener, Stream = TcpStream>
+        + Threads
+        + Wait
+        + Files
+        + AllocGlobal
+        + Sync,
     W: Write,
->(
-    rt: &R,
-    alloc: Global,
-    text: &str,
-    writer: &mut W,
-) -> Result<(), ServeRefusal> {
+>(rt: &R, alloc: Global, text: &str, writer: &mut W) -> Result<(), ServeRefusal> {
     let settings = read_settings(alloc, text, false)?;
     run_named::<Brand, &R, R, W>(rt, rt, alloc, Blank::new(), &settings, writer)
 }
