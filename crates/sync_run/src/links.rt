@@ -50,7 +50,8 @@ pub fn linked_all<'a, R: Net + RandomSource>(
 {
     let mut peers = Vec::new(alloc);
     for relay in relays {
-        peers.push(linked(rt, alloc, relay, filter)?)?;
+        let peer = linked(rt, alloc, relay, filter)?;
+        peers.push(peer)?;
     }
     Ok(peers)
 }

@@ -163,13 +163,7 @@ pub fn run_sync<
     R: Net + RandomSource + Threads + Wait + Files + AllocGlobal + Sync,
     W: Write,
     P: Write,
->(
-    rt: &R,
-    alloc: Global,
-    text: &str,
-    writer: &mut W,
-    progress: &mut P,
-) -> Result<(), SyncRefusal>
+>(rt: &R, alloc: Global, text: &str, writer: &mut W, progress: &mut P) -> Result<(), SyncRefusal>
 where
     R::Stream: Send,
 {
