@@ -1,6 +1,6 @@
 //! Links over streams of the tests, and over a loopback socket.
 ghost use Rattle.std.specs.Prelude.{◌≡◌};
-ghost use Rattle.std.specs.Thread.{IsSync, IsSend};
+ghost use Rattle.std.specs.Thread.{IsSync};
 
 use super::*;
 use event_store::{Blank, Desk, Naming, Reader, open_store};
@@ -450,7 +450,18 @@ fn synced<R: Net<Stream = TcpStream> + RandomSource>(
     address: SocketAddr,
 ) -> Option<(usize, usize, bool, usize)> {
     let stream = TcpStream::connect(rt, address).ok()?;
-    let mut peer = WsPeer::start(alloc, rt, stream, "127.0.0.1", &Filter::all()).ok()?;
+    match WsPeer::start(alloc, rt, stream, "127.0.0.1", &Filter::all()) {
+        Ok(peer) => found(alloc, peer),
+        Err(_) => None,
+    }
+}
+
+fn found<S: Read + Write + Drop, K: MaskKeys + Drop>(
+    alloc: Global,
+    mut peer: WsPeer<S, K>,
+) -> Option<(usize, usize, bool, usize)>
+    requires { peer.faults ≡ 0 }
+{
     let item = event(alloc, EVENT_1)?.item();
     let roll = Roll::from_items(alloc, &[item]).ok()?;
     let outcome = reconcile_with(alloc, &mut peer, &roll, &SessionLimits::default()).ok()?;
@@ -462,8 +473,8 @@ fn synced<R: Net<Stream = TcpStream> + RandomSource>(
 
 /// A mirror with the first event meets a relay with both.
 fn meets<
-    J: Naming + Send + Sync,
-    D: Wait + Drop + Send + Sync,
+    J: Naming,
+    D: Wait + Drop,
     R: Net<Listener = TcpListener, Stream = TcpStream> + RandomSource + Threads + Wait + Sync,
 >(
     rt: &R,
@@ -481,15 +492,14 @@ fn meets<
     let mut reader = readers.pop()?;
     let listener = TcpListener::bind(rt, "127.0.0.1:0").ok()?;
     let address = listener.local_addr().ok()?;
-    Some(join(
+    let (found, served) = join(
         rt,
-        || -> Option<u64>
-            requires { IsSync R.row × IsSend J.row × IsSync J.row × IsSend D.row × IsSync D.row }
-        { serve_next(rt, alloc, &listener, &mut reader, &desk) },
         || -> Option<(usize, usize, bool, usize)>
             requires { IsSync R.row }
         { synced(rt, alloc, address) },
-    ))
+        || -> Option<u64> { serve_next(rt, alloc, &listener, &mut reader, &desk) },
+    );
+    Some((served, found))
 }
 
 #[test]
