@@ -9,6 +9,3 @@ mod order;
 
 pub use choice::choose;
 pub use order::Newest;
-
-#[cfg(test)]
-mod tests;

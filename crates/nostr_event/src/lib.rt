@@ -20,6 +20,3 @@ pub use fault::{EventFault, EventField};
 pub use hexes::bytes32_of;
 pub use ids::{id_of, id_text};
 pub use texts::{Tag, Tags, Text};
-
-#[cfg(test)]
-mod tests;

@@ -14,6 +14,3 @@ pub use choice::{Rank, choose, cut, put_in_order, rank_at};
 pub use conditions::{Bytes32List, Kinds, TagCondition, TagConditions, Texts};
 pub use fault::{FilterFault, FilterField};
 pub use filter::Filter;
-
-#[cfg(test)]
-mod tests;

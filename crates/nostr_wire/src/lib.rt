@@ -15,6 +15,3 @@ pub use lists::{Bytes, Filters, Sub};
 pub use messages::{FromClient, FromRelay};
 pub use reading::{read_client, read_relay};
 pub use writing::{write_client, write_relay};
-
-#[cfg(test)]
-mod tests;

@@ -1,11 +1,11 @@
 // Tests against values from outside: Python's json and hashlib.
 mod vectors;
 
-use crate::tests::vectors::{VECTORS, Vector};
-use crate::{
+use crate::events::vectors::{VECTORS, Vector};
+use neg_codec::{Id, Item};
+use nostr_event::{
     Draft, Event, EventFault, EventField, Spelling, Tag, Tags, Text, bytes32_of, id_of, id_text,
 };
-use neg_codec::{Id, Item};
 use serde_json::Value;
 use sha2::{Digest, Sha256};
 use std::alloc::Global;

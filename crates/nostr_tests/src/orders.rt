@@ -1,5 +1,5 @@
 //! Tests of the order, beside the choice that reads every event.
-use crate::{Newest, choose};
+use newest::{Newest, choose};
 use nostr_event::Event;
 use nostr_filter::Filter;
 use serde_json::Value;

@@ -1,5 +1,5 @@
 use Rattle.std.proofs.Common.{◌≡◌, length}
-use Rattle.newest.proofs.tests.arranged.Given as goal
+use Rattle.nostr_tests.proofs.orders.arranged.Given as goal
 
 abbrev pub invariant-loop-place : goal.invariant-loop-place
 invariant-loop-place l = length l.newest ≡ l.place

@@ -1,9 +1,9 @@
 // Tests of filters: their JSON, what they match, and what is chosen.
-use crate::{
+use nostr_event::{Event, Text};
+use nostr_filter::{
     Bytes32List, Filter, FilterFault, FilterField, Kinds, TagCondition, TagConditions, Texts,
     choose,
 };
-use nostr_event::{Event, Text};
 use serde_json::Value;
 use std::alloc::Global;
 use std::sync::Arc;

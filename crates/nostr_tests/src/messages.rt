@@ -1,11 +1,11 @@
 // Tests of messages.
-use crate::{
-    Bytes, Filters, FromClient, FromRelay, Sub, WireFault, read_client, read_relay, write_client,
-    write_relay,
-};
 use neg_codec::Id;
 use nostr_event::{EventFault, EventField, Text};
 use nostr_filter::{Filter, Kinds};
+use nostr_wire::{
+    Bytes, Filters, FromClient, FromRelay, Sub, WireFault, read_client, read_relay, write_client,
+    write_relay,
+};
 use std::alloc::Global;
 use std::test::*;
 

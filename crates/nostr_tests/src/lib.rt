@@ -1,0 +1,11 @@
+//! Tests of events, filters, messages and orders of events: values from outside, and each public call once with ample memory.
+#![tactic(auto)]
+
+#[cfg(test)]
+mod events;
+#[cfg(test)]
+mod filters;
+#[cfg(test)]
+mod messages;
+#[cfg(test)]
+mod orders;
