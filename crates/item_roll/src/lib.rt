@@ -14,6 +14,3 @@ pub use chunk::Chunk;
 pub use entries::Entry;
 pub use roll::{Roll, RollFault};
 pub use split::LISTED_BELOW;
-
-#[cfg(test)]
-mod tests;

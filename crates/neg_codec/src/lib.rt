@@ -116,6 +116,3 @@ impl<T: Drop> From<AllocFailed<T>> for CodecFault {
         CodecFault::Memory
     }
 }
-
-#[cfg(test)]
-mod tests;

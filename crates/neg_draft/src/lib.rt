@@ -7,6 +7,3 @@ mod ranges;
 
 pub use draft::Draft;
 pub use own::is_own_print;
-
-#[cfg(test)]
-mod tests;

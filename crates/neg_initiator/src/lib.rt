@@ -12,6 +12,3 @@ mod trust;
 pub use fault::InitFault;
 pub use initiator::{Initiator, Next, Outcome};
 pub use phase::Phase;
-
-#[cfg(test)]
-mod tests;

@@ -6,6 +6,3 @@ mod sum;
 
 pub use fingerprint::print;
 pub use sum::Sum;
-
-#[cfg(test)]
-mod tests;

@@ -5,6 +5,3 @@ mod answering;
 mod ranges;
 
 pub use answering::{AnswerFault, answer};
-
-#[cfg(test)]
-mod tests;

@@ -13,6 +13,3 @@ pub use local::{LocalPeer, roll_explains};
 pub use neg_initiator::Outcome;
 pub use peer::{Pair, Peer, PeerFault};
 pub use session::reconcile_with;
-
-#[cfg(test)]
-mod tests;

@@ -134,6 +134,3 @@ pub fn take(bytes: &[u8]) -> Result<(u64, usize), VarintFault>
 {
     first_number(bytes)
 }
-
-#[cfg(test)]
-mod tests;

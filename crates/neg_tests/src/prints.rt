@@ -1,5 +1,5 @@
-use super::*;
 use neg_codec::Id;
+use neg_print::{Sum, print};
 use std::test::*;
 
 /// The bytes 0 to 31.

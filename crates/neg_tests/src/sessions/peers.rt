@@ -2,7 +2,7 @@
 
 ghost use Rattle.std.specs.Prelude.{◌≡◌, []};
 
-use crate::{Pair, Peer, PeerFault};
+use neg_session::{Pair, Peer, PeerFault};
 use std::alloc::Global;
 
 /// It gives its answers in turn. After them it fails, or gives the last one again and again.

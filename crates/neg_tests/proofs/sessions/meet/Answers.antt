@@ -3,7 +3,7 @@ use Rattle.std.specs.Prelude.{All}
 use Rattle.neg_codec.specs.declared.Item.{Item}
 use Rattle.item_roll.specs.Parts.{IsRoll}
 use Rattle.neg_session.specs.Explaining.{AnswersBy}
-use Rattle.neg_session.proofs.tests.meet.Goals as goal
+use Rattle.neg_tests.proofs.sessions.meet.Goals as goal
 
 pub returns : goal.returns
 returns c =

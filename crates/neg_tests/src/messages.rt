@@ -1,4 +1,4 @@
-use super::*;
+use neg_codec::{Bound, CodecFault, Id, Item, Key, Message, Payload, Range, decode, encode};
 use std::process::Abort;
 use std::test::*;
 

@@ -5,9 +5,11 @@ ghost use Rattle.neg_session.specs.Ran.{IsRight};
 
 mod peers;
 
-use super::*;
 use item_roll::Roll;
 use neg_codec::{CodecFault, Id, Item};
+use neg_session::{
+    LocalPeer, Outcome, Peer, PeerFault, SessionFault, SessionLimits, reconcile_with, roll_explains,
+};
 use peers::Scripted;
 use std::alloc::Global;
 use std::collections::BTreeSet;

@@ -1,8 +1,8 @@
 ghost use Rattle.std.specs.Prelude.{◌<◌};
 
-use super::*;
 use item_roll::Roll;
 use neg_codec::{CodecFault, Id, Item, decode};
+use neg_responder::{AnswerFault, answer};
 use std::alloc::{AllocError, Global};
 use std::process::Abort;
 use std::test::*;

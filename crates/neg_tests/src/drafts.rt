@@ -1,6 +1,6 @@
-use super::*;
 use item_roll::Roll;
 use neg_codec::{Bound, Id, Item, Key, Payload, Range};
+use neg_draft::{Draft, is_own_print};
 use std::process::Abort;
 use std::test::*;
 

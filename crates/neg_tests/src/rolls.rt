@@ -1,4 +1,4 @@
-use super::*;
+use item_roll::{Chunk, Roll, RollFault, minimal_bound};
 use neg_codec::{Bound, Id, Item, Key, Payload, Range};
 use neg_print::Sum;
 use std::process::Abort;

@@ -1,6 +1,6 @@
-use super::*;
 use item_roll::Roll;
 use neg_codec::{CodecFault, Id, Item};
+use neg_initiator::{InitFault, Initiator, Next};
 use std::alloc::{AllocError, Global};
 use std::process::Abort;
 use std::test::Fail;
