@@ -1,5 +1,9 @@
 -- How a connection goes on, and when a call is refused.
 use Rattle.std.specs.Prelude.{◌≡◌, Option, Some, None}
+use Rattle.event_store.specs.declared.reader.PinFault.{PinFault}
+use Rattle.event_store.specs.declared.reader.PinFault.TheVariants as pin
+use Rattle.relay_core.specs.declared.fault.Broken.{Broken}
+use Rattle.relay_core.specs.declared.fault.Broken.TheVariants as broken
 use Rattle.relay_core.specs.declared.fault.ConnFault.{ConnFault}
 use Rattle.relay_core.specs.declared.fault.ConnFault.TheVariants.{Gone, Memory, Closed}
 use Rattle.relay_core.specs.Kept.{Kept}
@@ -15,3 +19,12 @@ abbrev pub RefusesRightly : Option Kept → ConnFault → Option Kept → Type 0
 RefusesRightly old Closed new = (old ≡ None) × (new ≡ None)
 RefusesRightly old Gone new = ((t : Kept) × (old ≡ Some t)) × (new ≡ None)
 RefusesRightly old Memory new = ((t : Kept) × (old ≡ Some t)) × (new ≡ None)
+
+-- each cause is told as itself
+abbrev pub broken_by : PinFault → Broken
+broken_by pin.Gone = broken.Gone
+broken_by pin.Memory = broken.Memory
+
+abbrev pub told_as : Broken → ConnFault
+told_as broken.Gone = Gone
+told_as broken.Memory = Memory

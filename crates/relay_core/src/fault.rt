@@ -48,9 +48,10 @@ impl<T: Drop> From<AllocFailed<T>> for Broken {
 }
 
 impl From<PinFault> for Broken {
-    ghost use Rattle.std.specs.Prelude.{⊤};
+    ghost use Rattle.std.specs.Prelude.{◌≡◌};
+    ghost use Rattle.relay_core.specs.Faults.{broken_by};
 
-    ghost from_gives = { λ _ e. ⊤ };
+    ghost from_gives = { λ f e. e ≡ broken_by f };
 
     fn from(fault: PinFault) -> Broken {
         match fault {
@@ -61,10 +62,11 @@ impl From<PinFault> for Broken {
 }
 
 impl From<Broken> for ConnFault {
-    ghost use Rattle.std.specs.Prelude.{◌≢◌};
+    ghost use Rattle.std.specs.Prelude.{◌≡◌, ◌≢◌};
     ghost use Rattle.relay_core.specs.declared.fault.ConnFault.TheVariants.{Closed};
+    ghost use Rattle.relay_core.specs.Faults.{told_as};
 
-    ghost from_gives = { λ _ e. e ≢ Closed };
+    ghost from_gives = { λ b e. (e ≡ told_as b) × (e ≢ Closed) };
 
     fn from(broken: Broken) -> ConnFault {
         match broken {
