@@ -1,5 +1,5 @@
 -- What is pinned, and what is answered from it.
-use Rattle.std.proofs.Common.{◌≡◌, ℕ, ◌≤◌, List, [], ◌∷◌, length, Option, None, refl, ap, sym, subst, ◌∙◌}
+use Rattle.std.proofs.Common.{◌≡◌, ℕ, ◌≤◌, List, [], ◌∷◌, length, None, refl, ap, sym, subst, ◌∙◌}
 use Rattle.std.specs.Prelude.{filter, Err}
 use Rattle.neg_codec.specs.declared.Item.{Item}
 use Rattle.neg_codec.specs.declared.CodecFault.TheVariants as codec
@@ -11,7 +11,6 @@ use Rattle.neg_draft.specs.Coverage.{NoneEmpty}
 use Rattle.neg_responder.specs.Reply.{SkipsSame}
 use Rattle.nostr_event.specs.EventView.{EventView}
 use Rattle.nostr_filter.specs.declared.filter.Filter.{Filter}
-use Rattle.nostr_filter.specs.Matching.{matches_of}
 use Rattle.nostr_wire.specs.Forms.{Form}
 use Rattle.event_store.specs.Events.{matching}
 use Rattle.relay_core.specs.Kept.{Kept, kept_of, put}

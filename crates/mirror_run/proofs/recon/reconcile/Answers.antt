@@ -1,6 +1,6 @@
 use Rattle.std.proofs.lemmas.Result.{IfOk-weaker, IfErr-weaker}
 use Rattle.mirror_run.specs.Reconciled.{Reconciles, IsSessionRefusal, TellsRolls}
-use Rattle.mirror_run.proofs.SessionLemmas.{lists_refused, lines_refused}
+use Rattle.mirror_run.proofs.SessionLemmas.{lists_refused}
 use Rattle.mirror_run.proofs.recon.reconcile.Goals as goal
 
 pub returns-clause-err : goal.returns-clause-err

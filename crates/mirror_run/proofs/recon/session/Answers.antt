@@ -1,4 +1,4 @@
-use Rattle.std.proofs.Common.{rules, ap, Err}
+use Rattle.std.proofs.Common.{ap, Err}
 use Rattle.mirror_run.proofs.SessionLemmas.{reconciled, refused}
 use Rattle.mirror_run.proofs.recon.session.Goals as goal
 

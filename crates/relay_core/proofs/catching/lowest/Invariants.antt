@@ -1,4 +1,4 @@
-use Rattle.std.proofs.Common.{◌≡◌, ◌≤◌, take}
+use Rattle.std.proofs.Common.{◌≤◌, take}
 use Rattle.std.specs.List.{AllByRecursion}
 use Rattle.relay_core.specs.declared.subs.Subscription.{Subscription}
 use Rattle.relay_core.proofs.catching.lowest.Given as goal

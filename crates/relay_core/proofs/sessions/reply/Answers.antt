@@ -1,5 +1,5 @@
-use Rattle.std.proofs.Common.{◌≡◌, ap, sym, ◌∙◌}
-use Rattle.std.specs.Prelude.{Ok, Err}
+use Rattle.std.proofs.Common.{ap, sym, ◌∙◌}
+use Rattle.std.specs.Prelude.{Err}
 use Rattle.relay_core.specs.Sessions.{IsBad}
 use Rattle.relay_core.proofs.Pinned.{is_answer}
 use Rattle.relay_core.proofs.sessions.reply.Goals as goal
