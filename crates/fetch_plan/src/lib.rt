@@ -62,6 +62,3 @@ pub fn plan(alloc: Global, table: &OfferTable, bases: &Bases) -> Result<Plan, Al
         group,
     })
 }
-
-#[cfg(test)]
-mod tests;

@@ -17,6 +17,3 @@ pub use faults::{BaseFault, OfferFault};
 pub use ids::Ids;
 pub use relays::{Members, RelaySet};
 pub use table::OfferTable;
-
-#[cfg(test)]
-mod tests;

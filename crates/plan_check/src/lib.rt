@@ -25,8 +25,3 @@ pub use text_lines::cut_line;
 pub use verdict::check;
 pub use words::cut_relay;
 pub use writing::write_plan;
-
-#[cfg(test)]
-mod tests;
-#[cfg(test)]
-mod text_tests;

@@ -9,6 +9,3 @@ mod rules;
 pub(crate) use events::Touch;
 pub use events::{Answer, Refusal, RoundEvent};
 pub use round::{Round, cell_is, finished_once, one_holder};
-
-#[cfg(test)]
-mod tests;

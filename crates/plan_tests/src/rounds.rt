@@ -2,10 +2,10 @@
 
 ghost use Rattle.std.specs.Prelude.{◌≤◌, length};
 
-use crate::{Answer, Refusal, Round, RoundEvent};
 use fetch_plan::Cell;
 use neg_codec::Id;
 use offer_table::Bases;
+use round_core::{Answer, Refusal, Round, RoundEvent};
 use std::alloc::{AllocError, Global};
 use std::collections::BTreeSet;
 use std::test::Fail;

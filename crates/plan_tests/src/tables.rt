@@ -1,7 +1,7 @@
 //! Tables of a few reports, and of as many ids as a table takes: each call with memory enough.
 
-use crate::{BaseFault, Bases, OfferFault, OfferTable, RelaySet};
 use neg_codec::Id;
+use offer_table::{BaseFault, Bases, OfferFault, OfferTable, RelaySet};
 use sharing::RELAYS;
 use std::alloc::{AllocError, Global};
 use std::collections::BTreeSet;

@@ -1,6 +1,6 @@
 //! Plans of a few offers, with and without bases, and of some thousands in several shapes.
 
-use crate::{Plan, plan};
+use fetch_plan::{Plan, plan};
 use neg_codec::Id;
 use offer_table::{Bases, OfferTable};
 use std::alloc::{AllocError, Global};

@@ -1,6 +1,6 @@
 //! Plan texts: worked examples, and texts that are refused.
 
-use crate::{PlanFault, check, read_plan, scan_plan, write_plan};
+use plan_check::{PlanFault, check, read_plan, scan_plan, write_plan};
 use std::alloc::{AllocError, Global};
 use std::test::Fail;
 

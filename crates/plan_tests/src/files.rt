@@ -1,7 +1,7 @@
 //! Plan files that are made of lists.
 
-use crate::{PlanFault, PlanFile, check, write_plan};
 use neg_codec::Id;
+use plan_check::{PlanFault, PlanFile, check, write_plan};
 use std::alloc::{AllocError, Global};
 use std::test::Fail;
 
