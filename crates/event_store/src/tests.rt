@@ -318,8 +318,56 @@ fn told_reader(rt: HostRuntime) -> Result<(), Fail> {
     Ok(())
 }
 
-// While one thread inserts a hundred events under the desk's lock, another pins until it is told to stop: how many of its pins
-// aren't a beginning of the next, and how many events a reader then has that learnt the last.
+// What one thread does beside another.
+trait Part<T> {
+    fn go<R: Wait>(&mut self, rt: &R, alloc: Global, stop: &AtomicU64) -> T;
+}
+
+// Pins until it is told to stop, and counts the pins that aren't a beginning of the next, or none where a pin failed.
+impl<J: Naming> Part<Option<u64>> for Reader<J> {
+    fn go<R: Wait>(&mut self, _rt: &R, alloc: Global, stop: &AtomicU64) -> Option<u64> {
+        let mut back = 0u64;
+        let mut last = self.pin(alloc, &Filter::all()).ok()?;
+        for _ in 0..u64::MAX {
+            let done = stop.load(Ordering::SeqCst) == 1;
+            let next = self.pin(alloc, &Filter::all()).ok()?;
+            if !begins(last.events(), next.events()) {
+                back = back.wrapping_add(1);
+            }
+            last = next;
+            if done {
+                break;
+            }
+        }
+        Some(back)
+    }
+}
+
+// Inserts a hundred events, tells the other thread to stop, and answers the last.
+impl<J: Naming, D: Wait + Drop> Part<Option<Placed<J>>> for Desk<J, D> {
+    fn go<R: Wait>(&mut self, rt: &R, alloc: Global, stop: &AtomicU64) -> Option<Placed<J>> {
+        let last = insert_all(rt, alloc, self, 0, 100);
+        stop.store(1, Ordering::SeqCst);
+        last
+    }
+}
+
+fn at_once<R: Threads + Wait + Sync, X: Send, Y: Send, A: Part<X> + Send, B: Part<Y> + Send>(
+    rt: &R,
+    alloc: Global,
+    one: &mut A,
+    other: &mut B,
+) -> (X, Y) {
+    let stop = AtomicU64::new(0);
+    join(
+        rt,
+        || one.go(rt, alloc, &stop),
+        || other.go(rt, alloc, &stop),
+    )
+}
+
+// While one thread inserts a hundred events, another pins until it is told to stop: how many of its pins aren't a beginning of
+// the next, and how many events a reader then has that learns the last.
 fn tells<J: Naming + Send + Sync, D: Wait + Drop + Send, R: Threads + Wait + Sync>(
     rt: &R,
     keep: D,
@@ -329,62 +377,18 @@ fn tells<J: Naming + Send + Sync, D: Wait + Drop + Send, R: Threads + Wait + Syn
     requires book { blank ≡ J.book }
     requires most { J.most ≡ 1000000 }
 {
-    let (desk, mut readers) = open_store::<J, D>(keep, alloc, blank, 2).ok()?;
+    let (mut desk, mut readers) = open_store::<J, D>(keep, alloc, blank, 2).ok()?;
     let mut told = readers.pop()?;
     let mut watcher = readers.pop()?;
-    let desk = Mutex::new(desk);
-    let stop = AtomicU64::new(0);
-    let (back, last) = join(
+    let (back, last) = at_once::<R, Option<u64>, Option<Placed<J>>, Reader<J>, Desk<J, D>>(
         rt,
-        || watch(alloc, &mut watcher, &stop),
-        || fill(rt, alloc, &desk, &stop),
+        alloc,
+        &mut watcher,
+        &mut desk,
     );
     told.learn(&last?);
     let all = told.pin(alloc, &Filter::all()).ok()?;
     Some((back?, all.events().len()))
-}
-
-// Inserts a hundred events, tells the other thread to stop, and answers the last.
-fn fill<J: Naming, D: Wait + Drop, R: Wait>(
-    rt: &R,
-    alloc: Global,
-    desk: &Mutex<Desk<J, D>>,
-    stop: &AtomicU64,
-) -> Option<Placed<J>> {
-    let last = insert_each(rt, alloc, desk);
-    stop.store(1, Ordering::SeqCst);
-    last
-}
-
-fn insert_each<J: Naming, D: Wait + Drop, R: Wait>(
-    rt: &R,
-    alloc: Global,
-    desk: &Mutex<Desk<J, D>>,
-) -> Option<Placed<J>> {
-    let mut last = None;
-    for number in 0..100 {
-        let event = event(alloc, number, time_of(number))?;
-        last = desk.lock(rt).insert(rt, event).ok();
-    }
-    last
-}
-
-// Pins until it is told to stop, and counts the pins that aren't a beginning of the next, or none where a pin failed.
-fn watch<J: Naming>(alloc: Global, reader: &mut Reader<J>, stop: &AtomicU64) -> Option<u64> {
-    let mut back = 0u64;
-    let mut last = reader.pin(alloc, &Filter::all()).ok()?;
-    for _ in 0..u64::MAX {
-        let done = stop.load(Ordering::SeqCst) == 1;
-        let next = reader.pin(alloc, &Filter::all()).ok()?;
-        if !begins(last.events(), next.events()) {
-            back = back.wrapping_add(1);
-        }
-        last = next;
-        if done {
-            break;
-        }
-    }
-    Some(back)
 }
 
 fn begins(first: &EventList, next: &EventList) -> bool {
