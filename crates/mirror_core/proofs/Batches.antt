@@ -2,6 +2,7 @@
 use Rattle.std.proofs.Common.{◌≡◌, ◌≢◌, ◌⊎◌, ℕ, suc, zero, ◌+◌, ◌<◌, List, [], ◌∷◌, ◌++◌, length, get_or, sym, refl, ap, ◌∙◌, subst, ⊎_elim, inl, inr, arith, Some}
 use Rattle.std.specs.Prelude.{Contains, slice_index, slice_get}
 use Rattle.std.proofs.lemmas.List.Elements.{Contains-push, Contains-push_cases, Contains-append_left}
+use Rattle.std.proofs.lemmas.Option.{slice_get_within}
 use mathlib.Core.Logic.{dite, ◌↔◌}
 use native.Mathlib.Decide.{ℕ_discrete}
 use Rattle.neg_codec.specs.declared.Id.{Id}
@@ -11,7 +12,8 @@ use Rattle.claim_board.specs.declared.records.LaneRecord.{LaneRecord}
 use Rattle.claim_board.specs.Rules.{relays, IsIdOf}
 use Rattle.claim_board.specs.Steps.{Knows, with_won, with_met, with_ended, with_released, without}
 use Rattle.claim_board.proofs.Words.{in_first, in_later, in_cases, without_keeps}
-use Rattle.mirror_core.specs.Batches.{NoneTwice, Holds, Batched, EndsCell, Settles}
+use Rattle.claim_board.specs.Views.{LaneView}
+use Rattle.mirror_core.specs.Batches.{NoneTwice, Holds, Batched, SameLane, EndsCell, Settles}
 
 pub none_of : {X : Type 0} (xs : List X) (x : X) → xs ≡ [] → Contains xs x → ⊥
 none_of xs x e c = let h = c.1 in let z = ap length e in omega arith
@@ -156,3 +158,26 @@ settles_then cells asked given e f g same s t = record {
       (λ (x : (id : Id) × (slice_get cells i ≡ Some (id, f.relay)) × Contains asked id × (Contains given id → ⊥)). inr (x.0, x.1 ∙ ap (λ (r : ℕ). Some (x.0, r)) (sym same), x.2, x.3)) (s.missed i k))
       (λ (x : (id : Id) × (slice_get cells i ≡ Some (id, g.relay)) × Contains asked id × (Contains given id → ⊥)). inr x) (t.missed i z);
 }
+
+pub same_then : (p q r : LaneView) → SameLane p q → SameLane q r → SameLane p r
+same_then p q r h k = record {
+  board = k.board ∙ h.board;
+  others = k.others ∙ h.others;
+  lane = k.lane ∙ h.lane;
+  relay = k.relay ∙ h.relay;
+}
+
+pub batched_clear : (cells : List (Id × ℕ)) (n : ℕ) (batch : List ℕ) (ids : List Id) (e : LaneRecord) → batch ≡ [] → Batched cells n batch ids e → Batched cells n [] [] e
+batched_clear cells n batch ids e none b = let c : Batched cells n [] ids e = subst (λ (z : List ℕ). Batched cells n z ids e) none b in record {
+  holds = c.holds;
+  asked = λ i z. absurd (none_of {X = ℕ} [] i refl z);
+  won = c.won;
+  seen = c.seen;
+}
+
+-- the first cell of a batch is one of the plan's
+pub cell_within : (cells : List (Id × ℕ)) (n i : ℕ) (rest : List ℕ) (ids : List Id) (e : LaneRecord) → Batched cells n (i ∷ rest) ids e → i < length cells
+cell_within cells n i rest ids e b = let a = b.asked i (in_first i rest) in slice_get_within cells i (a.0, e.relay) a.1
+
+pub cells_within : (cells : List (Id × ℕ)) (n : ℕ) (batch : List ℕ) (ids : List Id) (e : LaneRecord) → Batched cells n batch ids e → (i : ℕ) → Contains batch i → i < length cells
+cells_within cells n batch ids e b i c = let a = b.asked i c in slice_get_within cells i (a.0, e.relay) a.1

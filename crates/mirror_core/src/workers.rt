@@ -1,0 +1,80 @@
+//! Workers side by side, each in a thread of its own.
+
+ghost use Rattle.std.specs.Prelude.{◌≡◌, ◌<◌, ◌^◌, ◌-◌, ◌++◌, ◌∷◌, [], All, length, ℕ, IfOk};
+ghost use Rattle.std.specs.Thread.{IsSync, IsSend};
+ghost use Rattle.atomic_table.specs.Seated.{TableId};
+ghost use Rattle.claim_board.specs.Views.{LaneView, all_of};
+ghost use Rattle.mirror_core.specs.Six.{AllSix};
+ghost use Rattle.mirror_core.specs.Working.{IsUnused, Worked};
+ghost use Rattle.mirror_core.specs.Closing.{AllBack, Closed, behind};
+
+use crate::source::Source;
+use crate::worker::{Stop, work};
+use claim_board::{Board, Cell, Lane};
+use event_store::{Desk, Naming};
+use std::alloc::{AllocError, Global};
+use std::sync::{Mutex, Wait};
+use std::thread::{Threads, join_mut};
+
+/// Each worker on its lane and with its source, and how each ended.
+#[cycle(workers)]
+pub(crate) fn run_workers<
+    R: Threads + Wait + Sync,
+    J: Naming + Send + Sync,
+    D: Wait + Drop + Send,
+    S: Source + Send,
+>(
+    rt: &R,
+    alloc: Global,
+    board: &Board,
+    desk: &Mutex<Desk<J, D>>,
+    lanes: &mut [Lane],
+    sources: &mut [S],
+    stops: &mut [Stop<J>],
+)
+    requires same { (length lanes.old ≡ length sources.old) × (length lanes.old ≡ length stops.old) }
+    requires unused { All (λ l. (l.board ≡ board.now.board) × IsUnused l.own) lanes.old }
+    requires ready { All (λ s. S.faults s < 2 ^ 64 - 1) sources.old }
+    ensures { AllSix (λ l m s t u stop. Worked board.now.cells l m (S.log s) (S.log t) (S.faults s) (S.faults t) stop × S.becomes s t) lanes.old lanes.new sources.old sources.new stops.old stops.new }
+{
+    if lanes.is_empty() {
+        return;
+    }
+    if lanes.len() == 1 {
+        stops[0] = work(rt, alloc, board, desk, &mut lanes[0], &mut sources[0]);
+        return;
+    }
+    let half = lanes.len() / 2;
+    let (front, back) = lanes.split_at_mut(half);
+    let (near, far) = sources.split_at_mut(half);
+    let (ends, others) = stops.split_at_mut(half);
+    join_mut(
+        rt,
+        &mut ||
+            requires { IsSync R.row × IsSend S.row × IsSend J.row × IsSync J.row × IsSend D.row × (length front.now ≡ length near.now) × (length front.now ≡ length ends.now) × All (λ l. (l.board ≡ board.now.board) × IsUnused l.own) front.now × All (λ s. S.faults s < 2 ^ 64 - 1) near.now }
+            ensures { AllSix (λ l m s t u stop. Worked board.entry.now.cells l m (S.log s) (S.log t) (S.faults s) (S.faults t) stop × S.becomes s t) front.entry.now front.exit.now near.entry.now near.exit.now ends.entry.now ends.exit.now }
+        { run_workers(rt, alloc, board, desk, front, near, ends) },
+        &mut ||
+            requires { IsSync R.row × IsSend S.row × IsSend J.row × IsSync J.row × IsSend D.row × (length back.now ≡ length far.now) × (length back.now ≡ length others.now) × All (λ l. (l.board ≡ board.now.board) × IsUnused l.own) back.now × All (λ s. S.faults s < 2 ^ 64 - 1) far.now }
+            ensures { AllSix (λ l m s t u stop. Worked board.entry.now.cells l m (S.log s) (S.log t) (S.faults s) (S.faults t) stop × S.becomes s t) back.entry.now back.exit.now far.entry.now far.exit.now others.entry.now others.exit.now }
+        { run_workers(rt, alloc, board, desk, back, far, others) },
+    );
+}
+
+/// Closes the board once all its lanes have come back, of which there is one at least.
+pub(crate) fn close_all(board: Board, lanes: Vec<Lane>) -> Result<Vec<Cell>, AllocError>
+    requires { AllBack board.board lanes.items }
+    ensures { IfOk result (λ v. (keeper : LaneView) × (all_of keeper ≡ behind lanes.items) × Closed board.cells board.lanes keeper v.items) }
+{
+    let mut lanes = lanes;
+    let Some(mut keeper) = lanes.pop() else {
+        return Err(AllocError);
+    };
+    while let Some(lane) = lanes.pop() {
+        board.leave(&mut keeper, lane);
+    }
+    match board.close(keeper) {
+        Ok(cells) => Ok(cells),
+        Err((refused, _board, _lane)) => Err(refused),
+    }
+}
