@@ -68,7 +68,7 @@ fn places<J: Naming>(alloc: Global, count: usize) -> Result<Vec<Stop<J>>, AllocE
 pub fn fetch_all<
     R: Threads + Wait + Sync,
     J: Naming + Send + Sync,
-    D: Wait + Drop + Send,
+    D: Wait + Drop + Send + Sync,
     S: Source + Send,
 >(
     rt: &R,
@@ -92,13 +92,15 @@ pub fn fetch_all<
     let mut lanes = lanes;
     run_workers(
         rt,
-        alloc,
+        &alloc,
         &board,
         desk,
         &mut lanes,
         sources,
         &mut stops,
     );
-    let cells = close_all(board, lanes)?;
-    Ok(FetchReport { cells, stops })
+    match close_all(board, lanes) {
+        Some(cells) => Ok(FetchReport { cells, stops }),
+        None => Err(FetchFault::Memory),
+    }
 }

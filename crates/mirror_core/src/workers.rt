@@ -1,6 +1,6 @@
 //! Workers side by side, each in a thread of its own.
 
-ghost use Rattle.std.specs.Prelude.{◌≡◌, ◌<◌, ◌^◌, ◌-◌, ◌++◌, ◌∷◌, [], All, length, ℕ, IfOk};
+ghost use Rattle.std.specs.Prelude.{◌≡◌, ◌<◌, ◌^◌, ◌-◌, ◌++◌, ◌∷◌, [], All, length, ℕ, IfSome};
 ghost use Rattle.std.specs.Thread.{IsSync, IsSend};
 ghost use Rattle.atomic_table.specs.Seated.{TableId};
 ghost use Rattle.claim_board.specs.Views.{LaneView, all_of};
@@ -12,7 +12,7 @@ use crate::source::Source;
 use crate::worker::{Stop, work};
 use claim_board::{Board, Cell, Lane};
 use event_store::{Desk, Naming};
-use std::alloc::{AllocError, Global};
+use std::alloc::Global;
 use std::sync::{Mutex, Wait};
 use std::thread::{Threads, join_mut};
 
@@ -21,11 +21,11 @@ use std::thread::{Threads, join_mut};
 pub(crate) fn run_workers<
     R: Threads + Wait + Sync,
     J: Naming + Send + Sync,
-    D: Wait + Drop + Send,
+    D: Wait + Drop + Send + Sync,
     S: Source + Send,
 >(
     rt: &R,
-    alloc: Global,
+    alloc: &Global,
     board: &Board,
     desk: &Mutex<Desk<J, D>>,
     lanes: &mut [Lane],
@@ -41,7 +41,7 @@ pub(crate) fn run_workers<
         return;
     }
     if lanes.len() == 1 {
-        stops[0] = work(rt, alloc, board, desk, &mut lanes[0], &mut sources[0]);
+        stops[0] = work(rt, *alloc, board, desk, &mut lanes[0], &mut sources[0]);
         return;
     }
     let half = lanes.len() / 2;
@@ -51,30 +51,27 @@ pub(crate) fn run_workers<
     join_mut(
         rt,
         &mut ||
-            requires { IsSync R.row × IsSend S.row × IsSend J.row × IsSync J.row × IsSend D.row × (length front.now ≡ length near.now) × (length front.now ≡ length ends.now) × All (λ l. (l.board ≡ board.now.board) × IsUnused l.own) front.now × All (λ s. S.faults s < 2 ^ 64 - 1) near.now }
+            requires { IsSync R.row × IsSend S.row × IsSend J.row × IsSync J.row × IsSend D.row × IsSync D.row × (length front.now ≡ length near.now) × (length front.now ≡ length ends.now) × All (λ l. (l.board ≡ board.now.board) × IsUnused l.own) front.now × All (λ s. S.faults s < 2 ^ 64 - 1) near.now }
             ensures { AllSix (λ l m s t u stop. Worked board.entry.now.cells l m (S.log s) (S.log t) (S.faults s) (S.faults t) stop × S.becomes s t) front.entry.now front.exit.now near.entry.now near.exit.now ends.entry.now ends.exit.now }
         { run_workers(rt, alloc, board, desk, front, near, ends) },
         &mut ||
-            requires { IsSync R.row × IsSend S.row × IsSend J.row × IsSync J.row × IsSend D.row × (length back.now ≡ length far.now) × (length back.now ≡ length others.now) × All (λ l. (l.board ≡ board.now.board) × IsUnused l.own) back.now × All (λ s. S.faults s < 2 ^ 64 - 1) far.now }
+            requires { IsSync R.row × IsSend S.row × IsSend J.row × IsSync J.row × IsSend D.row × IsSync D.row × (length back.now ≡ length far.now) × (length back.now ≡ length others.now) × All (λ l. (l.board ≡ board.now.board) × IsUnused l.own) back.now × All (λ s. S.faults s < 2 ^ 64 - 1) far.now }
             ensures { AllSix (λ l m s t u stop. Worked board.entry.now.cells l m (S.log s) (S.log t) (S.faults s) (S.faults t) stop × S.becomes s t) back.entry.now back.exit.now far.entry.now far.exit.now others.entry.now others.exit.now }
         { run_workers(rt, alloc, board, desk, back, far, others) },
     );
 }
 
-/// Closes the board once all its lanes have come back, of which there is one at least.
-pub(crate) fn close_all(board: Board, lanes: Vec<Lane>) -> Result<Vec<Cell>, AllocError>
+/// Closes the board once all its lanes have come back, of which there is one at least. None for want of memory.
+pub(crate) fn close_all(board: Board, mut lanes: Vec<Lane>) -> Option<Vec<Cell>>
     requires { AllBack board.board lanes.items }
-    ensures { IfOk result (λ v. (keeper : LaneView) × (all_of keeper ≡ behind lanes.items) × Closed board.cells board.lanes keeper v.items) }
+    ensures { IfSome result (λ v. (keeper : LaneView) × (all_of keeper ≡ behind lanes.items) × Closed board.cells board.lanes keeper v.items) }
 {
-    let mut lanes = lanes;
-    let Some(mut keeper) = lanes.pop() else {
-        return Err(AllocError);
-    };
+    let mut keeper = lanes.pop()?;
     while let Some(lane) = lanes.pop() {
         board.leave(&mut keeper, lane);
     }
     match board.close(keeper) {
-        Ok(cells) => Ok(cells),
-        Err((refused, _board, _lane)) => Err(refused),
+        Ok(cells) => Some(cells),
+        Err(_) => None,
     }
 }

@@ -1,5 +1,5 @@
-use Rattle.std.proofs.Common.{◌≡◌, ℕ, List, [], length, sym, ap, ◌∙◌, subst}
-use Rattle.std.specs.Prelude.{Contains}
+use Rattle.std.proofs.Common.{◌≡◌, ℕ, List, [], length, sym, ap, ◌∙◌, subst, arith}
+use Rattle.std.specs.Prelude.{Contains, vec_len}
 use Rattle.std.proofs.lemmas.List.{nil_from_length}
 use Rattle.std.proofs.lemmas.Bool.{eqb-true}
 use Rattle.mirror_core.specs.Fetching.{ids_of}
@@ -9,12 +9,14 @@ use Rattle.mirror_core.proofs.worker.fetch_batch.Goals as goal
 
 pub returns-then-is_empty-clause-batched : goal.returns-then-is_empty-clause-batched
 returns-then-is_empty-clause-batched g c =
-    let none = nil_from_length c.args.batch.now.cells.items (eqb-true (length c.args.batch.now.cells.items) 0 (sym c.if-is_empty.ensures)) in
+    let zero = eqb-true (vec_len c.args.batch.now.cells) 0 (sym c.if-is_empty.ensures) in
+    let none = nil_from_length c.args.batch.now.cells.items (omega (arith, zero, c.args.batch.now.cells.ok.0)) in
     batched_clear c.args.board.now.cells c.args.batch.now.next _ c.args.batch.now.ids.items c.args.lane.now.own none c.requires.batched
 
 pub returns-then-is_empty-clause-held : goal.returns-then-is_empty-clause-held
 returns-then-is_empty-clause-held g c =
-    let none = nil_from_length c.args.batch.now.cells.items (eqb-true (length c.args.batch.now.cells.items) 0 (sym c.if-is_empty.ensures)) in
+    let zero = eqb-true (vec_len c.args.batch.now.cells) 0 (sym c.if-is_empty.ensures) in
+    let none = nil_from_length c.args.batch.now.cells.items (omega (arith, zero, c.args.batch.now.cells.ok.0)) in
     holds_none c.args.lane.now.own (batched_clear c.args.board.now.cells c.args.batch.now.next _ c.args.batch.now.ids.items c.args.lane.now.own none c.requires.batched).holds
 
 pub returns-in-Ok-settle-clause-log : goal.returns-in-Ok-settle-clause-log
