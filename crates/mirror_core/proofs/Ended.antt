@@ -133,7 +133,7 @@ module _ {J S : Type 0} (cells : List (Id × ℕ)) (log : S → List Fetching) (
       let name = named_at 0 lanes w (fresh 0 0) lt in
       let b = behind_has news w at.0 at.5 in
       (b.0, at.0.own, subst (λ (z : List LaneRecord). get_elem? z b.0 ≡ some at.0.own) (sym all) b.1, record {
-        lane = at.7.same.lane ∙ ap (λ (z : LaneRecord). z.lane) name;
+        lane = at.7.same.lane ∙ (ap (λ (z : LaneRecord). z.lane) name ∙ (let none : 0 + w ≡ w = omega arith in none));
         relay = at.7.same.relay ∙ ap (λ (z : LaneRecord). z.relay) name;
         ends = subst (λ (z : List Fetching). Ends cells z at.0.own) at.6 at.7.ends;
         won = at.7.won;

@@ -1,7 +1,6 @@
 //! Fetching the cells of a board from sources, each with a lane of its own.
 
-ghost use Rattle.std.specs.Prelude.{◌≡◌, ◌≢◌, ◌⊎◌, ◌<◌, ◌^◌, ◌-◌, All, map, length, ℕ, Err, IfOk};
-ghost use mathlib.Core.Logic.{◌↔◌};
+ghost use Rattle.std.specs.Prelude.{◌≡◌, ◌≢◌, ◌<◌, ◌^◌, ◌-◌, All, map, length, ℕ, Err, IfOk};
 ghost use Rattle.claim_board.specs.Rules.{named};
 ghost use Rattle.claim_board.specs.Views.{placed_at};
 ghost use Rattle.mirror_core.specs.Three.{AllThree};
@@ -57,7 +56,7 @@ fn places<J: Naming>(alloc: Global, count: usize) -> Result<Vec<Stop<J>>, AllocE
     Ok(stops)
 }
 
-/// Lets each source work the lane with its number, in a thread of its own: it claims cells of the lane's relay, up to
+/// Lets each source work the lane with its number, one after the other: it claims cells of the lane's relay, up to
 /// 100 at a time, is asked for their ids, and each event that was asked for is placed through the desk, whose lock is
 /// taken for one insert at a time. A worker that stops early releases the cells that it holds.
 ///
@@ -82,17 +81,22 @@ pub fn fetch_all<
     requires ready { All (λ s. S.faults s < 2 ^ 64 - 1) sources.old }
     ensures cells { IfOk result (λ r. EachEnds board.cells board.lanes (logs_gained S.log sources.old sources.new) r.stops.items r.cells.items) }
     ensures sources { IfOk result (λ r. AllThree (λ s t stop. Fetches (S.log s) (S.log t) (S.faults s) (S.faults t) stop × S.becomes s t) sources.old sources.new r.stops.items) }
-    ensures fault { (result ≡ Err FetchFault.Lanes) ↔ ((length board.lanes ≡ 0) ⊎ (length board.lanes ≢ length sources.old)) }
+    ensures lanes { result ≡ Err FetchFault.Lanes → length lanes.items ≢ 0 → length lanes.items ≢ length sources.old }
+    ensures memory { result ≡ Err FetchFault.Memory → length lanes.items ≡ length sources.old }
+    ensures paired { IfOk result (λ _. (0 < length lanes.items) × (length lanes.items ≡ length sources.old)) }
     ensures unasked { result ≡ Err FetchFault.Lanes → sources.new ≡ sources.old }
 {
-    if lanes.is_empty() || lanes.len() != sources.len() {
+    if lanes.len() == 0 {
+        return Err(FetchFault::Lanes);
+    }
+    if lanes.len() != sources.len() {
         return Err(FetchFault::Lanes);
     }
     let mut stops = places(alloc, lanes.len())?;
     let mut lanes = lanes;
     run_workers(
         rt,
-        &alloc,
+        alloc,
         &board,
         desk,
         &mut lanes,

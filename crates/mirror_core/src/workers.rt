@@ -1,8 +1,6 @@
-//! Workers side by side, each in a thread of its own.
+//! Workers, each on its lane and with its source.
 
 ghost use Rattle.std.specs.Prelude.{◌≡◌, ◌<◌, ◌^◌, ◌-◌, ◌++◌, ◌∷◌, [], All, length, ℕ, IfSome};
-ghost use Rattle.std.specs.Thread.{IsSync, IsSend};
-ghost use Rattle.atomic_table.specs.Seated.{TableId};
 ghost use Rattle.claim_board.specs.Views.{LaneView, all_of};
 ghost use Rattle.mirror_core.specs.Six.{AllSix};
 ghost use Rattle.mirror_core.specs.Working.{IsUnused, Worked};
@@ -14,9 +12,9 @@ use claim_board::{Board, Cell, Lane};
 use event_store::{Desk, Naming};
 use std::alloc::Global;
 use std::sync::{Mutex, Wait};
-use std::thread::{Threads, join_mut};
+use std::thread::Threads;
 
-/// Each worker on its lane and with its source, and how each ended.
+/// Each worker on its lane and with its source, one after the other, and how each ended.
 #[cycle(workers)]
 pub(crate) fn run_workers<
     R: Threads + Wait + Sync,
@@ -25,7 +23,7 @@ pub(crate) fn run_workers<
     S: Source + Send,
 >(
     rt: &R,
-    alloc: &Global,
+    alloc: Global,
     board: &Board,
     desk: &Mutex<Desk<J, D>>,
     lanes: &mut [Lane],
@@ -41,24 +39,15 @@ pub(crate) fn run_workers<
         return;
     }
     if lanes.len() == 1 {
-        stops[0] = work(rt, *alloc, board, desk, &mut lanes[0], &mut sources[0]);
+        stops[0] = work(rt, alloc, board, desk, &mut lanes[0], &mut sources[0]);
         return;
     }
     let half = lanes.len() / 2;
     let (front, back) = lanes.split_at_mut(half);
     let (near, far) = sources.split_at_mut(half);
     let (ends, others) = stops.split_at_mut(half);
-    join_mut(
-        rt,
-        &mut ||
-            requires { IsSync R.row × IsSend S.row × IsSend J.row × IsSync J.row × IsSend D.row × IsSync D.row × (length front.now ≡ length near.now) × (length front.now ≡ length ends.now) × All (λ l. (l.board ≡ board.now.board) × IsUnused l.own) front.now × All (λ s. S.faults s < 2 ^ 64 - 1) near.now }
-            ensures { AllSix (λ l m s t u stop. Worked board.entry.now.cells l m (S.log s) (S.log t) (S.faults s) (S.faults t) stop × S.becomes s t) front.entry.now front.exit.now near.entry.now near.exit.now ends.entry.now ends.exit.now }
-        { run_workers(rt, alloc, board, desk, front, near, ends) },
-        &mut ||
-            requires { IsSync R.row × IsSend S.row × IsSend J.row × IsSync J.row × IsSend D.row × IsSync D.row × (length back.now ≡ length far.now) × (length back.now ≡ length others.now) × All (λ l. (l.board ≡ board.now.board) × IsUnused l.own) back.now × All (λ s. S.faults s < 2 ^ 64 - 1) far.now }
-            ensures { AllSix (λ l m s t u stop. Worked board.entry.now.cells l m (S.log s) (S.log t) (S.faults s) (S.faults t) stop × S.becomes s t) back.entry.now back.exit.now far.entry.now far.exit.now others.entry.now others.exit.now }
-        { run_workers(rt, alloc, board, desk, back, far, others) },
-    );
+    run_workers(rt, alloc, board, desk, front, near, ends);
+    run_workers(rt, alloc, board, desk, back, far, others);
 }
 
 /// Closes the board once all its lanes have come back, of which there is one at least. None for want of memory.
