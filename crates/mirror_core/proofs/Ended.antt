@@ -131,14 +131,18 @@ module _ {J S : Type 0} (cells : List (Id × ℕ)) (log : S → List Fetching) (
       let whole : (w : ℕ) → w < length lanes → (place : ℕ) × (f : LaneRecord) × (get_elem? (all_of keeper) place ≡ some f) × Left cells lanes w (get_or (logs_gained log ss ts) w []) (is_through (get_or stops w Memory)) f =
       λ w lt. (let at = worked_at (named 0 lanes) news ss ts us stops h w (omega (arith, lt, named_length 0 lanes)) (fresh 0 0) in
       let name = named_at 0 lanes w (fresh 0 0) lt in
-      let b = behind_has news w at.0 at.5 in
-      (b.0, at.0.own, subst (λ (z : List LaneRecord). get_elem? z b.0 ≡ some at.0.own) (sym all) b.1, record {
-        lane = at.7.same.lane ∙ (ap (λ (z : LaneRecord). z.lane) name ∙ (let none : 0 + w ≡ w = omega arith in none));
-        relay = at.7.same.relay ∙ ap (λ (z : LaneRecord). z.relay) name;
-        ends = subst (λ (z : List Fetching). Ends cells z at.0.own) at.6 at.7.ends;
-        won = at.7.won;
-        seen = at.7.seen;
-      })) in
+      let b = behind_has news w at.0 at.5 in (
+        b.0,
+        at.0.own,
+        subst (λ (z : List LaneRecord). get_elem? z b.0 ≡ some at.0.own) (sym all) b.1,
+        record {
+          lane = at.7.same.lane ∙ (ap (λ (z : LaneRecord). z.lane) name ∙ (let none : 0 + w ≡ w = omega arith in none));
+          relay = at.7.same.relay ∙ ap (λ (z : LaneRecord). z.relay) name;
+          ends = subst (λ (z : List Fetching). Ends cells z at.0.own) at.6 at.7.ends;
+          won = at.7.won;
+          seen = at.7.seen;
+        },
+      )) in
       record {
         long = closed.len;
         ends = λ i id relay at. cell_ends cells lanes (logs_gained log ss ts) stops keeper closed.honest whole i id relay at (get_or found i Free) (closed.settled i (slice_get_within cells i (id, relay) at));

@@ -9,7 +9,7 @@ pub loop-lane-init : goal.loop-lane-init
 loop-lane-init c =
     let popped : c.args.lanes.items ≡ c.pop.new.self.items ++ c.in_ok-keeper.keeper ∷ [] = search rules in
     let back = back_split _ _ _ (subst (AllBack c.args.board.board) popped c.requires) in
-    record { board = back.1.0; held = back.1.1; back = back.0; whole = ap (λ z. (c.in_ok-keeper.keeper.own ∷ (z ++ behind c.pop.new.self.items))) back.1.2 ∙ (sym (behind_last c.pop.new.self.items c.in_ok-keeper.keeper) ∙ sym (ap behind popped)); }
+    record { board = back.1.0; held = back.1.1; back = back.0; whole = ap (λ z. (c.in_ok-keeper.keeper.own ∷ (z ++ behind c.pop.new.self.items))) back.1.2 ∙ (sym (behind_last c.pop.new.self.items c.in_ok-keeper.keeper) ∙ sym (ap behind popped)) }
 
 pub leave-requires-clause-board : goal.leave-requires-clause-board
 leave-requires-clause-board c =
