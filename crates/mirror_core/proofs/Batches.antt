@@ -1,16 +1,16 @@
 -- How a batch grows and is ended.
-use Rattle.std.proofs.Common.{◌≡◌, ◌≢◌, ◌⊎◌, ℕ, suc, zero, ◌+◌, ◌<◌, List, [], ◌∷◌, ◌++◌, length, get_or, sym, refl, ap, ◌∙◌, subst, ⊎_elim, inl, inr, arith, Some}
+use Rattle.std.proofs.Common.{◌≡◌, ◌≢◌, ◌⊎◌, ℕ, ◌+◌, ◌<◌, List, [], ◌∷◌, ◌++◌, length, sym, refl, ap, ◌∙◌, subst, ⊎_elim, inl, inr, arith, Some}
 use Rattle.std.specs.Prelude.{Contains, slice_index, slice_get}
 use Rattle.std.proofs.lemmas.List.Elements.{Contains-push, Contains-push_cases, Contains-append_left}
 use Rattle.std.proofs.lemmas.Option.{slice_get_within}
-use mathlib.Core.Logic.{dite, ◌↔◌}
+use mathlib.Core.Logic.{dite}
 use native.Mathlib.Decide.{ℕ_discrete}
 use Rattle.neg_codec.specs.declared.Id.{Id}
 use Rattle.fetch_plan.specs.declared.cell.Cell.{Cell}
 use Rattle.fetch_plan.specs.declared.cell.Cell.TheVariants.{Free, Held, Done, Missed}
 use Rattle.claim_board.specs.declared.records.LaneRecord.{LaneRecord}
 use Rattle.claim_board.specs.Rules.{relays, IsIdOf}
-use Rattle.claim_board.specs.Steps.{Knows, with_won, with_met, with_ended, with_released, without}
+use Rattle.claim_board.specs.Steps.{Knows, with_won, with_met, with_ended, without}
 use Rattle.claim_board.proofs.Words.{in_first, in_later, in_cases, without_keeps}
 use Rattle.claim_board.specs.Views.{LaneView}
 use Rattle.mirror_core.specs.Batches.{NoneTwice, Holds, Batched, SameLane, EndsCell, Settles}

@@ -1,8 +1,8 @@
 -- What a lane ended, by what its source's log gained.
-use Rattle.std.proofs.Common.{◌≡◌, ◌⊎◌, ℕ, ◌<◌, ◌≤◌, List, [], ◌∷◌, ◌++◌, length, Some, sym, refl, ap, ◌∙◌, subst, ⊎_elim, inl, inr, true, append_assoc, arith}
-use Rattle.std.specs.Prelude.{Contains, slice_get, slice_index}
+use Rattle.std.proofs.Common.{◌≡◌, ◌⊎◌, ℕ, ◌<◌, ◌≤◌, List, [], ◌∷◌, ◌++◌, length, Some, sym, refl, ap, ◌∙◌, subst, ⊎_elim, true, append_assoc, arith}
+use Rattle.std.specs.Prelude.{Contains, slice_get}
 use Rattle.std.proofs.lemmas.List.{append-nil}
-use Rattle.std.proofs.lemmas.List.Elements.{Contains-push, Contains-append_left, Contains-append_right, Contains-append_cases}
+use Rattle.std.proofs.lemmas.List.Elements.{Contains-push, Contains-append_left, Contains-append_cases}
 use Rattle.std.proofs.Math.Seq.{drop-append_seam}
 use Rattle.neg_codec.specs.declared.Id.{Id}
 use Rattle.fetch_plan.specs.declared.cell.Cell.{Cell}

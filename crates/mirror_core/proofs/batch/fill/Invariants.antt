@@ -1,4 +1,4 @@
-use Rattle.std.proofs.Common.{◌≡◌, ◌<◌, ◌≤◌, ◌+◌, ◌-◌, ◌⊎◌, length}
+use Rattle.std.proofs.Common.{◌≡◌, ◌<◌, ◌≤◌, ◌-◌, ◌⊎◌, length}
 use Rattle.mirror_core.specs.Batches.{Batched, SameLane}
 use Rattle.mirror_core.proofs.batch.fill.Given as goal
 

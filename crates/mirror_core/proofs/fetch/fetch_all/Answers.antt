@@ -1,7 +1,7 @@
-use Rattle.std.proofs.Common.{◌≡◌, List, length, map, sym, ap, ◌∙◌, subst, arith}
+use Rattle.std.proofs.Common.{◌≡◌, List, length, sym, ap, ◌∙◌, subst, arith}
 use Rattle.std.specs.Prelude.{All}
 use Rattle.claim_board.specs.Rules.{named}
-use Rattle.claim_board.specs.Views.{LaneView, placed_at}
+use Rattle.claim_board.specs.Views.{LaneView}
 use Rattle.mirror_core.specs.Three.{AllThree}
 use Rattle.mirror_core.specs.Six.{AllSix}
 use Rattle.mirror_core.specs.Working.{IsUnused}

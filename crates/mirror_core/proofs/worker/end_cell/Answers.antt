@@ -1,4 +1,4 @@
-use Rattle.std.proofs.Common.{◌≡◌, ℕ, Some, sym, ap, ◌∙◌, inl, inr}
+use Rattle.std.proofs.Common.{Some, sym, ap, ◌∙◌, inl, inr}
 use Rattle.neg_codec.specs.declared.Id.{Id}
 use Rattle.nostr_event.specs.EventView.{EventView}
 use Rattle.claim_board.specs.Views.{LaneView}

@@ -1,4 +1,3 @@
-use Rattle.std.proofs.Common.{◌≡◌, List, ◌++◌}
 use Rattle.claim_board.specs.Views.{LaneView}
 use Rattle.mirror_core.specs.Working.{Worked}
 use Rattle.mirror_core.specs.declared.worker.Stop.{Stop}

@@ -1,7 +1,6 @@
 use Rattle.std.proofs.Common.{rules, ◌≡◌, ◌∙◌, List, ◌++◌, [], ◌∷◌, sym, ap, subst}
-use Rattle.atomic_table.specs.Seated.{TableId}
 use Rattle.claim_board.specs.Views.{LaneView, all_of}
-use Rattle.mirror_core.specs.Closing.{AllBack, IsBack, behind}
+use Rattle.mirror_core.specs.Closing.{AllBack, behind}
 use Rattle.mirror_core.proofs.Behind.{back_split, behind_last, behind_more}
 use Rattle.mirror_core.proofs.workers.close_all.Goals as goal
 
