@@ -1,6 +1,6 @@
 -- More ids than a table takes: of two parts together, and of a part of all.
-use Rattle.std.proofs.Common.{◌≡◌, ℕ, suc, ◌+◌, ◌<◌, ◌⊎◌, ◌||◌, Bool, true, false, cond, List, [], ◌∷◌, ◌++◌, length, map, Some, None, refl, sym, ap, ◌∙◌, subst, arith, inl, inr}
-use Rattle.std.specs.Prelude.{Contains, unwrap_or, is_some, not, nat_lt, MatchOption, Option}
+use Rattle.std.proofs.Common.{◌≡◌, ℕ, ◌+◌, ◌<◌, Bool, true, false, cond, List, [], ◌∷◌, ◌++◌, length, map, Some, refl, sym, ap, ◌∙◌, subst, arith, inl, inr}
+use Rattle.std.specs.Prelude.{Contains, unwrap_or, is_some, not, nat_lt, MatchOption}
 use Rattle.std.specs.List.{All, list_any}
 use Rattle.std.proofs.lemmas.Bool.{cases_Bool, or_left, or_right, false≢true, ltb-true}
 use Rattle.std.proofs.lemmas.List.{length-map, length-append}
@@ -15,7 +15,7 @@ use Rattle.sharing.specs.declared.TheConstants.{MOST_IDS}
 use Rattle.sharing.specs.Sharing.{is_among}
 use Rattle.sharing.specs.Offers.{IsOffers, is_id, beside, relays_of}
 use Rattle.sharing.proofs.Orders.{id_total, among_head}
-use Rattle.offer_table.specs.Table.{Table, IsTable, new_in}
+use Rattle.offer_table.specs.Table.{Table, new_in}
 use Rattle.offer_table.specs.Faults.{merge_fault}
 use Rattle.offer_table.specs.declared.faults.OfferFault.{OfferFault}
 use Rattle.offer_table.specs.declared.faults.OfferFault.TheVariants as fault

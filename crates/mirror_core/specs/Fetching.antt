@@ -1,5 +1,5 @@
 -- What a source was asked and what it gave, as ids, and what a log of them gained.
-use Rattle.std.specs.Prelude.{List, length, drop, map}
+use Rattle.std.specs.Prelude.{List, length, drop, map, Contains}
 use Rattle.std.specs.Arc.{arc_value}
 use Rattle.std.specs.declared.sync.Arc.{Arc as AnArc}
 use Rattle.std.specs.declared.alloc.Global.{Global as AGlobal}
@@ -20,3 +20,11 @@ ids_of events = map (λ (e : AnArc EventView AGlobal). (arc_value e).id) events
 -- what a log has after what it had
 abbrev pub fetched : List Fetching → List Fetching → List Fetching
 fetched old new = drop (length old) new
+
+-- one of these fetches asked for the id and gave it
+abbrev pub WasGiven : List Fetching → Id → Type 0
+WasGiven log id = (f : Fetching) × Contains log f × Contains f.asked id × Contains f.given id
+
+-- one of these fetches asked for the id and didn't give it
+abbrev pub WasMissed : List Fetching → Id → Type 0
+WasMissed log id = (f : Fetching) × Contains log f × Contains f.asked id × (Contains f.given id → ⊥)

@@ -1,0 +1,180 @@
+//! A worker: it claims cells of its lane's relay, asks its source for their ids, and places the events that came.
+
+ghost use Rattle.std.specs.Prelude.{◌≡◌, ◌<◌, ◌≤◌, ◌+◌, ◌-◌, ◌^◌, ◌⊎◌, [], ◌∷◌, ℕ, false, true, length, drop, Contains, Some, Err, slice_get, IfOk, IfErr, OnOk, OnErr, MatchOption};
+ghost use Rattle.std.specs.Arc.{arc_value};
+ghost use Rattle.mirror_core.specs.Fetching.{fetching, ids_of};
+ghost use Rattle.mirror_core.specs.Batches.{Batched, SameLane, EndsCell, Settles};
+ghost use Rattle.mirror_core.specs.Working.{is_through, stop_of, IsUnused, Logs, Worked};
+
+use crate::batch::{Batch, fill, release_from};
+use crate::source::{Source, SourceFault};
+use claim_board::{Board, Lane};
+use event_store::{Desk, Filled, InsertFault, Naming};
+use neg_codec::Id;
+use nostr_event::Event;
+use std::alloc::Global;
+use std::sync::{Arc, Mutex, Wait};
+
+/// How a worker ended.
+#[derive(Drop)]
+pub enum Stop<J: Naming> {
+    /// It came to all cells.
+    Through,
+    /// Its source gave nothing.
+    Source(SourceFault),
+    /// The store has as many events as it takes.
+    Full(Filled<J>),
+    /// No memory was found.
+    Memory,
+}
+
+impl<J: Naming> From<InsertFault<J>> for Stop<J> {
+    ghost use Rattle.std.specs.Prelude.{◌≡◌};
+    ghost use Rattle.mirror_core.specs.Working.{stop_of};
+
+    ghost from_gives = { λ f s. s ≡ stop_of f };
+
+    fn from(fault: InsertFault<J>) -> Stop<J> {
+        match fault {
+            InsertFault::Full(filled) => Stop::Full(filled),
+            InsertFault::Memory => Stop::Memory,
+        }
+    }
+}
+
+/// The place of the first event with this id, if it was given.
+fn place_of(given: &[Arc<Event>], id: &Id) -> Option<usize>
+    ensures { MatchOption result (Contains (ids_of given.now) id.now → ⊥) (λ k. (k < length given.now) × (slice_get (ids_of given.now) k ≡ Some id.now)) }
+{
+    for k in 0..given.len() {
+        if given[k].id() == *id {
+            return Some(k);
+        }
+    }
+    None
+}
+
+/// Ends a cell that the lane holds: as done once its event is placed, or as missed where its source gave none.
+fn end_cell<R: Wait, J: Naming, D: Wait + Drop>(
+    rt: &R,
+    board: &Board,
+    desk: &Mutex<Desk<J, D>>,
+    lane: &mut Lane,
+    cell: usize,
+    given: &[Arc<Event>],
+) -> Result<(), InsertFault<J>>
+    requires board { lane.old.board ≡ board.now.board }
+    requires cell { (cell < length board.now.cells) × Contains lane.old.own.held cell }
+    ensures same { SameLane lane.old lane.new }
+    ensures ended { OnOk result (EndsCell board.now.cells (ids_of given.now) cell lane.old.own lane.new.own) }
+    ensures err { OnErr result (lane.new ≡ lane.old) }
+{
+    let id = board.cell(cell).0;
+    let Some(k) = place_of(given, &id) else {
+        board.miss(lane, cell);
+        return Ok(());
+    };
+    let Ok(event) = Arc::try_clone(&given[k]) else {
+        return Err(InsertFault::Memory);
+    };
+    match desk.lock(rt).insert(rt, event) {
+        Ok(placed) => {
+            board.finish(lane, cell, &placed);
+            Ok(())
+        }
+        Err((fault, _event)) => Err(fault),
+    }
+}
+
+/// Ends the cells of a batch. Where the desk refuses an event, the cells from its on are released.
+fn settle<R: Wait, J: Naming, D: Wait + Drop>(
+    rt: &R,
+    board: &Board,
+    desk: &Mutex<Desk<J, D>>,
+    lane: &mut Lane,
+    batch: &Batch,
+    given: &[Arc<Event>],
+) -> Result<(), InsertFault<J>>
+    requires board { lane.old.board ≡ board.now.board }
+    requires batched { Batched board.now.cells batch.now.next batch.now.cells.items batch.now.ids.items lane.old.own }
+    ensures same { SameLane lane.old lane.new }
+    ensures settles { Settles board.now.cells batch.now.ids.items (ids_of given.now) lane.old.own lane.new.own }
+    ensures batched { OnOk result (Batched board.now.cells batch.now.next [] [] lane.new.own) }
+    ensures held { lane.new.own.held ≡ [] }
+{
+    for k in 0..batch.cells.len() {
+        match end_cell(rt, board, desk, lane, batch.cells[k], given) {
+            Ok(()) => {}
+            Err(fault) => {
+                release_from(board, lane, &batch.cells, k);
+                return Err(fault);
+            }
+        }
+    }
+    Ok(())
+}
+
+/// Asks the source for the ids of a batch, and ends its cells. A worker that stops holds nothing.
+fn fetch_batch<R: Wait, J: Naming, D: Wait + Drop, S: Source>(
+    rt: &R,
+    board: &Board,
+    desk: &Mutex<Desk<J, D>>,
+    lane: &mut Lane,
+    source: &mut S,
+    batch: &Batch,
+) -> Result<(), Stop<J>>
+    requires board { lane.old.board ≡ board.now.board }
+    requires batched { Batched board.now.cells batch.now.next batch.now.cells.items batch.now.ids.items lane.old.own }
+    requires few { length batch.now.ids.items ≤ 100 }
+    requires ready { S.faults source.old < 2 ^ 64 - 1 }
+    ensures same { SameLane lane.old lane.new }
+    ensures log { Logs board.now.cells lane.old.own lane.new.own (S.log source.old) (S.log source.new) }
+    ensures batched { OnOk result (Batched board.now.cells batch.now.next [] [] lane.new.own) }
+    ensures faults { OnOk result (S.faults source.new ≡ S.faults source.old) }
+    ensures held { lane.new.own.held ≡ [] }
+    ensures stop { IfErr result (λ s. is_through s ≡ false) }
+    ensures failed { result ≡ Err (Stop.Source SourceFault.Failed) → S.faults source.old < S.faults source.new }
+    ensures becomes { S.becomes source.old source.new }
+{
+    if batch.cells.is_empty() {
+        return Ok(());
+    }
+    match source.fetch(&batch.ids) {
+        Ok(given) => match settle(rt, board, desk, lane, batch, &given) {
+            Ok(()) => Ok(()),
+            Err(fault) => Err(Stop::from(fault)),
+        },
+        Err(fault) => {
+            release_from(board, lane, &batch.cells, 0);
+            Err(Stop::Source(fault))
+        }
+    }
+}
+
+/// Works a lane over all cells of its relay.
+pub(crate) fn work<R: Wait, J: Naming, D: Wait + Drop, S: Source>(
+    rt: &R,
+    alloc: Global,
+    board: &Board,
+    desk: &Mutex<Desk<J, D>>,
+    lane: &mut Lane,
+    source: &mut S,
+) -> Stop<J>
+    requires board { lane.old.board ≡ board.now.board }
+    requires unused { IsUnused lane.old.own }
+    requires ready { S.faults source.old < 2 ^ 64 - 1 }
+    ensures worked { Worked board.now.cells lane.old lane.new (S.log source.old) (S.log source.new) (S.faults source.old) (S.faults source.new) result }
+    ensures becomes { S.becomes source.old source.new }
+{
+    let mut next = 0;
+    while next < board.len() {
+        let Ok(batch) = fill(alloc, board, lane, next) else {
+            return Stop::Memory;
+        };
+        match fetch_batch(rt, board, desk, lane, source, &batch) {
+            Ok(()) => next = batch.next,
+            Err(stop) => return stop,
+        }
+    }
+    Stop::Through
+}
