@@ -2,15 +2,18 @@
 #![tactic(auto)]
 
 mod jobs;
+mod settled;
 #[cfg(test)]
 mod tests;
 mod usage;
 mod words;
 
 use jobs::{End, Went, run};
+use settled::{serve, sync, told};
 use std::io;
 use std::process::ExitCode;
 use usage::words_of;
+use words::Words;
 
 fn main(rt: HostRuntime) -> io::Result<ExitCode> {
     let alloc = rt.alloc();
@@ -20,7 +23,26 @@ fn main(rt: HostRuntime) -> io::Result<ExitCode> {
     };
     let end = match went {
         Went::Ended(end) => end,
-        Went::Left(_job) => End::Done,
+        Went::Left(Words::Serve(path)) => {
+            let done = serve(&rt, alloc, path.as_str(), &mut rt.stdout());
+            return Ok(told(&mut rt.stderr(), done));
+        }
+        Went::Left(Words::Sync(path, true)) => {
+            let done = sync(
+                &rt,
+                alloc,
+                path.as_str(),
+                &mut rt.stdout(),
+                &mut rt.stderr(),
+            );
+            return Ok(told(&mut rt.stderr(), done));
+        }
+        Went::Left(Words::Sync(path, false)) => {
+            let done = sync(&rt, alloc, path.as_str(), &mut rt.stdout(), &mut io::sink());
+            return Ok(told(&mut rt.stderr(), done));
+        }
+        // The other jobs have ended.
+        Went::Left(_) => End::Done,
     };
     let _ = eprint!(rt; "{end}");
     Ok(ExitCode::from(end.status()))

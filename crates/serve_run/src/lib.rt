@@ -7,5 +7,5 @@ mod run;
 mod workers;
 
 pub use hall::{Hall, serve_all};
-pub use refusal::ServeRefusal;
-pub use run::run_serve;
+pub use refusal::{Refusal, read_refusal, write_refusal};
+pub use run::{fill, listen, run_serve, say};

@@ -1,7 +1,7 @@
 //! Why the job wasn't done.
 
 ghost use Rattle.std.specs.Prelude.{◌≡◌};
-ghost use Rattle.serve_run.specs.declared.refusal.ServeRefusal.TheVariants.{Memory as memory};
+ghost use Rattle.serve_run.specs.declared.refusal.Refusal.TheVariants.{Memory as memory};
 
 use event_file::FileFault;
 use event_store::{PinFault, StoreFault};
@@ -11,7 +11,7 @@ use std::{fmt, io};
 
 /// Why the job wasn't done. Its text follows `refused: `.
 #[derive(Clone, Copy, Debug, PartialEq, Eq)]
-pub enum ServeRefusal {
+pub enum Refusal {
     /// A read failed.
     Read,
     /// A write failed.
@@ -26,92 +26,95 @@ pub enum ServeRefusal {
     Listen,
     /// No store could be opened, or nothing be pinned.
     Store,
+    /// More ids are offered than a table takes. `sync` alone tells it.
+    TableFull,
     /// Want of memory.
     Memory,
 }
 
-impl fmt::Display for ServeRefusal {
+impl fmt::Display for Refusal {
     fn fmt<W: fmt::Write>(&self, f: &mut fmt::Formatter<W>) -> fmt::Result {
         match self {
-            ServeRefusal::Read => write!(f, "read"),
-            ServeRefusal::Write => write!(f, "write"),
-            ServeRefusal::Settings => write!(f, "settings"),
-            ServeRefusal::Key(key) => write!(f, "settings {key}"),
-            ServeRefusal::File(line) => write!(f, "file line {line}"),
-            ServeRefusal::Listen => write!(f, "listen"),
-            ServeRefusal::Store => write!(f, "store"),
-            ServeRefusal::Memory => write!(f, "memory"),
+            Refusal::Read => write!(f, "read"),
+            Refusal::Write => write!(f, "write"),
+            Refusal::Settings => write!(f, "settings"),
+            Refusal::Key(key) => write!(f, "settings {key}"),
+            Refusal::File(line) => write!(f, "file line {line}"),
+            Refusal::Listen => write!(f, "listen"),
+            Refusal::Store => write!(f, "store"),
+            Refusal::TableFull => write!(f, "table full"),
+            Refusal::Memory => write!(f, "memory"),
         }
     }
 }
 
-impl From<AllocError> for ServeRefusal {
+impl From<AllocError> for Refusal {
     ghost from_gives = { λ _ e. e ≡ memory };
 
-    fn from(_error: AllocError) -> ServeRefusal {
-        ServeRefusal::Memory
+    fn from(_error: AllocError) -> Refusal {
+        Refusal::Memory
     }
 }
 
-impl<T: Drop> From<AllocFailed<T>> for ServeRefusal {
+impl<T: Drop> From<AllocFailed<T>> for Refusal {
     ghost from_gives = { λ _ e. e ≡ memory };
 
-    fn from(_error: AllocFailed<T>) -> ServeRefusal {
-        ServeRefusal::Memory
+    fn from(_error: AllocFailed<T>) -> Refusal {
+        Refusal::Memory
     }
 }
 
-impl From<SettingsFault> for ServeRefusal {
-    fn from(fault: SettingsFault) -> ServeRefusal {
+impl From<SettingsFault> for Refusal {
+    fn from(fault: SettingsFault) -> Refusal {
         match fault {
-            SettingsFault::Text => ServeRefusal::Settings,
-            SettingsFault::Key(key) => ServeRefusal::Key(key),
-            SettingsFault::Memory => ServeRefusal::Memory,
+            SettingsFault::Text => Refusal::Settings,
+            SettingsFault::Key(key) => Refusal::Key(key),
+            SettingsFault::Memory => Refusal::Memory,
         }
     }
 }
 
-impl From<FileFault> for ServeRefusal {
-    fn from(fault: FileFault) -> ServeRefusal {
+impl From<FileFault> for Refusal {
+    fn from(fault: FileFault) -> Refusal {
         match fault {
-            FileFault::Line(number) => ServeRefusal::File(number),
-            FileFault::Memory => ServeRefusal::Memory,
+            FileFault::Line(number) => Refusal::File(number),
+            FileFault::Memory => Refusal::Memory,
         }
     }
 }
 
-impl From<StoreFault> for ServeRefusal {
-    fn from(fault: StoreFault) -> ServeRefusal {
+impl From<StoreFault> for Refusal {
+    fn from(fault: StoreFault) -> Refusal {
         match fault {
-            StoreFault::Memory => ServeRefusal::Memory,
-            StoreFault::Readers | StoreFault::Place => ServeRefusal::Store,
+            StoreFault::Memory => Refusal::Memory,
+            StoreFault::Readers | StoreFault::Place => Refusal::Store,
         }
     }
 }
 
-impl From<PinFault> for ServeRefusal {
-    fn from(fault: PinFault) -> ServeRefusal {
+impl From<PinFault> for Refusal {
+    fn from(fault: PinFault) -> Refusal {
         match fault {
-            PinFault::Gone => ServeRefusal::Store,
-            PinFault::Memory => ServeRefusal::Memory,
+            PinFault::Gone => Refusal::Store,
+            PinFault::Memory => Refusal::Memory,
         }
     }
 }
 
 /// What an error of reading comes to.
-pub fn read_refusal(error: &io::Error) -> ServeRefusal {
+pub fn read_refusal(error: &io::Error) -> Refusal {
     if error.kind() == io::ErrorKind::OutOfMemory {
-        ServeRefusal::Memory
+        Refusal::Memory
     } else {
-        ServeRefusal::Read
+        Refusal::Read
     }
 }
 
 /// What an error of writing comes to.
-pub fn write_refusal(error: &io::Error) -> ServeRefusal {
+pub fn write_refusal(error: &io::Error) -> Refusal {
     if error.kind() == io::ErrorKind::OutOfMemory {
-        ServeRefusal::Memory
+        Refusal::Memory
     } else {
-        ServeRefusal::Write
+        Refusal::Write
     }
 }

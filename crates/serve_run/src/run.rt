@@ -3,7 +3,7 @@
 ghost use Rattle.std.specs.Prelude.{◌≡◌};
 
 use crate::hall::{Hall, serve_all};
-use crate::refusal::{ServeRefusal, read_refusal, write_refusal};
+use crate::refusal::{Refusal, read_refusal, write_refusal};
 use event_file::{NewFile, insert_lines, read_file};
 use event_store::{Blank, Desk, Naming, Reader, open_store};
 use mirror_settings::{Address, Settings, SettingsKey, read_settings};
@@ -29,7 +29,7 @@ fn readers_for(conns: u64) -> usize {
 }
 
 /// Writes a text, and waits until it is written.
-fn say<W: Write>(writer: &mut W, text: &str) -> Result<(), ServeRefusal> {
+pub fn say<W: Write>(writer: &mut W, text: &str) -> Result<(), Refusal> {
     match writer.write_all(text.as_bytes()) {
         Ok(()) => {}
         Err(error) => return Err(write_refusal(&error)),
@@ -40,13 +40,13 @@ fn say<W: Write>(writer: &mut W, text: &str) -> Result<(), ServeRefusal> {
     }
 }
 
-/// Puts the events of the file into the store.
-fn filled<J: Naming, D: Wait + Drop, R: Wait + Files + AllocGlobal>(
+/// Puts the events of the file at a path into a store. A file that isn't there has none.
+pub fn fill<J: Naming, D: Wait + Drop, R: Wait + Files + AllocGlobal>(
     rt: &R,
     alloc: Global,
     desk: &mut Desk<J, D>,
     path: &str,
-) -> Result<(), ServeRefusal> {
+) -> Result<(), Refusal> {
     let bytes = match read_file(rt, path) {
         Ok(bytes) => bytes,
         Err(error) => return Err(read_refusal(&error)),
@@ -61,13 +61,13 @@ pub fn listen<R: Net<Listener = TcpListener, Stream = TcpStream>, W: Write>(
     alloc: Global,
     address: &Address,
     writer: &mut W,
-) -> Result<TcpListener, ServeRefusal> {
+) -> Result<TcpListener, Refusal> {
     let text = format!(in alloc; "{address}")?;
     let Ok(listener) = TcpListener::bind(rt, text.as_str()) else {
-        return Err(ServeRefusal::Listen);
+        return Err(Refusal::Listen);
     };
     let Ok(bound) = listener.local_addr() else {
-        return Err(ServeRefusal::Listen);
+        return Err(Refusal::Listen);
     };
     let host = address.host.as_str();
     let port = bound.port();
@@ -89,9 +89,9 @@ fn serve<
     desk: Desk<J, D>,
     readers: &mut [Reader<J>],
     writer: &mut W,
-) -> Result<Hall<Desk<J, D>>, ServeRefusal> {
+) -> Result<Hall<Desk<J, D>>, Refusal> {
     let (Some(address), Some(conns)) = (&settings.listen, settings.conns) else {
-        return Err(ServeRefusal::Key(SettingsKey::Listen));
+        return Err(Refusal::Key(SettingsKey::Listen));
     };
     let listener = listen(rt, alloc, address, writer)?;
     let push = settings.push_ms.map(Duration::from_millis);
@@ -108,7 +108,7 @@ fn end<J: Naming, R: Files, W: Write>(
     reader: &mut Reader<J>,
     file: NewFile<R::File>,
     writer: &mut W,
-) -> Result<(), ServeRefusal> {
+) -> Result<(), Refusal> {
     let all = reader.pin(alloc, &Filter::all())?;
     let events = all.front();
     let text = format!(in alloc; "served {conns}\nevents {events}\n")?;
@@ -137,14 +137,14 @@ fn run_named<
     blank: Blank,
     settings: &Settings,
     writer: &mut W,
-) -> Result<(), ServeRefusal>
+) -> Result<(), Refusal>
     requires book { blank ≡ J.book }
     requires most { J.most ≡ 1000000 }
 {
     let conns = settings.conns.unwrap_or(0);
     let (mut desk, mut readers) = open_store::<J, D>(keep, alloc, blank, readers_for(conns))?;
     let path = settings.events.as_str();
-    filled(rt, alloc, &mut desk, path)?;
+    fill(rt, alloc, &mut desk, path)?;
     let file = match NewFile::create(rt, alloc, path) {
         Ok(file) => file,
         Err(error) => return Err(write_refusal(&error)),
@@ -157,7 +157,7 @@ fn run_named<
         }
     };
     let Some(mut reader) = readers.pop() else {
-        return Err(ServeRefusal::Store);
+        return Err(Refusal::Store);
     };
     // The store's desk, in the hall, is there until the file is written.
     let done = end(rt, alloc, conns, &mut reader, file, writer);
@@ -175,7 +175,7 @@ pub fn run_serve<
         + AllocGlobal
         + Sync,
     W: Write,
->(rt: &R, alloc: Global, text: &str, writer: &mut W) -> Result<(), ServeRefusal> {
+>(rt: &R, alloc: Global, text: &str, writer: &mut W) -> Result<(), Refusal> {
     let settings = read_settings(alloc, text, false)?;
     run_named::<Brand, &R, R, W>(rt, rt, alloc, Blank::new(), &settings, writer)
 }

@@ -1,12 +1,11 @@
-//! The job `sync`: sessions with relays, and a plan of what they have and the store lacks.
+//! The job `sync`: sessions with relays, a plan of what they have and the store lacks, and fetching by it.
 #![tactic(auto)]
 
+mod fetching;
 mod links;
-mod refusal;
 mod run;
 mod text;
 
-pub use refusal::SyncRefusal;
 pub use run::run_sync;
 
 #[cfg(test)]

@@ -1,16 +1,16 @@
 //! Links to relays.
 
-ghost use Rattle.std.specs.Prelude.{◌≡◌, ◌<◌, ◌^◌, ◌-◌, All, IfOk};
+ghost use Rattle.std.specs.Prelude.{◌≡◌, ◌<◌, ◌^◌, ◌-◌, All, IfOk, IfSome};
 
-use crate::refusal::SyncRefusal;
 use mirror_settings::Address;
 use nostr_filter::Filter;
+use serve_run::Refusal;
 use std::alloc::Global;
 use std::io::{Read, Write};
 use std::net::{Net, OpenStream, TcpStream};
 use std::random::RandomSource;
 use tungstenite::RandomKeys;
-use ws_link::{LinkFault, WsPeer};
+use ws_link::{LinkFault, WsPeer, WsSource};
 
 /// A connection with a relay, if it can be made.
 fn connected<R: Net>(rt: &R, host: &str) -> Option<R::Stream> {
@@ -25,7 +25,7 @@ fn linked<'a, R: Net + RandomSource>(
     alloc: Global,
     address: &Address,
     filter: &Filter,
-) -> Result<WsPeer<R::Stream, RandomKeys<&'a R>>, SyncRefusal>
+) -> Result<WsPeer<R::Stream, RandomKeys<&'a R>>, Refusal>
     ensures { IfOk result (λ peer. peer.faults ≡ 0) }
 {
     let host = format!(in alloc; "{address}")?;
@@ -34,7 +34,7 @@ fn linked<'a, R: Net + RandomSource>(
     };
     match WsPeer::start(alloc, rt, stream, host.as_str(), filter) {
         Ok(peer) => Ok(peer),
-        Err(LinkFault::Memory) => Err(SyncRefusal::Memory),
+        Err(LinkFault::Memory) => Err(Refusal::Memory),
         Err(_) => Ok(WsPeer::unreachable(alloc)),
     }
 }
@@ -45,7 +45,7 @@ pub fn linked_all<'a, R: Net + RandomSource>(
     alloc: Global,
     relays: &[Address],
     filter: &Filter,
-) -> Result<Vec<WsPeer<R::Stream, RandomKeys<&'a R>>>, SyncRefusal>
+) -> Result<Vec<WsPeer<R::Stream, RandomKeys<&'a R>>>, Refusal>
     ensures { IfOk result (λ peers. All (λ peer. peer.faults < 2 ^ 64 - 1) peers.items) }
 {
     let mut peers = Vec::new(alloc);
@@ -54,6 +54,25 @@ pub fn linked_all<'a, R: Net + RandomSource>(
         peers.push(peer)?;
     }
     Ok(peers)
+}
+
+/// A source that is the relay at this address, if it can be reached.
+pub fn source_at<'a, R: Net + RandomSource>(
+    rt: &'a R,
+    alloc: Global,
+    address: &Address,
+) -> Result<Option<WsSource<R::Stream, RandomKeys<&'a R>>>, Refusal>
+    ensures { IfOk result (λ o. IfSome o (λ source. source.faults ≡ 0)) }
+{
+    let host = format!(in alloc; "{address}")?;
+    let Some(stream) = connected(rt, host.as_str()) else {
+        return Ok(None);
+    };
+    match WsSource::start(alloc, rt, stream, host.as_str()) {
+        Ok(source) => Ok(Some(source)),
+        Err(LinkFault::Memory) => Err(Refusal::Memory),
+        Err(_) => Ok(None),
+    }
 }
 
 /// Ends the sessions, as far as that can be said to the relays.

@@ -1,24 +1,27 @@
 //! The job `sync`.
 
-ghost use Rattle.std.specs.Prelude.{◌≡◌};
+ghost use Rattle.std.specs.Prelude.{◌≡◌, length, IfOk};
 
+use crate::fetching::{Counts, counts_of, fetched, grow, sources_of};
 use crate::links::{finish_all, linked_all};
-use crate::refusal::{SyncRefusal, read_refusal, write_refusal};
-use crate::text::{put_ends, put_plan};
-use event_file::{NewFile, insert_lines, read_file};
+use crate::text::{counts_text, put_ends, put_plan, put_round};
+use claim_board::Cell;
+use event_file::NewFile;
 use event_store::{Blank, Desk, Naming, Reader, open_store};
-use mirror_core::{Synced, sync_plan};
-use mirror_settings::{Settings, read_settings};
+use fetch_plan::Plan;
+use mirror_core::{End, SyncFault, Synced, next_plan, sync_plan};
+use mirror_settings::{Settings, SettingsKey, read_settings};
 use neg_session::SessionLimits;
 use nostr_filter::Filter;
 use offer_table::Bases;
+use serve_run::{Refusal, fill, say, write_refusal};
 use std::alloc::Global;
 use std::io::Write;
 use std::marker::Brand;
 use std::net::Net;
 use std::random::RandomSource;
 use std::rt::Files;
-use std::sync::Wait;
+use std::sync::{Mutex, Wait};
 use std::thread::Threads;
 
 /// The loads that the relays begin with.
@@ -32,37 +35,20 @@ fn bases_of(loads: &[u64]) -> Bases {
     bases
 }
 
-/// Writes a text, and waits until it is written.
-fn say<W: Write>(writer: &mut W, text: &str) -> Result<(), SyncRefusal> {
-    match writer.write_all(text.as_bytes()) {
-        Ok(()) => {}
-        Err(error) => return Err(write_refusal(&error)),
-    }
-    match writer.flush() {
-        Ok(()) => Ok(()),
-        Err(error) => Err(write_refusal(&error)),
-    }
-}
-
 /// Tells how far the job is, as far as that can be written.
 fn tell<P: Write>(progress: &mut P, count: usize, what: &str) {
     let _ = write!(progress, "{count} {what}\n");
     let _ = progress.flush();
 }
 
-/// Puts the events of the file into the store.
-fn filled<J: Naming, D: Wait + Drop, R: Wait + Files + AllocGlobal>(
-    rt: &R,
-    alloc: Global,
-    desk: &mut Desk<J, D>,
-    path: &str,
-) -> Result<(), SyncRefusal> {
-    let bytes = match read_file(rt, path) {
-        Ok(bytes) => bytes,
-        Err(error) => return Err(read_refusal(&error)),
-    };
-    insert_lines(rt, alloc, desk, bytes.as_slice())?;
-    Ok(())
+/// What a fault of the sessions comes to.
+fn refusal_of(fault: SyncFault) -> Refusal {
+    match fault {
+        // The settings name 1 to 256 relays.
+        SyncFault::NoRelay | SyncFault::TooMany => Refusal::Key(SettingsKey::Relays),
+        SyncFault::TableFull => Refusal::TableFull,
+        SyncFault::Memory => Refusal::Memory,
+    }
 }
 
 /// Sessions with the relays over the events that the filter matches, and the plan made of what they found.
@@ -72,7 +58,7 @@ fn synced<J: Naming, R: Net + RandomSource + Threads + Sync, P: Write>(
     settings: &Settings,
     reader: &mut Reader<J>,
     progress: &mut P,
-) -> Result<Synced, SyncRefusal>
+) -> Result<Synced, Refusal>
 where
     R::Stream: Send,
 {
@@ -84,27 +70,126 @@ where
     let limits = SessionLimits::default();
     let done = sync_plan(rt, alloc, peers.as_mut_slice(), &snapshot, &bases, &limits);
     finish_all(peers);
-    Ok(done?)
+    match done {
+        Ok(done) => Ok(done),
+        Err(fault) => Err(refusal_of(fault)),
+    }
 }
 
-/// Runs the sessions, and prints how they ended and the plan.
-fn run_round<J: Naming, R: Net + RandomSource + Threads + Sync, W: Write, P: Write>(
+/// Fetches what a plan gives from the relays whose sessions finished, connected anew, and tells what became of each of its ids.
+fn fetch_round<
+    J: Naming + Send + Sync,
+    D: Wait + Drop + Send + Sync,
+    R: Net + RandomSource + Threads + Wait + Sync,
+    P: Write,
+>(
+    rt: &R,
+    alloc: Global,
+    settings: &Settings,
+    ends: &[End],
+    plan: &Plan,
+    desk: &Mutex<Desk<J, D>>,
+    progress: &mut P,
+) -> Result<Vec<Cell>, Refusal>
+where
+    R::Stream: Send,
+    ensures { IfOk result (λ v. length v.items ≡ length plan.now.gives) }
+{
+    tell(progress, plan.len(), "ids are planned");
+    let (mut sources, relays) = sources_of(rt, alloc, settings, ends)?;
+    tell(progress, sources.len(), "connections fetch");
+    let cells = fetched(
+        rt,
+        alloc,
+        plan,
+        sources.as_mut_slice(),
+        relays.as_slice(),
+        desk,
+    )?;
+    let counts = counts_of(cells.as_slice());
+    tell(progress, counts.given, "ids are given");
+    Ok(cells)
+}
+
+/// Prints a later round and its plan.
+fn say_round<W: Write>(
+    alloc: Global,
+    writer: &mut W,
+    round: u64,
+    plan: &Plan,
+) -> Result<(), Refusal> {
+    let mut text = String::new(alloc);
+    put_round(alloc, &mut text, round)?;
+    put_plan(alloc, &mut text, plan)?;
+    say(writer, text.as_str())
+}
+
+/// Fetches by the plan, and by a later one of what is left in each further round, and tells what became of the ids.
+fn fetch_rounds<
+    J: Naming + Send + Sync,
+    D: Wait + Drop + Send + Sync,
+    R: Net + RandomSource + Threads + Wait + Sync,
+    W: Write,
+    P: Write,
+>(
+    rt: &R,
+    alloc: Global,
+    settings: &Settings,
+    done: Synced,
+    desk: &Mutex<Desk<J, D>>,
+    writer: &mut W,
+    progress: &mut P,
+) -> Result<Counts, Refusal>
+where
+    R::Stream: Send,
+{
+    let Synced {
+        ends,
+        mut table,
+        mut plan,
+    } = done;
+    let mut bases = bases_of(settings.bases.as_slice());
+    let mut all = Counts::default();
+    for round in 1..settings.rounds {
+        let cells = fetch_round(rt, alloc, settings, ends.as_slice(), &plan, desk, progress)?;
+        all = all.with(&counts_of(cells.as_slice()));
+        grow(&mut bases, &plan, cells.as_slice());
+        plan = next_plan(alloc, &mut table, &plan, cells.as_slice(), &bases)?;
+        if plan.len() == 0 {
+            return Ok(all);
+        }
+        say_round(alloc, writer, round.saturating_add(1), &plan)?;
+    }
+    let cells = fetch_round(rt, alloc, settings, ends.as_slice(), &plan, desk, progress)?;
+    Ok(all.with(&counts_of(cells.as_slice())))
+}
+
+/// Runs the sessions, prints how they ended and the plan, and fetches by it.
+fn run_all<
+    J: Naming + Send + Sync,
+    D: Wait + Drop + Send + Sync,
+    R: Net + RandomSource + Threads + Wait + Sync,
+    W: Write,
+    P: Write,
+>(
     rt: &R,
     alloc: Global,
     settings: &Settings,
     reader: &mut Reader<J>,
+    desk: &Mutex<Desk<J, D>>,
     writer: &mut W,
     progress: &mut P,
-) -> Result<(), SyncRefusal>
+) -> Result<(), Refusal>
 where
     R::Stream: Send,
 {
     let done = synced(rt, alloc, settings, reader, progress)?;
-    tell(progress, done.plan.len(), "ids are planned");
     let mut text = String::new(alloc);
     put_ends(alloc, &mut text, done.ends.as_slice())?;
     put_plan(alloc, &mut text, &done.plan)?;
-    say(writer, text.as_str())
+    say(writer, text.as_str())?;
+    let counts = fetch_rounds(rt, alloc, settings, done, desk, writer, progress)?;
+    say(writer, counts_text(alloc, &counts)?.as_str())
 }
 
 /// Writes the events file.
@@ -113,7 +198,7 @@ fn save<J: Naming, R: Files>(
     alloc: Global,
     reader: &mut Reader<J>,
     file: NewFile<R::File>,
-) -> Result<(), SyncRefusal> {
+) -> Result<(), Refusal> {
     let all = reader.pin(alloc, &Filter::all())?;
     match file.save(rt, alloc, all.events()) {
         Ok(()) => Ok(()),
@@ -123,50 +208,59 @@ fn save<J: Naming, R: Files>(
 
 /// Does the job in a store of this name.
 fn run_named<
-    J: Naming,
+    J: Naming + Send + Sync,
+    D: Wait + Drop + Send + Sync,
     R: Net + RandomSource + Threads + Wait + Files + AllocGlobal + Sync,
     W: Write,
     P: Write,
 >(
     rt: &R,
+    keep: D,
     alloc: Global,
     blank: Blank,
     settings: &Settings,
     writer: &mut W,
     progress: &mut P,
-) -> Result<(), SyncRefusal>
+) -> Result<(), Refusal>
 where
     R::Stream: Send,
     requires book { blank ≡ J.book }
     requires most { J.most ≡ 1000000 }
 {
-    let (mut desk, mut readers) = open_store::<J, &R>(rt, alloc, blank, 1)?;
+    let (mut desk, mut readers) = open_store::<J, D>(keep, alloc, blank, 1)?;
     let Some(mut reader) = readers.pop() else {
-        return Err(SyncRefusal::Store);
+        return Err(Refusal::Store);
     };
     let path = settings.events.as_str();
-    filled(rt, alloc, &mut desk, path)?;
+    fill(rt, alloc, &mut desk, path)?;
     let file = match NewFile::create(rt, alloc, path) {
         Ok(file) => file,
         Err(error) => return Err(write_refusal(&error)),
     };
-    if let Err(refusal) = run_round(rt, alloc, settings, &mut reader, writer, progress) {
-        let _ = file.discard(rt);
-        return Err(refusal);
-    }
-    save(rt, alloc, &mut reader, file)
+    let desk = Mutex::new(desk);
+    let ran = run_all(rt, alloc, settings, &mut reader, &desk, writer, progress);
+    let done = match ran {
+        Ok(()) => save(rt, alloc, &mut reader, file),
+        Err(refusal) => {
+            let _ = file.discard(rt);
+            Err(refusal)
+        }
+    };
+    // The desk is there until the file is written.
+    drop(desk);
+    done
 }
 
 /// Reads settings, puts the events of the file into a store, has sessions with the relays, prints how they ended and the plan
-/// made of what they found, and writes the file. How far it is goes to `progress`, whatever becomes of it there.
+/// made of what they found, fetches by it, and writes the file. How far it is goes to `progress`, whatever becomes of it there.
 pub fn run_sync<
     R: Net + RandomSource + Threads + Wait + Files + AllocGlobal + Sync,
     W: Write,
     P: Write,
->(rt: &R, alloc: Global, text: &str, writer: &mut W, progress: &mut P) -> Result<(), SyncRefusal>
+>(rt: &R, alloc: Global, text: &str, writer: &mut W, progress: &mut P) -> Result<(), Refusal>
 where
     R::Stream: Send,
 {
     let settings = read_settings(alloc, text, true)?;
-    run_named::<Brand, R, W, P>(rt, alloc, Blank::new(), &settings, writer, progress)
+    run_named::<Brand, &R, R, W, P>(rt, rt, alloc, Blank::new(), &settings, writer, progress)
 }

@@ -1,5 +1,6 @@
 //! What the job prints.
 
+use crate::fetching::Counts;
 use fetch_plan::Plan;
 use mirror_core::End;
 use offer_table::RelaySet;
@@ -44,4 +45,15 @@ pub fn put_plan(alloc: Global, text: &mut String, plan: &Plan) -> Result<(), All
     let least = plan.least_max();
     text.push_str(format!(in alloc; "least {least}\n")?.as_str())?;
     put_group(alloc, text, plan.group())
+}
+
+/// The line of a later round.
+pub fn put_round(alloc: Global, text: &mut String, round: u64) -> Result<(), AllocError> {
+    text.push_str(format!(in alloc; "round {round}\n")?.as_str())
+}
+
+/// What became of the ids.
+pub fn counts_text(alloc: Global, counts: &Counts) -> Result<String, AllocError> {
+    let (given, missed, left) = (counts.given, counts.missed, counts.left);
+    format!(in alloc; "given {given}\nmissed {missed}\nleft {left}\n")
 }

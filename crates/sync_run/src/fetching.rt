@@ -1,0 +1,154 @@
+//! Fetching what a plan gives.
+
+ghost use Rattle.std.specs.Prelude.{◌≡◌, ◌<◌, ◌^◌, ◌-◌, All, IfOk, length};
+
+use crate::links::source_at;
+use claim_board::{Board, BoardFault, Cell};
+use event_store::{Desk, Naming};
+use fetch_plan::Plan;
+use mirror_core::{End, FetchFault, Source, fetch_all};
+use mirror_settings::{Address, Settings};
+use offer_table::Bases;
+use serve_run::Refusal;
+use std::alloc::{AllocError, Global};
+use std::net::Net;
+use std::random::RandomSource;
+use std::sync::{Mutex, Wait};
+use std::thread::Threads;
+use tungstenite::RandomKeys;
+use ws_link::WsSource;
+
+/// What became of ids.
+#[derive(Clone, Copy, Default)]
+pub struct Counts {
+    pub given: usize,
+    pub missed: usize,
+    pub left: usize,
+}
+
+impl Counts {
+    /// These of another round as well, whose cells alone are left.
+    pub fn with(&self, later: &Counts) -> Counts {
+        Counts {
+            given: self.given.saturating_add(later.given),
+            missed: self.missed.saturating_add(later.missed),
+            left: later.left,
+        }
+    }
+}
+
+/// How many cells ended how.
+pub fn counts_of(cells: &[Cell]) -> Counts {
+    let mut counts = Counts::default();
+    for cell in cells {
+        let count = match cell {
+            Cell::Done => &mut counts.given,
+            Cell::Missed => &mut counts.missed,
+            _ => &mut counts.left,
+        };
+        *count = count.saturating_add(1);
+    }
+    counts
+}
+
+/// Connects to a relay so many times, and keeps a source for each connection, with the relay's number beside.
+fn add_sources<'a, R: Net + RandomSource>(
+    rt: &'a R,
+    alloc: Global,
+    address: &Address,
+    relay: u16,
+    workers: u64,
+    sources: &mut Vec<WsSource<R::Stream, RandomKeys<&'a R>>>,
+    relays: &mut Vec<u16>,
+) -> Result<(), Refusal>
+    requires { All (λ s. s.faults < 2 ^ 64 - 1) sources.old.items }
+    ensures { IfOk result (λ _. All (λ s. s.faults < 2 ^ 64 - 1) sources.new.items) }
+{
+    for _ in 0..workers {
+        if let Some(source) = source_at(rt, alloc, address)? {
+            sources.push(source)?;
+            relays.push(relay)?;
+        }
+    }
+    Ok(())
+}
+
+/// Sources at the relays whose sessions finished, and the relay of each.
+pub fn sources_of<'a, R: Net + RandomSource>(
+    rt: &'a R,
+    alloc: Global,
+    settings: &Settings,
+    ends: &[End],
+) -> Result<(Vec<WsSource<R::Stream, RandomKeys<&'a R>>>, Vec<u16>), Refusal>
+    ensures { IfOk result (λ r. All (λ s. s.faults < 2 ^ 64 - 1) r.0.items) }
+{
+    let mut sources = Vec::new(alloc);
+    let mut relays = Vec::new(alloc);
+    for relay in 0..ends.len() {
+        let is_finished = matches!(ends[relay], End::Finished(_));
+        if let Some(address) = settings.relays.as_slice().get(relay) {
+            let workers = if is_finished { settings.workers } else { 0 };
+            add_sources(
+                rt,
+                alloc,
+                address,
+                relay as u16,
+                workers,
+                &mut sources,
+                &mut relays,
+            )?;
+        }
+    }
+    Ok((sources, relays))
+}
+
+/// So many cells that nobody holds.
+fn free_cells(alloc: Global, count: usize) -> Result<Vec<Cell>, AllocError>
+    ensures { IfOk result (λ v. length v.items ≡ count) }
+{
+    Vec::from_elem(alloc, Cell::Free, count)
+}
+
+/// Fetches what a plan gives from these sources, each at the relay beside it, and tells what became of each of its ids.
+pub fn fetched<
+    R: Threads + Wait + Sync,
+    J: Naming + Send + Sync,
+    D: Wait + Drop + Send + Sync,
+    S: Source + Send,
+>(
+    rt: &R,
+    alloc: Global,
+    plan: &Plan,
+    sources: &mut [S],
+    relays: &[u16],
+    desk: &Mutex<Desk<J, D>>,
+) -> Result<Vec<Cell>, Refusal>
+    requires { All (λ s. S.faults s < 2 ^ 64 - 1) sources.old }
+    ensures { IfOk result (λ v. length v.items ≡ length plan.now.gives) }
+{
+    if plan.len() == 0 {
+        return Ok(free_cells(alloc, plan.len())?);
+    }
+    let (board, lanes) = match Board::new(alloc, plan, relays) {
+        Ok(made) => made,
+        Err(BoardFault::Lanes) => return Ok(free_cells(alloc, plan.len())?),
+        Err(BoardFault::Memory) => return Err(Refusal::Memory),
+    };
+    match fetch_all(rt, alloc, board, lanes, sources, desk) {
+        Ok(report) => Ok(report.cells),
+        Err(FetchFault::Lanes) => Ok(free_cells(alloc, plan.len())?),
+        Err(FetchFault::Memory) => Err(Refusal::Memory),
+    }
+}
+
+/// Adds to each relay's load what it was asked for.
+pub fn grow(bases: &mut Bases, plan: &Plan, cells: &[Cell])
+    requires { length cells.now ≡ length plan.now.gives }
+{
+    for at in 0..plan.len() {
+        if matches!(cells[at], Cell::Done | Cell::Missed) {
+            let (_id, relay) = plan.cell(at);
+            let _ = bases.set(relay, bases.of(relay).saturating_add(1));
+        }
+    }
+}
