@@ -24,8 +24,8 @@ from wire import Client, Gone
 
 # Connections that a relay serves side by side.
 READERS = 64
-# The bytes of a text that is still read.
-TEXT = 2_200_000
+# The bytes of a text that is still read, and of a message that is still taken.
+TEXT, MESSAGE = 2_200_000, 1 << 22
 
 
 def mutated(rng, texts):
@@ -145,7 +145,8 @@ def break_frames(relay, rng):
 
 def send_long(relay):
     """Texts at the limit, just above it, and far above it."""
-    for size, wanted in ((TEXT, b'["NOTICE","invalid: bad message"]'), (TEXT + 1, None), (10_000_000, None)):
+    too_long = b'["NOTICE","invalid: message too long"]'
+    for size, wanted in ((TEXT, b'["NOTICE","invalid: bad message"]'), (TEXT + 1, too_long), (MESSAGE + 1, None), (10_000_000, None)):
         client = relay.client()
         client.socket.settimeout(60)
         try:
