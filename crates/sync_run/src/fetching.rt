@@ -51,7 +51,30 @@ pub fn counts_of(cells: &[Cell]) -> Counts {
     counts
 }
 
-/// Connects to a relay so many times, and keeps a source for each connection, with the relay's number beside.
+/// Connects to a relay, and keeps a source for the connection, with the relay's number beside, if it can be made.
+fn add_source<'a, R: Net + RandomSource>(
+    rt: &'a R,
+    alloc: Global,
+    address: &Address,
+    relay: u16,
+    sources: &mut Vec<WsSource<R::Stream, RandomKeys<&'a R>>>,
+    relays: &mut Vec<u16>,
+) -> Result<(), Refusal>
+    requires { All (λ s. s.faults < 2 ^ 64 - 1) sources.old.items }
+    ensures { IfOk result (λ _. All (λ s. s.faults < 2 ^ 64 - 1) sources.new.items) }
+{
+    let found = source_at(rt, alloc, address)?;
+    match found {
+        Some(source) => {
+            relays.push(relay)?;
+            sources.push(source)?;
+            Ok(())
+        }
+        None => Ok(()),
+    }
+}
+
+/// Connects to a relay so many times.
 fn add_sources<'a, R: Net + RandomSource>(
     rt: &'a R,
     alloc: Global,
@@ -64,13 +87,43 @@ fn add_sources<'a, R: Net + RandomSource>(
     requires { All (λ s. s.faults < 2 ^ 64 - 1) sources.old.items }
     ensures { IfOk result (λ _. All (λ s. s.faults < 2 ^ 64 - 1) sources.new.items) }
 {
-    for _ in 0..workers {
-        if let Some(source) = source_at(rt, alloc, address)? {
-            sources.push(source)?;
-            relays.push(relay)?;
-        }
+    for _worker in 0..workers {
+        add_source(rt, alloc, address, relay, sources, relays)?;
     }
     Ok(())
+}
+
+/// Connects as many times as the settings say to a relay whose session finished.
+fn add_relay<'a, R: Net + RandomSource>(
+    rt: &'a R,
+    alloc: Global,
+    settings: &Settings,
+    relay: usize,
+    end: &End,
+    sources: &mut Vec<WsSource<R::Stream, RandomKeys<&'a R>>>,
+    relays: &mut Vec<u16>,
+) -> Result<(), Refusal>
+    requires { All (λ s. s.faults < 2 ^ 64 - 1) sources.old.items }
+    ensures { IfOk result (λ _. All (λ s. s.faults < 2 ^ 64 - 1) sources.new.items) }
+{
+    if relay > 255 || !matches!(end, End::Finished(_)) {
+        return Ok(());
+    }
+    match settings.relays.as_slice().get(relay) {
+        Some(address) => {
+            let number = relay as u16;
+            add_sources(
+                rt,
+                alloc,
+                address,
+                number,
+                settings.workers,
+                sources,
+                relays,
+            )
+        }
+        None => Ok(()),
+    }
 }
 
 /// Sources at the relays whose sessions finished, and the relay of each.
@@ -85,19 +138,15 @@ pub fn sources_of<'a, R: Net + RandomSource>(
     let mut sources = Vec::new(alloc);
     let mut relays = Vec::new(alloc);
     for relay in 0..ends.len() {
-        let is_finished = matches!(ends[relay], End::Finished(_));
-        if let Some(address) = settings.relays.as_slice().get(relay) {
-            let workers = if is_finished { settings.workers } else { 0 };
-            add_sources(
-                rt,
-                alloc,
-                address,
-                relay as u16,
-                workers,
-                &mut sources,
-                &mut relays,
-            )?;
-        }
+        add_relay(
+            rt,
+            alloc,
+            settings,
+            relay,
+            &ends[relay],
+            &mut sources,
+            &mut relays,
+        )?;
     }
     Ok((sources, relays))
 }
