@@ -16,40 +16,6 @@ fn named(alloc: Global, line: &str) -> Result<Vec<String>, Fail> {
     Ok(words)
 }
 
-/// The job that the words name, and what it is told.
-fn told(alloc: Global, line: &str) -> Result<String, Fail> {
-    let words = named(alloc, line)?;
-    let text = match read_words(alloc, words.as_slice()) {
-        Ok(Words::Recon(limit)) => format!(in alloc; "recon {limit}")?,
-        Ok(Words::Plan) => String::from_str(alloc, "plan")?,
-        Ok(Words::Check) => String::from_str(alloc, "check")?,
-        Ok(Words::Serve(path)) => format!(in alloc; "serve {}", path.as_str())?,
-        Ok(Words::Sync(path, progress)) => format!(in alloc; "sync {} {progress}", path.as_str())?,
-        Err(_) => String::new(alloc),
-    };
-    Ok(text)
-}
-
-#[test]
-fn words_that_name_a_job(rt: HostRuntime) -> Result<(), Fail> {
-    let alloc = rt.alloc();
-    for (line, job) in [
-        ("recon", "recon 60000"),
-        ("recon --limit 4096", "recon 4096"),
-        ("recon --limit=1048576", "recon 1048576"),
-        ("recon --limit +05000", "recon 5000"),
-        ("plan", "plan"),
-        ("check", "check"),
-        ("serve relay.toml", "serve relay.toml"),
-        ("sync ./mirror.toml", "sync ./mirror.toml false"),
-        ("sync --progress a", "sync a true"),
-        ("sync -- --progress", "sync --progress false"),
-    ] {
-        assert_eq!(rt; told(alloc, line)?.as_str(), job, "{line}");
-    }
-    Ok(())
-}
-
 /// Whether the words are refused with a text that begins and ends so.
 fn is_told(alloc: Global, line: &str, front: &str, back: &str) -> Result<bool, Fail> {
     let words = named(alloc, line)?;
