@@ -2,7 +2,7 @@
 
 use crate::jobs::{End, Went, run};
 use crate::usage::{WordsFault, words_of};
-use crate::words::{Words, read_words};
+use crate::words::read_words;
 use std::alloc::Global;
 use std::env::{Env, FillError};
 use std::test::Fail;
