@@ -7,6 +7,3 @@ mod run;
 mod text;
 
 pub use run::run_sync;
-
-#[cfg(test)]
-mod tests;
