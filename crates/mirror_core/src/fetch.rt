@@ -56,7 +56,7 @@ fn places<J: Naming>(alloc: Global, count: usize) -> Result<Vec<Stop<J>>, AllocE
     Ok(stops)
 }
 
-/// Lets each source work the lane with its number, one after the other: it claims cells of the lane's relay, up to
+/// Lets each source work the lane with its number, each in a thread of its own: it claims cells of the lane's relay, up to
 /// 100 at a time, is asked for their ids, and each event that was asked for is placed through the desk, whose lock is
 /// taken for one insert at a time. A worker that stops early releases the cells that it holds.
 ///

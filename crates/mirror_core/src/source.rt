@@ -5,7 +5,7 @@ ghost use Rattle.mirror_core.specs.Fetching.{Fetching, fetching, ids_of};
 
 use neg_codec::Id;
 use nostr_event::Event;
-use std::alloc::{AllocError, AllocFailed};
+use std::alloc::{AllocError, AllocFailed, Global};
 use std::marker::Model;
 use std::sync::Arc;
 use thiserror::Error;
@@ -23,6 +23,22 @@ impl Model for Fetch {
     ghost Value = { Fetching };
 
     ghost view = { λ f. record { asked = f.asked.items; given = f.given.items } };
+}
+
+impl Fetch {
+    /// What was asked for, and the ids of the events that came.
+    pub fn of(alloc: Global, asked: &[Id], given: &[Arc<Event>]) -> Result<Fetch, AllocError>
+        ensures { IfOk result (λ fetch. fetch ≡ fetching asked.now (ids_of given.now)) }
+    {
+        let mut ids = Vec::new(alloc);
+        for event in given {
+            ids.push(event.id())?;
+        }
+        Ok(Fetch {
+            asked: asked.to_vec(alloc)?,
+            given: ids,
+        })
+    }
 }
 
 /// Why a source gave nothing.

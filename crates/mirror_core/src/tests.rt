@@ -168,7 +168,7 @@ fn one_to_256_relays_are_asked(rt: HostRuntime) -> Result<(), Fail> {
 }
 
 /// Whether the flag is set within ten thousand turns of a millisecond each.
-fn is_set_in_time<C: Clock>(clock: &C, flag: &AtomicU64) -> bool {
+pub(crate) fn is_set_in_time<C: Clock>(clock: &C, flag: &AtomicU64) -> bool {
     for _turn in 0..10_000u32 {
         if flag.load(Ordering::SeqCst) != 0 {
             return true;

@@ -8,6 +8,7 @@ ghost use Rattle.mirror_core.specs.Working.{is_through, stop_of, IsUnused, Logs,
 
 use crate::batch::{Batch, fill, release_from};
 use crate::source::{Source, SourceFault};
+use crate::workers::Duty;
 use claim_board::{Board, Lane};
 use event_store::{Desk, Filled, InsertFault, Naming};
 use neg_codec::Id;
@@ -152,7 +153,7 @@ fn fetch_batch<R: Wait, J: Naming, D: Wait + Drop, S: Source>(
 }
 
 /// Works a lane over all cells of its relay.
-pub(crate) fn work<R: Wait, J: Naming, D: Wait + Drop, S: Source>(
+fn work_lane<R: Wait, J: Naming, D: Wait + Drop, S: Source>(
     rt: &R,
     alloc: Global,
     board: &Board,
@@ -177,4 +178,20 @@ pub(crate) fn work<R: Wait, J: Naming, D: Wait + Drop, S: Source>(
         }
     }
     Stop::Through
+}
+
+/// Works its lane over all cells of its relay, and places what comes through the desk.
+impl<J: Naming, D: Wait + Drop, S: Source> Duty<S, Stop<J>> for Mutex<Desk<J, D>> {
+    ghost did = { λ cells l m s t stop. Worked cells l m (S.log s) (S.log t) (S.faults s) (S.faults t) stop × S.becomes s t };
+
+    fn work<R: Wait>(
+        &self,
+        rt: &R,
+        alloc: Global,
+        board: &Board,
+        lane: &mut Lane,
+        source: &mut S,
+    ) -> Stop<J> {
+        work_lane(rt, alloc, board, self, lane, source)
+    }
 }

@@ -117,11 +117,7 @@ impl<S: Read + Write + Drop, K: MaskKeys + Drop> WsSource<S, K> {
                 sub: subscription(alloc)?,
             },
         )?;
-        let fetch = Fetch {
-            asked: ids.to_vec(alloc)?,
-            given: ids_given(alloc, &events)?,
-        };
-        self.fetches.push(fetch)?;
+        self.fetches.push(Fetch::of(alloc, ids, &events)?)?;
         Ok(events)
     }
 
@@ -159,17 +155,6 @@ fn request(alloc: Global, ids: &[Id]) -> Result<FromClient, LinkFault> {
         Ok(filters) => Ok(FromClient::Req { sub, filters }),
         Err(_) => unreachable!(),
     }
-}
-
-/// The ids of the events, in order.
-fn ids_given(alloc: Global, events: &[Arc<Event>]) -> Result<Vec<Id>, LinkFault>
-    ensures { IfOk result (λ ids. ids.items ≡ ids_of events.now) }
-{
-    let mut ids = Vec::new(alloc);
-    for event in events {
-        ids.push(event.id())?;
-    }
-    Ok(ids)
 }
 
 /// Reads until the end of the stored events, past at most 999 other messages. Events beyond the number asked for count among

@@ -1,7 +1,7 @@
 use Rattle.std.proofs.Common.{◌≡◌, [], ◌-◌, length}
 use Rattle.mirror_core.specs.Batches.{Batched, SameLane}
 use Rattle.mirror_core.specs.Working.{Logs}
-use Rattle.mirror_core.proofs.worker.work.Given as goal
+use Rattle.mirror_core.proofs.worker.work_lane.Given as goal
 
 abbrev pub invariant-loop-next : goal.invariant-loop-next
 invariant-loop-next g l = record {

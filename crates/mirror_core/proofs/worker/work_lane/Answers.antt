@@ -3,7 +3,7 @@ use Rattle.std.proofs.lemmas.Bool.{false≢true}
 use Rattle.claim_board.specs.Views.{LaneView}
 use Rattle.mirror_core.proofs.Batches.{holds_none, same_then}
 use Rattle.mirror_core.proofs.Logs.{logs_none, logs_then, worked}
-use Rattle.mirror_core.proofs.worker.work.Goals as goal
+use Rattle.mirror_core.proofs.worker.work_lane.Goals as goal
 
 pub returns-in_default-clause-worked : goal.returns-in_default-clause-worked
 returns-in_default-clause-worked g c =

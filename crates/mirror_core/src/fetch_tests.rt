@@ -1,0 +1,311 @@
+//! Workers that fetch beside one another.
+
+ghost use Rattle.std.specs.Prelude.{◌≡◌, map, IfSome};
+ghost use Rattle.claim_board.specs.Rules.{named};
+ghost use Rattle.claim_board.specs.Views.{placed_at};
+
+use super::*;
+use crate::tests::is_set_in_time;
+use claim_board::{Board, Cell, Lane};
+use event_store::{Blank, Naming, Reader, open_store};
+use fetch_plan::plan;
+use neg_codec::Id;
+use nostr_event::{Draft, Event, Spelling, Tags, Text, id_of};
+use nostr_filter::Filter;
+use offer_table::{Bases, OfferTable};
+use serde_json::Value;
+use std::alloc::{AllocError, Global};
+use std::collections::BTreeSet;
+use std::marker::Brand;
+use std::rt::Clock;
+use std::sync::atomic::{AtomicU64, Ordering};
+use std::sync::{Arc, Mutex};
+use std::test::*;
+
+const KEY: &str = "0101010101010101010101010101010101010101010101010101010101010101";
+
+const SIG: &str =
+    "5a5a5a5a5a5a5a5a5a5a5a5a5a5a5a5a5a5a5a5a5a5a5a5a5a5a5a5a5a5a5a5a5a5a5a5a5a5a5a5a5a5a5a5a5a5a5a5a5a5a5a5a5a5a5a5a5a5a5a5a5a5a5a5a5a5a";
+
+/// An event of this time.
+fn event(alloc: Global, time: u64) -> Option<Arc<Event>> {
+    let draft = Draft {
+        pubkey: [1; 32],
+        created_at: time,
+        kind: 1,
+        tags: Tags::new(Vec::new(alloc)),
+        content: Text::new(String::new(alloc)),
+    };
+    let id = id_of(alloc, &draft, Spelling::Plain).ok()?;
+    let id = hex::encode(alloc, id.0.as_slice()).ok()?;
+    let text = format!(in alloc;
+        "{{\"id\":\"{id}\",\"pubkey\":\"{KEY}\",\"created_at\":{time},\"kind\":1,\"tags\":[],\"content\":\"\",\"sig\":\"{SIG}\"}}"
+    ).ok()?;
+    let value = Value::from_str(alloc, text.as_str()).ok()?;
+    Arc::new(alloc, Event::from_json(alloc, &value).ok()?).ok()
+}
+
+/// Events of the times from the first on.
+fn events(alloc: Global, first: u64, count: u64) -> Option<Vec<Arc<Event>>> {
+    let mut all = Vec::new(alloc);
+    for k in 0..count {
+        all.push(event(alloc, first.saturating_add(k))?).ok()?;
+    }
+    Some(all)
+}
+
+/// A relay's report of these events.
+fn report(alloc: Global, relay: u16, events: &[Arc<Event>]) -> Option<OfferTable> {
+    let mut ids = BTreeSet::new(alloc);
+    for event in events {
+        ids.insert(event.id()).ok()?;
+    }
+    OfferTable::of_report(alloc, relay, &ids).ok()
+}
+
+/// A source that gives the same events whatever it is asked, once another source was asked, and fails after so many times.
+#[derive(Drop)]
+struct Giving<'a, C> {
+    alloc: Global,
+    clock: &'a C,
+    mine: &'a AtomicU64,
+    theirs: &'a AtomicU64,
+    events: &'a [Arc<Event>],
+    left: u64,
+    log: Vec<Fetch>,
+    failures: u64,
+}
+
+impl<'a> Giving<'a, HostRuntime> {
+    fn new(
+        rt: &'a HostRuntime,
+        mine: &'a AtomicU64,
+        theirs: &'a AtomicU64,
+        events: &'a [Arc<Event>],
+        left: u64,
+    ) -> Giving<'a, HostRuntime>
+        ensures { result.failures ≡ 0 }
+    {
+        Giving {
+            alloc: rt.alloc(),
+            clock: rt,
+            mine,
+            theirs,
+            events,
+            left,
+            log: Vec::new(rt.alloc()),
+            failures: 0,
+        }
+    }
+}
+
+/// The same events once more.
+fn again(alloc: Global, events: &[Arc<Event>]) -> Result<Vec<Arc<Event>>, AllocError> {
+    let mut all = Vec::new(alloc);
+    for event in events {
+        all.push(Arc::try_clone(event)?)?;
+    }
+    Ok(all)
+}
+
+impl<C: Clock> Source for Giving<'_, C> {
+    ghost log = { λ s. s.log.items };
+
+    ghost faults = { λ s. s.failures };
+
+    ghost becomes = { λ s t. Unit {0} };
+
+    ghost stays = { λ s. tt };
+
+    ghost goes_on = { λ s t u h k. tt };
+
+    fn fetch(&mut self, ids: &[Id]) -> Result<Vec<Arc<Event>>, SourceFault> {
+        self.mine.store(1, Ordering::SeqCst);
+        if self.left == 0 || !is_set_in_time(self.clock, self.theirs) {
+            self.failures += 1;
+            return Err(SourceFault::Failed);
+        }
+        self.left -= 1;
+        let given = again(self.alloc, self.events)?;
+        self.log.push(Fetch::of(self.alloc, ids, &given)?)?;
+        Ok(given)
+    }
+
+    fn fetches(&self) -> &[Fetch] {
+        self.log.as_slice()
+    }
+
+    fn failures(&self) -> u64 {
+        self.failures
+    }
+}
+
+/// A plan's board with a lane for each source, and the lanes.
+fn board_of(alloc: Global, table: &OfferTable, lanes: &[u16]) -> Option<(Board, Vec<Lane>)>
+    ensures { IfSome result (λ r. r.1.items ≡ map (placed_at r.0.board) (named 0 r.0.lanes)) }
+{
+    let plan = plan(alloc, table, &Bases::none()).ok()?;
+    Board::new(alloc, &plan, lanes).ok()
+}
+
+/// How many cells ended so.
+fn count(cells: &[Cell], end: Cell) -> usize {
+    let mut found = 0usize;
+    for cell in cells {
+        if *cell == end {
+            found = found.saturating_add(1);
+        }
+    }
+    found
+}
+
+/// What became of cells, in what way the first worker stopped, and how many events the store has then.
+#[derive(Clone, Copy, Debug, PartialEq, Eq)]
+struct Found {
+    done: usize,
+    missed: usize,
+    free: usize,
+    failed: bool,
+    events: usize,
+}
+
+fn found<J: Naming>(
+    alloc: Global,
+    report: &FetchReport<J>,
+    reader: &mut Reader<J>,
+) -> Option<Found> {
+    let cells = report.cells.as_slice();
+    let all = reader.pin(alloc, &Filter::all()).ok()?;
+    Some(Found {
+        done: count(cells, Cell::Done),
+        missed: count(cells, Cell::Missed),
+        free: count(cells, Cell::Free),
+        failed: matches!(report.stops.first()?, Stop::Source(SourceFault::Failed)),
+        events: all.front(),
+    })
+}
+
+/// A relay lists so many events and is asked for them; it gives so many, the first of which are those, and fails after so many
+/// times. In the end that is found.
+struct Case {
+    listed: u64,
+    given: u64,
+    times: u64,
+    found: Found,
+}
+
+/// What is fetched from a relay.
+fn fetched<J: Naming + Send + Sync>(rt: &HostRuntime, blank: Blank, case: &Case) -> Option<Found>
+    requires book { blank ≡ J.book }
+    requires most { J.most ≡ 1000000 }
+{
+    let alloc = rt.alloc();
+    let (desk, mut readers) = open_store::<J, &HostRuntime>(rt, alloc, blank, 1).ok()?;
+    let mut reader = readers.pop()?;
+    let desk = Mutex::new(desk);
+    let listed = events(alloc, 0, case.listed)?;
+    let given = events(alloc, 0, case.given)?;
+    let (board, lanes) = board_of(alloc, &report(alloc, 0, &listed)?, &[0])?;
+    let set = AtomicU64::new(1);
+    let mut sources = [Giving::new(rt, &set, &set, &given, case.times)];
+    let report = fetch_all(rt, alloc, board, lanes, &mut sources, &desk).ok()?;
+    found(alloc, &report, &mut reader)
+}
+
+#[test]
+fn cells_end_by_what_is_given(rt: HostRuntime) -> Result<(), Fail> {
+    let cases = [
+        Case {
+            listed: 2,
+            given: 1,
+            times: 1,
+            found: Found {
+                done: 1,
+                missed: 1,
+                free: 0,
+                failed: false,
+                events: 1,
+            },
+        },
+        Case {
+            listed: 2,
+            given: 2,
+            times: 0,
+            found: Found {
+                done: 0,
+                missed: 0,
+                free: 2,
+                failed: true,
+                events: 0,
+            },
+        },
+        Case {
+            listed: 2,
+            given: 4,
+            times: 1,
+            found: Found {
+                done: 2,
+                missed: 0,
+                free: 0,
+                failed: false,
+                events: 2,
+            },
+        },
+        Case {
+            listed: 250,
+            given: 250,
+            times: 1,
+            found: Found {
+                done: 100,
+                missed: 0,
+                free: 150,
+                failed: true,
+                events: 100,
+            },
+        },
+    ];
+    for case in &cases {
+        let found = fetched::<Brand>(&rt, Blank::new(), case);
+        assert_eq!(rt; found, Some(case.found));
+    }
+    Ok(())
+}
+
+/// Two relays with an event each, that give it once both were asked.
+fn meet<J: Naming + Send + Sync>(rt: &HostRuntime, blank: Blank) -> Option<Found>
+    requires book { blank ≡ J.book }
+    requires most { J.most ≡ 1000000 }
+{
+    let alloc = rt.alloc();
+    let (desk, mut readers) = open_store::<J, &HostRuntime>(rt, alloc, blank, 1).ok()?;
+    let mut reader = readers.pop()?;
+    let desk = Mutex::new(desk);
+    let (here, there) = (events(alloc, 0, 1)?, events(alloc, 1, 1)?);
+    let table = report(alloc, 0, &here)?
+        .merge(report(alloc, 1, &there)?)
+        .ok()?;
+    let (board, lanes) = board_of(alloc, &table, &[0, 1])?;
+    let (one, two) = (AtomicU64::new(0), AtomicU64::new(0));
+    let mut sources = [
+        Giving::new(rt, &one, &two, &here, 1),
+        Giving::new(rt, &two, &one, &there, 1),
+    ];
+    let report = fetch_all(rt, alloc, board, lanes, &mut sources, &desk).ok()?;
+    found(alloc, &report, &mut reader)
+}
+
+#[test]
+fn two_sources_meet(rt: HostRuntime) -> Result<(), Fail> {
+    let found = meet::<Brand>(&rt, Blank::new());
+    assert_eq!(rt;
+        found,
+        Some(Found {
+            done: 2,
+            missed: 0,
+            free: 0,
+            failed: false,
+            events: 2
+        })
+    );
+    Ok(())
+}
