@@ -94,7 +94,7 @@ pub fn fetch_all<
     }
     let mut stops = places(alloc, lanes.len())?;
     let mut lanes = lanes;
-    run_workers(rt, alloc, &board, desk, &mut lanes, sources, &mut stops);
+    run_workers(rt, &alloc, &board, desk, &mut lanes, sources, &mut stops);
     match close_all(board, lanes) {
         Some(cells) => Ok(FetchReport { cells, stops }),
         None => Err(FetchFault::Memory),

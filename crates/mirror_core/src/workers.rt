@@ -38,42 +38,42 @@ pub(crate) trait Duty<S: Source, E> {
 pub(crate) fn run_workers<
     R: Threads + Wait + Sync,
     S: Source + Send,
-    E: Send,
+    E: Drop + Send,
     H: Duty<S, E> + Sync,
 >(
     rt: &R,
-    alloc: Global,
+    alloc: &Global,
     board: &Board,
     duty: &H,
     lanes: &mut [Lane],
     sources: &mut [S],
-    ends: &mut [E],
+    stops: &mut [E],
 )
-    requires same { (length lanes.old ≡ length sources.old) × (length lanes.old ≡ length ends.old) }
+    requires same { (length lanes.old ≡ length sources.old) × (length lanes.old ≡ length stops.old) }
     requires unused { All (λ l. (l.board ≡ board.now.board) × IsUnused l.own) lanes.old }
     requires ready { All (λ s. S.faults s < 2 ^ 64 - 1) sources.old }
-    ensures { AllSix (λ l m s t _ end. H.did board.now.cells l m s t end) lanes.old lanes.new sources.old sources.new ends.old ends.new }
+    ensures { AllSix (λ l m s t _ stop. H.did board.now.cells l m s t stop) lanes.old lanes.new sources.old sources.new stops.old stops.new }
 {
     if lanes.is_empty() {
         return;
     }
     if lanes.len() == 1 {
-        ends[0] = duty.work(rt, alloc, board, &mut lanes[0], &mut sources[0]);
+        stops[0] = duty.work(rt, *alloc, board, &mut lanes[0], &mut sources[0]);
         return;
     }
     let half = lanes.len() / 2;
     let (front, back) = lanes.split_at_mut(half);
     let (near, far) = sources.split_at_mut(half);
-    let (first, last) = ends.split_at_mut(half);
+    let (first, last) = stops.split_at_mut(half);
     join_mut(
         rt,
         &mut ||
             requires { IsSync R.row × IsSend S.row × IsSend E.row × IsSync H.row × (length front.now ≡ length near.now) × (length front.now ≡ length first.now) × All (λ l. (l.board ≡ board.now.board) × IsUnused l.own) front.now × All (λ s. S.faults s < 2 ^ 64 - 1) near.now }
-            ensures { AllSix (λ l m s t _ end. H.did board.entry.now.cells l m s t end) front.entry.now front.exit.now near.entry.now near.exit.now first.entry.now first.exit.now }
+            ensures { AllSix (λ l m s t _ stop. H.did board.entry.now.cells l m s t stop) front.entry.now front.exit.now near.entry.now near.exit.now first.entry.now first.exit.now }
         { run_workers(rt, alloc, board, duty, front, near, first) },
         &mut ||
             requires { IsSync R.row × IsSend S.row × IsSend E.row × IsSync H.row × (length back.now ≡ length far.now) × (length back.now ≡ length last.now) × All (λ l. (l.board ≡ board.now.board) × IsUnused l.own) back.now × All (λ s. S.faults s < 2 ^ 64 - 1) far.now }
-            ensures { AllSix (λ l m s t _ end. H.did board.entry.now.cells l m s t end) back.entry.now back.exit.now far.entry.now far.exit.now last.entry.now last.exit.now }
+            ensures { AllSix (λ l m s t _ stop. H.did board.entry.now.cells l m s t stop) back.entry.now back.exit.now far.entry.now far.exit.now last.entry.now last.exit.now }
         { run_workers(rt, alloc, board, duty, back, far, last) },
     );
 }
