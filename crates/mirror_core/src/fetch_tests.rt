@@ -19,8 +19,9 @@ use std::collections::BTreeSet;
 use std::marker::Brand;
 use std::rt::Clock;
 use std::sync::atomic::{AtomicU64, Ordering};
-use std::sync::{Arc, Mutex};
+use std::sync::{Arc, Mutex, Wait};
 use std::test::*;
+use std::thread::Threads;
 
 const KEY: &str = "0101010101010101010101010101010101010101010101010101010101010101";
 
@@ -76,24 +77,25 @@ struct Giving<'a, C> {
     failures: u64,
 }
 
-impl<'a> Giving<'a, HostRuntime> {
+impl<'a, C> Giving<'a, C> {
     fn new(
-        rt: &'a HostRuntime,
+        alloc: Global,
+        clock: &'a C,
         mine: &'a AtomicU64,
         theirs: &'a AtomicU64,
         events: &'a [Arc<Event>],
         left: u64,
-    ) -> Giving<'a, HostRuntime>
+    ) -> Giving<'a, C>
         ensures { result.failures ≡ 0 }
     {
         Giving {
-            alloc: rt.alloc(),
-            clock: rt,
+            alloc,
+            clock,
             mine,
             theirs,
             events,
             left,
-            log: Vec::new(rt.alloc()),
+            log: Vec::new(alloc),
             failures: 0,
         }
     }
@@ -159,15 +161,8 @@ fn count(cells: &[Cell], end: Cell) -> usize {
     found
 }
 
-/// What became of cells, in what way the first worker stopped, and how many events the store has then.
-#[derive(Clone, Copy, Debug, PartialEq, Eq)]
-struct Found {
-    done: usize,
-    missed: usize,
-    free: usize,
-    failed: bool,
-    events: usize,
-}
+/// How many cells are done, missed and free, whether the first worker's source failed, and how many events the store has then.
+type Found = (usize, usize, usize, bool, usize);
 
 fn found<J: Naming>(
     alloc: Global,
@@ -176,38 +171,43 @@ fn found<J: Naming>(
 ) -> Option<Found> {
     let cells = report.cells.as_slice();
     let all = reader.pin(alloc, &Filter::all()).ok()?;
-    Some(Found {
-        done: count(cells, Cell::Done),
-        missed: count(cells, Cell::Missed),
-        free: count(cells, Cell::Free),
-        failed: matches!(report.stops.first()?, Stop::Source(SourceFault::Failed)),
-        events: all.front(),
-    })
+    Some((
+        count(cells, Cell::Done),
+        count(cells, Cell::Missed),
+        count(cells, Cell::Free),
+        matches!(report.stops.first()?, Stop::Source(SourceFault::Failed)),
+        all.front(),
+    ))
 }
 
 /// A relay lists so many events and is asked for them; it gives so many, the first of which are those, and fails after so many
-/// times. In the end that is found.
+/// times.
+#[derive(Clone, Copy)]
 struct Case {
     listed: u64,
     given: u64,
     times: u64,
-    found: Found,
 }
 
 /// What is fetched from a relay.
-fn fetched<J: Naming + Send + Sync>(rt: &HostRuntime, blank: Blank, case: &Case) -> Option<Found>
+fn fetched<R: Threads + Wait + Clock + Sync, J: Naming + Send + Sync, D: Wait + Drop + Send + Sync>(
+    rt: &R,
+    keep: D,
+    alloc: Global,
+    blank: Blank,
+    case: Case,
+) -> Option<Found>
     requires book { blank ≡ J.book }
     requires most { J.most ≡ 1000000 }
 {
-    let alloc = rt.alloc();
-    let (desk, mut readers) = open_store::<J, &HostRuntime>(rt, alloc, blank, 1).ok()?;
+    let (desk, mut readers) = open_store::<J, D>(keep, alloc, blank, 1).ok()?;
     let mut reader = readers.pop()?;
     let desk = Mutex::new(desk);
     let listed = events(alloc, 0, case.listed)?;
     let given = events(alloc, 0, case.given)?;
     let (board, lanes) = board_of(alloc, &report(alloc, 0, &listed)?, &[0])?;
     let set = AtomicU64::new(1);
-    let mut sources = [Giving::new(rt, &set, &set, &given, case.times)];
+    let mut sources = [Giving::new(alloc, rt, &set, &set, &given, case.times)];
     let report = fetch_all(rt, alloc, board, lanes, &mut sources, &desk).ok()?;
     found(alloc, &report, &mut reader)
 }
@@ -215,69 +215,34 @@ fn fetched<J: Naming + Send + Sync>(rt: &HostRuntime, blank: Blank, case: &Case)
 #[test]
 fn cells_end_by_what_is_given(rt: HostRuntime) -> Result<(), Fail> {
     let cases = [
-        Case {
-            listed: 2,
-            given: 1,
-            times: 1,
-            found: Found {
-                done: 1,
-                missed: 1,
-                free: 0,
-                failed: false,
-                events: 1,
-            },
-        },
-        Case {
-            listed: 2,
-            given: 2,
-            times: 0,
-            found: Found {
-                done: 0,
-                missed: 0,
-                free: 2,
-                failed: true,
-                events: 0,
-            },
-        },
-        Case {
-            listed: 2,
-            given: 4,
-            times: 1,
-            found: Found {
-                done: 2,
-                missed: 0,
-                free: 0,
-                failed: false,
-                events: 2,
-            },
-        },
-        Case {
-            listed: 250,
-            given: 250,
-            times: 1,
-            found: Found {
-                done: 100,
-                missed: 0,
-                free: 150,
-                failed: true,
-                events: 100,
-            },
-        },
+        ((2, 1, 1), (1, 1, 0, false, 1)),
+        ((2, 2, 0), (0, 0, 2, true, 0)),
+        ((2, 4, 1), (2, 0, 0, false, 2)),
+        ((250, 250, 1), (100, 0, 150, true, 100)),
     ];
-    for case in &cases {
-        let found = fetched::<Brand>(&rt, Blank::new(), case);
-        assert_eq!(rt; found, Some(case.found));
+    for ((listed, given, times), found) in cases {
+        let case = Case {
+            listed,
+            given,
+            times,
+        };
+        let fetched = fetched::<_, Brand, _>(&rt, &rt, rt.alloc(), Blank::new(), case);
+        assert_eq!(rt; fetched, Some(found));
     }
     Ok(())
 }
 
 /// Two relays with an event each, that give it once both were asked.
-fn meet<J: Naming + Send + Sync>(rt: &HostRuntime, blank: Blank) -> Option<Found>
+fn meet<R: Threads + Wait + Clock + Sync, J: Naming + Send + Sync, D: Wait + Drop + Send + Sync>(
+    rt: &R,
+    keep: D,
+    alloc: Global,
+    blank: Blank,
+) -> Option<Found>
     requires book { blank ≡ J.book }
     requires most { J.most ≡ 1000000 }
 {
-    let alloc = rt.alloc();
-    let (desk, mut readers) = open_store::<J, &HostRuntime>(rt, alloc, blank, 1).ok()?;
+    let (desk, mut readers) = open_store::<J, D>(keep, alloc, blank, 1).ok()?;
     let mut reader = readers.pop()?;
     let desk = Mutex::new(desk);
     let (here, there) = (events(alloc, 0, 1)?, events(alloc, 1, 1)?);
@@ -287,8 +252,8 @@ fn meet<J: Naming + Send + Sync>(rt: &HostRuntime, blank: Blank) -> Option<Found
     let (board, lanes) = board_of(alloc, &table, &[0, 1])?;
     let (one, two) = (AtomicU64::new(0), AtomicU64::new(0));
     let mut sources = [
-        Giving::new(rt, &one, &two, &here, 1),
-        Giving::new(rt, &two, &one, &there, 1),
+        Giving::new(alloc, rt, &one, &two, &here, 1),
+        Giving::new(alloc, rt, &two, &one, &there, 1),
     ];
     let report = fetch_all(rt, alloc, board, lanes, &mut sources, &desk).ok()?;
     found(alloc, &report, &mut reader)
@@ -296,16 +261,7 @@ fn meet<J: Naming + Send + Sync>(rt: &HostRuntime, blank: Blank) -> Option<Found
 
 #[test]
 fn two_sources_meet(rt: HostRuntime) -> Result<(), Fail> {
-    let found = meet::<Brand>(&rt, Blank::new());
-    assert_eq!(rt;
-        found,
-        Some(Found {
-            done: 2,
-            missed: 0,
-            free: 0,
-            failed: false,
-            events: 2
-        })
-    );
+    let found = meet::<_, Brand, _>(&rt, &rt, rt.alloc(), Blank::new());
+    assert_eq!(rt; found, Some((2, 0, 0, false, 2)));
     Ok(())
 }
