@@ -12,6 +12,7 @@ use jobs::{End, Went, run};
 use settled::{serve, sync, told};
 use std::io;
 use std::process::ExitCode;
+use sync_run::Progress;
 use usage::words_of;
 use words::Words;
 
@@ -27,18 +28,13 @@ fn main(rt: HostRuntime) -> io::Result<ExitCode> {
             let done = serve(&rt, alloc, path.as_str(), &mut rt.stdout());
             return Ok(told(&mut rt.stderr(), done));
         }
-        Went::Left(Words::Sync(path, true)) => {
-            let done = sync(
-                &rt,
-                alloc,
-                path.as_str(),
-                &mut rt.stdout(),
-                &mut rt.stderr(),
-            );
-            return Ok(told(&mut rt.stderr(), done));
-        }
-        Went::Left(Words::Sync(path, false)) => {
-            let done = sync(&rt, alloc, path.as_str(), &mut rt.stdout(), &mut io::sink());
+        Went::Left(Words::Sync(path, is_wanted)) => {
+            let mut progress = if is_wanted {
+                Progress::to(rt.stderr())
+            } else {
+                Progress::none()
+            };
+            let done = sync(&rt, alloc, path.as_str(), &mut rt.stdout(), &mut progress);
             return Ok(told(&mut rt.stderr(), done));
         }
         // The other jobs have ended.

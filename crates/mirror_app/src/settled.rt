@@ -6,11 +6,11 @@ use std::io::{ErrorKind, Write};
 use std::net::{Net, TcpListener, TcpStream};
 use std::process::ExitCode;
 use std::random::RandomSource;
-use std::rt::Files;
+use std::rt::{Clock, Files};
 use std::sync::Wait;
 use std::thread::Threads;
 use std::{fs, io};
-use sync_run::run_sync;
+use sync_run::{Progress, run_sync};
 
 /// What an error of reading the settings comes to.
 fn refusal_of(error: &io::Error) -> Refusal {
@@ -50,13 +50,23 @@ pub fn serve<
 
 /// Synchronises by the settings of the file at a path.
 pub fn sync<
-    R: Net + RandomSource + Threads + Wait + Files + AllocGlobal + Sync,
+    R: Net<Listener = TcpListener, Stream = TcpStream>
+        + RandomSource
+        + Threads
+        + Wait
+        + Clock
+        + Files
+        + AllocGlobal
+        + Sync,
     W: Write,
-    P: Write,
->(rt: &R, alloc: Global, path: &str, writer: &mut W, progress: &mut P) -> Result<(), Refusal>
-where
-    R::Stream: Send,
-{
+    P: Write + Send,
+>(
+    rt: &R,
+    alloc: Global,
+    path: &str,
+    writer: &mut W,
+    progress: &mut Progress<P>,
+) -> Result<(), Refusal> {
     match fs::read_to_string(rt, path) {
         Ok(text) => run_sync(rt, alloc, text.as_str(), writer, progress),
         Err(error) => Err(refusal_of(&error)),

@@ -1,15 +1,19 @@
 //! Where connections come in, and what they are served from.
 
-use crate::workers::{Duty, run_workers};
+use crate::client::Client;
+use crate::workers::{Duty, run_beside, run_workers};
 use event_store::{Desk, Naming, Reader};
 use relay_core::RelayLimits;
 use std::alloc::Global;
-use std::net::{TcpListener, TcpStream};
+use std::net::{Net, TcpListener, TcpStream};
 use std::sync::atomic::{AtomicU64, Ordering};
 use std::sync::{Mutex, Wait};
 use std::thread::Threads;
 use std::time::Duration;
 use ws_link::serve_conn;
+
+/// For how many milliseconds it is tried to wake a worker that waits for a connection.
+const WAKING: u64 = 100;
 
 /// Where so many connections come in, and the desk of the store that they are served from.
 #[derive(Drop)]
@@ -46,13 +50,21 @@ impl<K> Hall<K> {
     }
 
     // Waits for a connection, if one can be had.
-    fn accepted(&self) -> Option<TcpStream> {
+    fn accepted(&self) -> Option<Client> {
         let (stream, _from) = self.listener.accept().ok()?;
-        let _ = stream.set_nodelay(true);
-        if self.push.is_some() {
-            let _ = stream.set_read_timeout(self.push);
+        Some(Client::new(stream, self.push))
+    }
+
+    /// Takes no further connections. Workers that wait for one, at most so many, are woken by connections that end at once.
+    pub fn close<R: Net>(&self, rt: &R, waiting: usize) {
+        self.begun.store(self.conns, Ordering::SeqCst);
+        let Ok(address) = self.listener.local_addr() else {
+            return;
+        };
+        let while_waking = Duration::from_millis(WAKING);
+        for _ in 0..waiting {
+            let _ = TcpStream::connect_timeout(rt, &address, while_waking);
         }
-        Some(stream)
     }
 }
 
@@ -63,9 +75,9 @@ impl<J: Naming, D: Wait + Drop> Duty<Reader<J>> for Hall<Desk<J, D>> {
             if !self.is_next() {
                 return;
             }
-            if let Some(stream) = self.accepted() {
+            if let Some(client) = self.accepted() {
                 let limits = RelayLimits::default();
-                let _ = serve_conn(rt, alloc, stream, reader, &self.desk, limits);
+                let _ = serve_conn(rt, alloc, client, reader, &self.desk, limits);
             }
         }
     }
@@ -80,4 +92,19 @@ pub fn serve_all<R: Threads + Wait + Sync, J: Naming + Send + Sync, D: Wait + Dr
     readers: &mut [Reader<J>],
 ) {
     run_workers(rt, alloc, hall, readers);
+}
+
+/// Serves the hall's connections as `serve_all` does, beside other work in this thread, and gives what that answers once both
+/// have ended. Where no thread can be made they are served after the work.
+pub fn serve_beside<
+    R: Threads + Wait + Sync,
+    J: Naming + Send + Sync,
+    D: Wait + Drop + Send,
+    G: FnOnce() -> B,
+    B,
+>(rt: &R, alloc: Global, hall: &Hall<Desk<J, D>>, readers: &mut [Reader<J>], work: G) -> B
+    requires { G.pre work }
+    ensures { G.post work result }
+{
+    run_beside(rt, alloc, hall, readers, work)
 }

@@ -1,11 +1,12 @@
 //! The job `serve`: connections are served from a store, which is filled from a file before and written to it after.
 #![tactic(auto)]
 
+mod client;
 mod hall;
 mod refusal;
 mod run;
 mod workers;
 
-pub use hall::{Hall, serve_all};
+pub use hall::{Hall, serve_all, serve_beside};
 pub use refusal::{Refusal, read_refusal, write_refusal};
-pub use run::{fill, listen, run_serve, say};
+pub use run::{fill, open_hall, readers_for, run_serve, say};

@@ -21,7 +21,7 @@ use std::time::Duration;
 const MOST_AT_ONCE: u64 = 64;
 
 /// As many readers as connections may be served at once: at least one.
-fn readers_for(conns: u64) -> usize {
+pub fn readers_for(conns: u64) -> usize {
     if conns == 0 {
         return 1;
     }
@@ -56,7 +56,7 @@ pub fn fill<J: Naming, D: Wait + Drop, R: Wait + Files + AllocGlobal>(
 }
 
 /// Listens, and tells where: the host as it was asked for, and the port that was bound.
-pub fn listen<R: Net<Listener = TcpListener, Stream = TcpStream>, W: Write>(
+fn listen<R: Net<Listener = TcpListener, Stream = TcpStream>, W: Write>(
     rt: &R,
     alloc: Global,
     address: &Address,
@@ -76,28 +76,24 @@ pub fn listen<R: Net<Listener = TcpListener, Stream = TcpStream>, W: Write>(
     Ok(listener)
 }
 
-/// Listens, serves the connections, and tells how many there were and how many events the store has then.
-fn serve<
-    J: Naming + Send + Sync,
-    D: Wait + Drop + Send,
-    R: Net<Listener = TcpListener, Stream = TcpStream> + Threads + Wait + Sync,
-    W: Write,
->(
+/// Listens as the settings say, and tells where. The hall has the desk. Where the settings don't say where to listen or how
+/// many connections are served, that is refused.
+pub fn open_hall<K: Drop, R: Net<Listener = TcpListener, Stream = TcpStream>, W: Write>(
     rt: &R,
     alloc: Global,
     settings: &Settings,
-    desk: Desk<J, D>,
-    readers: &mut [Reader<J>],
+    desk: K,
     writer: &mut W,
-) -> Result<Hall<Desk<J, D>>, Refusal> {
-    let (Some(address), Some(conns)) = (&settings.listen, settings.conns) else {
+) -> Result<Hall<K>, Refusal> {
+    let Some(address) = &settings.listen else {
         return Err(Refusal::Key(SettingsKey::Listen));
+    };
+    let Some(conns) = settings.conns else {
+        return Err(Refusal::Key(SettingsKey::Conns));
     };
     let listener = listen(rt, alloc, address, writer)?;
     let push = settings.push_ms.map(Duration::from_millis);
-    let hall = Hall::new(listener, conns, push, desk);
-    serve_all(rt, alloc, &hall, readers);
-    Ok(hall)
+    Ok(Hall::new(listener, conns, push, desk))
 }
 
 /// Tells how many connections and events there were, and writes the events file.
@@ -149,13 +145,14 @@ fn run_named<
         Ok(file) => file,
         Err(error) => return Err(write_refusal(&error)),
     };
-    let hall = match serve(rt, alloc, settings, desk, readers.as_mut_slice(), writer) {
+    let hall = match open_hall(rt, alloc, settings, desk, writer) {
         Ok(hall) => hall,
         Err(refusal) => {
             let _ = file.discard(rt);
             return Err(refusal);
         }
     };
+    serve_all(rt, alloc, &hall, readers.as_mut_slice());
     let Some(mut reader) = readers.pop() else {
         return Err(Refusal::Store);
     };

@@ -3,7 +3,9 @@
 
 mod fetching;
 mod links;
+mod progress;
 mod run;
 mod text;
 
+pub use progress::Progress;
 pub use run::run_sync;

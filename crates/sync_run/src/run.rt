@@ -4,6 +4,7 @@ ghost use Rattle.std.specs.Prelude.{◌≡◌, length, IfOk};
 
 use crate::fetching::{Counts, counts_of, fetched, grow, sources_of};
 use crate::links::{finish_all, linked_all};
+use crate::progress::{Progress, Seen, watched};
 use crate::text::{counts_text, put_ends, put_plan, put_round};
 use claim_board::Cell;
 use event_file::NewFile;
@@ -14,13 +15,13 @@ use mirror_settings::{Settings, SettingsKey, read_settings};
 use neg_session::SessionLimits;
 use nostr_filter::Filter;
 use offer_table::Bases;
-use serve_run::{Refusal, fill, say, write_refusal};
+use serve_run::{Hall, Refusal, fill, open_hall, readers_for, say, serve_beside, write_refusal};
 use std::alloc::Global;
 use std::io::Write;
 use std::marker::Brand;
-use std::net::Net;
+use std::net::{Net, TcpListener, TcpStream};
 use std::random::RandomSource;
-use std::rt::Files;
+use std::rt::{Clock, Files};
 use std::sync::{Mutex, Wait};
 use std::thread::Threads;
 
@@ -33,12 +34,6 @@ fn bases_of(loads: &[u64]) -> Bases {
         }
     }
     bases
-}
-
-/// Tells how far the job is, as far as that can be written.
-fn tell<P: Write>(progress: &mut P, count: usize, what: &str) {
-    let _ = write!(progress, "{count} {what}\n");
-    let _ = progress.flush();
 }
 
 /// What a fault of the sessions comes to.
@@ -57,15 +52,15 @@ fn synced<J: Naming, R: Net + RandomSource + Threads + Sync, P: Write>(
     alloc: Global,
     settings: &Settings,
     reader: &mut Reader<J>,
-    progress: &mut P,
+    progress: &mut Progress<P>,
 ) -> Result<Synced, Refusal>
 where
     R::Stream: Send,
 {
     let snapshot = reader.pin(alloc, &settings.filter)?;
-    tell(progress, snapshot.events().len(), "events are compared");
+    progress.tell(snapshot.events().len(), "events are compared");
     let mut peers = linked_all(rt, alloc, settings.relays.as_slice(), &settings.filter)?;
-    tell(progress, peers.len(), "relays are asked");
+    progress.tell(peers.len(), "relays are asked");
     let bases = bases_of(settings.bases.as_slice());
     let limits = SessionLimits::default();
     let done = sync_plan(rt, alloc, peers.as_mut_slice(), &snapshot, &bases, &limits);
@@ -80,8 +75,8 @@ where
 fn fetch_round<
     J: Naming + Send + Sync,
     D: Wait + Drop + Send + Sync,
-    R: Net + RandomSource + Threads + Wait + Sync,
-    P: Write,
+    R: Net + RandomSource + Threads + Wait + Clock + Sync,
+    P: Write + Send,
 >(
     rt: &R,
     alloc: Global,
@@ -89,25 +84,22 @@ fn fetch_round<
     ends: &[End],
     plan: &Plan,
     desk: &Mutex<Desk<J, D>>,
-    progress: &mut P,
+    progress: &mut Progress<P>,
 ) -> Result<Vec<Cell>, Refusal>
 where
     R::Stream: Send,
     ensures { IfOk result (λ v. length v.items ≡ length plan.now.gives) }
 {
-    tell(progress, plan.len(), "ids are planned");
-    let (mut sources, relays) = sources_of(rt, alloc, settings, ends)?;
-    tell(progress, sources.len(), "connections fetch");
-    let cells = fetched(
-        rt,
-        alloc,
-        plan,
-        sources.as_mut_slice(),
-        relays.as_slice(),
-        desk,
-    )?;
-    let counts = counts_of(cells.as_slice());
-    tell(progress, counts.given, "ids are given");
+    progress.tell(plan.len(), "ids are planned");
+    let seen = Seen::new();
+    let (mut sources, relays) = sources_of(rt, alloc, settings, ends, &seen)?;
+    progress.tell(sources.len(), "connections fetch");
+    let sources = sources.as_mut_slice();
+    let relays = relays.as_slice();
+    let cells = watched(rt, &seen, plan.len(), progress, || {
+        fetched(rt, alloc, plan, sources, relays, desk)
+    })?;
+    progress.tell_counts(&counts_of(cells.as_slice()));
     Ok(cells)
 }
 
@@ -128,9 +120,9 @@ fn say_round<W: Write>(
 fn fetch_rounds<
     J: Naming + Send + Sync,
     D: Wait + Drop + Send + Sync,
-    R: Net + RandomSource + Threads + Wait + Sync,
+    R: Net + RandomSource + Threads + Wait + Clock + Sync,
     W: Write,
-    P: Write,
+    P: Write + Send,
 >(
     rt: &R,
     alloc: Global,
@@ -138,7 +130,7 @@ fn fetch_rounds<
     done: Synced,
     desk: &Mutex<Desk<J, D>>,
     writer: &mut W,
-    progress: &mut P,
+    progress: &mut Progress<P>,
 ) -> Result<Counts, Refusal>
 where
     R::Stream: Send,
@@ -168,9 +160,9 @@ where
 fn run_all<
     J: Naming + Send + Sync,
     D: Wait + Drop + Send + Sync,
-    R: Net + RandomSource + Threads + Wait + Sync,
+    R: Net + RandomSource + Threads + Wait + Clock + Sync,
     W: Write,
-    P: Write,
+    P: Write + Send,
 >(
     rt: &R,
     alloc: Global,
@@ -178,7 +170,7 @@ fn run_all<
     reader: &mut Reader<J>,
     desk: &Mutex<Desk<J, D>>,
     writer: &mut W,
-    progress: &mut P,
+    progress: &mut Progress<P>,
 ) -> Result<(), Refusal>
 where
     R::Stream: Send,
@@ -186,6 +178,7 @@ where
     let done = synced(rt, alloc, settings, reader, progress)?;
     let mut text = String::new(alloc);
     put_ends(alloc, &mut text, done.ends.as_slice())?;
+    progress.say(text.as_str());
     put_plan(alloc, &mut text, &done.plan)?;
     say(writer, text.as_str())?;
     let counts = fetch_rounds(rt, alloc, settings, done, desk, writer, progress)?;
@@ -206,13 +199,129 @@ fn save<J: Naming, R: Files>(
     }
 }
 
+/// Does the job over a store that isn't served, and writes the file. The desk is there until it is written.
+fn run_alone<
+    J: Naming + Send + Sync,
+    D: Wait + Drop + Send + Sync,
+    R: Net + RandomSource + Threads + Wait + Clock + Files + Sync,
+    W: Write,
+    P: Write + Send,
+>(
+    rt: &R,
+    alloc: Global,
+    settings: &Settings,
+    desk: Desk<J, D>,
+    reader: &mut Reader<J>,
+    file: NewFile<R::File>,
+    writer: &mut W,
+    progress: &mut Progress<P>,
+) -> Result<(), Refusal>
+where
+    R::Stream: Send,
+{
+    let desk = Mutex::new(desk);
+    match run_all(rt, alloc, settings, reader, &desk, writer, progress) {
+        Ok(()) => save(rt, alloc, reader, file),
+        Err(refusal) => {
+            let _ = file.discard(rt);
+            Err(refusal)
+        }
+    }
+}
+
+/// Does the job over the store that the hall serves. Where it is refused, the hall takes no further connections.
+fn run_in_hall<
+    J: Naming + Send + Sync,
+    D: Wait + Drop + Send + Sync,
+    R: Net + RandomSource + Threads + Wait + Clock + Sync,
+    W: Write,
+    P: Write + Send,
+>(
+    rt: &R,
+    alloc: Global,
+    settings: &Settings,
+    hall: &Hall<Desk<J, D>>,
+    waiting: usize,
+    reader: &mut Reader<J>,
+    writer: &mut W,
+    progress: &mut Progress<P>,
+) -> Result<(), Refusal>
+where
+    R::Stream: Send,
+{
+    let done = run_all(rt, alloc, settings, reader, hall.desk(), writer, progress);
+    if done.is_err() {
+        hall.close(rt, waiting);
+    }
+    done
+}
+
+/// Listens, does the job and serves connections meanwhile, and writes the file once they have ended: also where the job is
+/// refused, since clients may have put events in. The desk is there until it is written.
+fn run_serving<
+    J: Naming + Send + Sync,
+    D: Wait + Drop + Send + Sync,
+    R: Net<Listener = TcpListener, Stream = TcpStream>
+        + RandomSource
+        + Threads
+        + Wait
+        + Clock
+        + Files
+        + Sync,
+    W: Write,
+    P: Write + Send,
+>(
+    rt: &R,
+    alloc: Global,
+    settings: &Settings,
+    desk: Desk<J, D>,
+    readers: &mut [Reader<J>],
+    reader: &mut Reader<J>,
+    file: NewFile<R::File>,
+    writer: &mut W,
+    progress: &mut Progress<P>,
+) -> Result<(), Refusal> {
+    let hall = match open_hall(rt, alloc, settings, desk, writer) {
+        Ok(hall) => hall,
+        Err(refusal) => {
+            let _ = file.discard(rt);
+            return Err(refusal);
+        }
+    };
+    let waiting = readers.len();
+    let ran = serve_beside(rt, alloc, &hall, readers, || {
+        run_in_hall(
+            rt, alloc, settings, &hall, waiting, reader, writer, progress,
+        )
+    });
+    let saved = save(rt, alloc, reader, file);
+    drop(hall);
+    ran?;
+    saved
+}
+
+/// How many readers the job takes: one of its own, and where it listens one for each connection that is served at once.
+fn readers_of(settings: &Settings) -> usize {
+    match (&settings.listen, settings.conns) {
+        (Some(_), Some(conns)) => readers_for(conns).saturating_add(1),
+        _ => 1,
+    }
+}
+
 /// Does the job in a store of this name.
 fn run_named<
     J: Naming + Send + Sync,
     D: Wait + Drop + Send + Sync,
-    R: Net + RandomSource + Threads + Wait + Files + AllocGlobal + Sync,
+    R: Net<Listener = TcpListener, Stream = TcpStream>
+        + RandomSource
+        + Threads
+        + Wait
+        + Clock
+        + Files
+        + AllocGlobal
+        + Sync,
     W: Write,
-    P: Write,
+    P: Write + Send,
 >(
     rt: &R,
     keep: D,
@@ -220,14 +329,12 @@ fn run_named<
     blank: Blank,
     settings: &Settings,
     writer: &mut W,
-    progress: &mut P,
+    progress: &mut Progress<P>,
 ) -> Result<(), Refusal>
-where
-    R::Stream: Send,
     requires book { blank ≡ J.book }
     requires most { J.most ≡ 1000000 }
 {
-    let (mut desk, mut readers) = open_store::<J, D>(keep, alloc, blank, 1)?;
+    let (mut desk, mut readers) = open_store::<J, D>(keep, alloc, blank, readers_of(settings))?;
     let Some(mut reader) = readers.pop() else {
         return Err(Refusal::Store);
     };
@@ -237,30 +344,54 @@ where
         Ok(file) => file,
         Err(error) => return Err(write_refusal(&error)),
     };
-    let desk = Mutex::new(desk);
-    let ran = run_all(rt, alloc, settings, &mut reader, &desk, writer, progress);
-    let done = match ran {
-        Ok(()) => save(rt, alloc, &mut reader, file),
-        Err(refusal) => {
-            let _ = file.discard(rt);
-            Err(refusal)
-        }
-    };
-    // The desk is there until the file is written.
-    drop(desk);
-    done
+    if settings.listen.is_none() {
+        return run_alone(
+            rt,
+            alloc,
+            settings,
+            desk,
+            &mut reader,
+            file,
+            writer,
+            progress,
+        );
+    }
+    let readers = readers.as_mut_slice();
+    run_serving(
+        rt,
+        alloc,
+        settings,
+        desk,
+        readers,
+        &mut reader,
+        file,
+        writer,
+        progress,
+    )
 }
 
 /// Reads settings, puts the events of the file into a store, has sessions with the relays, prints how they ended and the plan
-/// made of what they found, fetches by it, and writes the file. How far it is goes to `progress`, whatever becomes of it there.
+/// made of what they found, fetches by it, and writes the file. Where the settings say where to listen, it listens before the
+/// sessions, serves connections meanwhile, and goes on to the end of the last. How far it is goes to `progress`, whatever
+/// becomes of it there.
 pub fn run_sync<
-    R: Net + RandomSource + Threads + Wait + Files + AllocGlobal + Sync,
+    R: Net<Listener = TcpListener, Stream = TcpStream>
+        + RandomSource
+        + Threads
+        + Wait
+        + Clock
+        + Files
+        + AllocGlobal
+        + Sync,
     W: Write,
-    P: Write,
->(rt: &R, alloc: Global, text: &str, writer: &mut W, progress: &mut P) -> Result<(), Refusal>
-where
-    R::Stream: Send,
-{
+    P: Write + Send,
+>(
+    rt: &R,
+    alloc: Global,
+    text: &str,
+    writer: &mut W,
+    progress: &mut Progress<P>,
+) -> Result<(), Refusal> {
     let settings = read_settings(alloc, text, true)?;
     run_named::<Brand, &R, R, W, P>(rt, rt, alloc, Blank::new(), &settings, writer, progress)
 }
