@@ -6,7 +6,7 @@ use std::io::{ErrorKind, Write};
 use std::net::{Net, TcpListener, TcpStream};
 use std::process::ExitCode;
 use std::random::RandomSource;
-use std::rt::{Clock, Files};
+use std::rt::Files;
 use std::sync::Wait;
 use std::thread::Threads;
 use std::{fs, io};
@@ -54,12 +54,11 @@ pub fn sync<
         + RandomSource
         + Threads
         + Wait
-        + Clock
         + Files
         + AllocGlobal
         + Sync,
     W: Write,
-    P: Write + Send,
+    P: Write,
 >(
     rt: &R,
     alloc: Global,

@@ -3,7 +3,6 @@
 ghost use Rattle.std.specs.Prelude.{◌≡◌, ◌<◌, ◌^◌, ◌-◌, All, IfOk, length};
 
 use crate::links::source_at;
-use crate::progress::{Counted, Seen};
 use claim_board::{Board, BoardFault, Cell};
 use event_store::{Desk, Naming};
 use fetch_plan::Plan;
@@ -52,25 +51,23 @@ pub fn counts_of(cells: &[Cell]) -> Counts {
     counts
 }
 
-/// Connects to a relay, and keeps a source for the connection, whose answers are counted, with the relay's number beside, if
-/// it can be made.
+/// Connects to a relay, and keeps a source for the connection, with the relay's number beside, if it can be made.
 fn add_source<'a, R: Net + RandomSource>(
     rt: &'a R,
     alloc: Global,
     address: &Address,
     relay: u16,
-    seen: &'a Seen,
-    sources: &mut Vec<Counted<'a, WsSource<R::Stream, RandomKeys<&'a R>>>>,
+    sources: &mut Vec<WsSource<R::Stream, RandomKeys<&'a R>>>,
     relays: &mut Vec<u16>,
 ) -> Result<(), Refusal>
-    requires { All (λ s. s.source.faults < 2 ^ 64 - 1) sources.old.items }
-    ensures { IfOk result (λ _. All (λ s. s.source.faults < 2 ^ 64 - 1) sources.new.items) }
+    requires { All (λ s. s.faults < 2 ^ 64 - 1) sources.old.items }
+    ensures { IfOk result (λ _. All (λ s. s.faults < 2 ^ 64 - 1) sources.new.items) }
 {
     let found = source_at(rt, alloc, address)?;
     match found {
         Some(source) => {
             relays.push(relay)?;
-            sources.push(Counted { source, seen })?;
+            sources.push(source)?;
             Ok(())
         }
         None => Ok(()),
@@ -84,15 +81,14 @@ fn add_sources<'a, R: Net + RandomSource>(
     address: &Address,
     relay: u16,
     workers: u64,
-    seen: &'a Seen,
-    sources: &mut Vec<Counted<'a, WsSource<R::Stream, RandomKeys<&'a R>>>>,
+    sources: &mut Vec<WsSource<R::Stream, RandomKeys<&'a R>>>,
     relays: &mut Vec<u16>,
 ) -> Result<(), Refusal>
-    requires { All (λ s. s.source.faults < 2 ^ 64 - 1) sources.old.items }
-    ensures { IfOk result (λ _. All (λ s. s.source.faults < 2 ^ 64 - 1) sources.new.items) }
+    requires { All (λ s. s.faults < 2 ^ 64 - 1) sources.old.items }
+    ensures { IfOk result (λ _. All (λ s. s.faults < 2 ^ 64 - 1) sources.new.items) }
 {
     for _worker in 0..workers {
-        add_source(rt, alloc, address, relay, seen, sources, relays)?;
+        add_source(rt, alloc, address, relay, sources, relays)?;
     }
     Ok(())
 }
@@ -104,12 +100,11 @@ fn add_relay<'a, R: Net + RandomSource>(
     settings: &Settings,
     relay: usize,
     end: &End,
-    seen: &'a Seen,
-    sources: &mut Vec<Counted<'a, WsSource<R::Stream, RandomKeys<&'a R>>>>,
+    sources: &mut Vec<WsSource<R::Stream, RandomKeys<&'a R>>>,
     relays: &mut Vec<u16>,
 ) -> Result<(), Refusal>
-    requires { All (λ s. s.source.faults < 2 ^ 64 - 1) sources.old.items }
-    ensures { IfOk result (λ _. All (λ s. s.source.faults < 2 ^ 64 - 1) sources.new.items) }
+    requires { All (λ s. s.faults < 2 ^ 64 - 1) sources.old.items }
+    ensures { IfOk result (λ _. All (λ s. s.faults < 2 ^ 64 - 1) sources.new.items) }
 {
     if relay > 255 || !matches!(end, End::Finished(_)) {
         return Ok(());
@@ -123,7 +118,6 @@ fn add_relay<'a, R: Net + RandomSource>(
                 address,
                 number,
                 settings.workers,
-                seen,
                 sources,
                 relays,
             )
@@ -132,21 +126,14 @@ fn add_relay<'a, R: Net + RandomSource>(
     }
 }
 
-/// Sources at the relays whose sessions finished, whose answers are counted, and the relay of each.
+/// Sources at the relays whose sessions finished, and the relay of each.
 pub fn sources_of<'a, R: Net + RandomSource>(
     rt: &'a R,
     alloc: Global,
     settings: &Settings,
     ends: &[End],
-    seen: &'a Seen,
-) -> Result<
-    (
-        Vec<Counted<'a, WsSource<R::Stream, RandomKeys<&'a R>>>>,
-        Vec<u16>,
-    ),
-    Refusal,
->
-    ensures { IfOk result (λ r. All (λ s. s.source.faults < 2 ^ 64 - 1) r.0.items) }
+) -> Result<(Vec<WsSource<R::Stream, RandomKeys<&'a R>>>, Vec<u16>), Refusal>
+    ensures { IfOk result (λ r. All (λ s. s.faults < 2 ^ 64 - 1) r.0.items) }
 {
     let mut sources = Vec::new(alloc);
     let mut relays = Vec::new(alloc);
@@ -157,7 +144,6 @@ pub fn sources_of<'a, R: Net + RandomSource>(
             settings,
             relay,
             &ends[relay],
-            seen,
             &mut sources,
             &mut relays,
         )?;

@@ -4,7 +4,7 @@ ghost use Rattle.std.specs.Prelude.{◌≡◌, length, IfOk};
 
 use crate::fetching::{Counts, counts_of, fetched, grow, sources_of};
 use crate::links::{finish_all, linked_all};
-use crate::progress::{Progress, Seen, watched};
+use crate::progress::Progress;
 use crate::text::{counts_text, put_ends, put_plan, put_round};
 use claim_board::Cell;
 use event_file::NewFile;
@@ -21,7 +21,7 @@ use std::io::Write;
 use std::marker::Brand;
 use std::net::{Net, TcpListener, TcpStream};
 use std::random::RandomSource;
-use std::rt::{Clock, Files};
+use std::rt::Files;
 use std::sync::{Mutex, Wait};
 use std::thread::Threads;
 
@@ -75,8 +75,8 @@ where
 fn fetch_round<
     J: Naming + Send + Sync,
     D: Wait + Drop + Send + Sync,
-    R: Net + RandomSource + Threads + Wait + Clock + Sync,
-    P: Write + Send,
+    R: Net + RandomSource + Threads + Wait + Sync,
+    P: Write,
 >(
     rt: &R,
     alloc: Global,
@@ -91,14 +91,16 @@ where
     ensures { IfOk result (λ v. length v.items ≡ length plan.now.gives) }
 {
     progress.tell(plan.len(), "ids are planned");
-    let seen = Seen::new();
-    let (mut sources, relays) = sources_of(rt, alloc, settings, ends, &seen)?;
+    let (mut sources, relays) = sources_of(rt, alloc, settings, ends)?;
     progress.tell(sources.len(), "connections fetch");
-    let sources = sources.as_mut_slice();
-    let relays = relays.as_slice();
-    let cells = watched(rt, &seen, plan.len(), progress, || {
-        fetched(rt, alloc, plan, sources, relays, desk)
-    })?;
+    let cells = fetched(
+        rt,
+        alloc,
+        plan,
+        sources.as_mut_slice(),
+        relays.as_slice(),
+        desk,
+    )?;
     progress.tell_counts(&counts_of(cells.as_slice()));
     Ok(cells)
 }
@@ -120,9 +122,9 @@ fn say_round<W: Write>(
 fn fetch_rounds<
     J: Naming + Send + Sync,
     D: Wait + Drop + Send + Sync,
-    R: Net + RandomSource + Threads + Wait + Clock + Sync,
+    R: Net + RandomSource + Threads + Wait + Sync,
     W: Write,
-    P: Write + Send,
+    P: Write,
 >(
     rt: &R,
     alloc: Global,
@@ -160,9 +162,9 @@ where
 fn run_all<
     J: Naming + Send + Sync,
     D: Wait + Drop + Send + Sync,
-    R: Net + RandomSource + Threads + Wait + Clock + Sync,
+    R: Net + RandomSource + Threads + Wait + Sync,
     W: Write,
-    P: Write + Send,
+    P: Write,
 >(
     rt: &R,
     alloc: Global,
@@ -203,9 +205,9 @@ fn save<J: Naming, R: Files>(
 fn run_alone<
     J: Naming + Send + Sync,
     D: Wait + Drop + Send + Sync,
-    R: Net + RandomSource + Threads + Wait + Clock + Files + Sync,
+    R: Net + RandomSource + Threads + Wait + Files + Sync,
     W: Write,
-    P: Write + Send,
+    P: Write,
 >(
     rt: &R,
     alloc: Global,
@@ -233,9 +235,9 @@ where
 fn run_in_hall<
     J: Naming + Send + Sync,
     D: Wait + Drop + Send + Sync,
-    R: Net + RandomSource + Threads + Wait + Clock + Sync,
+    R: Net + RandomSource + Threads + Wait + Sync,
     W: Write,
-    P: Write + Send,
+    P: Write,
 >(
     rt: &R,
     alloc: Global,
@@ -265,11 +267,10 @@ fn run_serving<
         + RandomSource
         + Threads
         + Wait
-        + Clock
         + Files
         + Sync,
     W: Write,
-    P: Write + Send,
+    P: Write,
 >(
     rt: &R,
     alloc: Global,
@@ -316,12 +317,11 @@ fn run_named<
         + RandomSource
         + Threads
         + Wait
-        + Clock
         + Files
         + AllocGlobal
         + Sync,
     W: Write,
-    P: Write + Send,
+    P: Write,
 >(
     rt: &R,
     keep: D,
@@ -379,12 +379,11 @@ pub fn run_sync<
         + RandomSource
         + Threads
         + Wait
-        + Clock
         + Files
         + AllocGlobal
         + Sync,
     W: Write,
-    P: Write + Send,
+    P: Write,
 >(
     rt: &R,
     alloc: Global,
