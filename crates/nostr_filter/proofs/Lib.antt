@@ -1,6 +1,8 @@
 pub mod Items
 pub mod Laws
+pub mod Membership
 pub mod Orders
+pub mod Places
 pub mod Ranks
 pub mod ReadsBack
 pub mod ShapeTests

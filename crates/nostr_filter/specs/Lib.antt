@@ -1,3 +1,4 @@
+pub mod Members
 pub mod Tags
 pub mod Matching
 pub mod Choice

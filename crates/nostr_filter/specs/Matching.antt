@@ -4,14 +4,11 @@ use Rattle.std.specs.List.{list_any, list_all}
 use Rattle.nostr_event.specs.EventView.{EventView}
 use Rattle.nostr_filter.specs.declared.conditions.TagCondition.{TagCondition}
 use Rattle.nostr_filter.specs.declared.filter.Filter.{Filter}
+pub use Rattle.nostr_filter.specs.Members.{has_text}
 
 -- a condition that may be absent
 abbrev pub met : {X : Type 0} → (X → Bool) → Option X → Bool
 met test condition = unwrap_or (option_map test condition) true
-
--- one of the texts is this one
-abbrev pub has_text : List (List ℕ) → List ℕ → Bool
-has_text texts text = list_any (λ t. bytes_eq t text) texts
 
 -- the tag has the condition's letter for its name, and the first value after it is one of the condition's
 abbrev pub tag_meets : TagCondition → List (List ℕ) → Bool

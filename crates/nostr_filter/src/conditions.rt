@@ -1,29 +1,59 @@
 // The lists of a filter's conditions, which contracts see as lists.
-ghost use Rattle.std.specs.Prelude.{◌≡◌, List, ℕ, true, IfOk, IfErr, IsTrue, ◌↔◌};
+ghost use Rattle.std.specs.Prelude.{◌≡◌, ◌==◌, List, ℕ, true, IfOk, IfErr, IsTrue, ◌↔◌};
+ghost use Rattle.std.specs.List.{list_any};
+ghost use Rattle.nostr_filter.specs.Members.{has_text};
 
 use crate::letters::is_in_order;
+use crate::members::{is_listed, order_of, set_of};
 use nostr_event::Text;
+use std::alloc::{AllocError, Global};
+use std::collections::BTreeSet;
 use std::marker::Model;
 
 /// 32-byte values, as event ids or public keys, seen as the list of their bytes.
 #[derive(Debug, Drop)]
 pub struct Bytes32List {
     values: Vec<[u8; 32]>,
+    // The values once more, if they are many.
+    set: Option<BTreeSet<[u8; 32]>>,
 }
 
 impl Model for Bytes32List {
-    ghost use Rattle.std.specs.Prelude.{List, ℕ};
+    ghost use Rattle.std.specs.Prelude.{List, ℕ, IfSome};
+    ghost use Rattle.std.specs.Cmp.Lexicographic.{slice_cmp};
+    ghost use Rattle.std.specs.Ordering.{nat_cmp};
+    ghost use Rattle.std.specs.BTreeSet.{IsFromIterResult};
 
     ghost Value = { List (List ℕ) };
 
     ghost view = { λ l. l.values.items };
+
+    ghost invariant = { λ l. IfSome l.set (IsFromIterResult (slice_cmp nat_cmp) l.values.items) };
 }
 
 impl Bytes32List {
     pub fn new(values: Vec<[u8; 32]>) -> Bytes32List
         ensures { result ≡ values.items }
     {
-        Bytes32List { values }
+        Bytes32List { values, set: None }
+    }
+
+    /// The same list, prepared so that `has` needs no pass over it: n log n in the number of values.
+    pub fn searchable(alloc: Global, values: Vec<[u8; 32]>) -> Result<Bytes32List, AllocError>
+        ensures { IfOk result (λ l. l ≡ values.items) }
+    {
+        let set = set_of(alloc, values.as_slice())?;
+        Ok(Bytes32List { values, set })
+    }
+
+    /// Whether the value is listed.
+    pub fn has(&self, value: &[u8; 32]) -> bool
+        ensures { result ≡ has_text self.now value.now }
+    {
+        match &self.set {
+            Some(set) => set.contains(value),
+            None => self.values.iter().any(|listed| listed == value),
+        }
     }
 
     pub fn as_slice(&self) -> &[[u8; 32]]
@@ -44,21 +74,45 @@ impl Bytes32List {
 #[derive(Debug, Drop)]
 pub struct Kinds {
     kinds: Vec<u16>,
+    // The kinds once more, if they are many.
+    set: Option<BTreeSet<u16>>,
 }
 
 impl Model for Kinds {
-    ghost use Rattle.std.specs.Prelude.{List, ℕ};
+    ghost use Rattle.std.specs.Prelude.{List, ℕ, IfSome};
+    ghost use Rattle.std.specs.Ordering.{nat_cmp};
+    ghost use Rattle.std.specs.BTreeSet.{IsFromIterResult};
 
     ghost Value = { List ℕ };
 
     ghost view = { λ l. l.kinds.items };
+
+    ghost invariant = { λ l. IfSome l.set (IsFromIterResult nat_cmp l.kinds.items) };
 }
 
 impl Kinds {
     pub fn new(kinds: Vec<u16>) -> Kinds
         ensures { result ≡ kinds.items }
     {
-        Kinds { kinds }
+        Kinds { kinds, set: None }
+    }
+
+    /// The same list, prepared so that `has` needs no pass over it: n log n in the number of kinds.
+    pub fn searchable(alloc: Global, kinds: Vec<u16>) -> Result<Kinds, AllocError>
+        ensures { IfOk result (λ l. l ≡ kinds.items) }
+    {
+        let set = set_of(alloc, kinds.as_slice())?;
+        Ok(Kinds { kinds, set })
+    }
+
+    /// Whether the kind is listed.
+    pub fn has(&self, kind: u16) -> bool
+        ensures { result ≡ list_any (λ k. k == kind) self.now }
+    {
+        match &self.set {
+            Some(set) => set.contains(&kind),
+            None => self.kinds.contains(&kind),
+        }
     }
 
     pub fn as_slice(&self) -> &[u16]
@@ -79,21 +133,44 @@ impl Kinds {
 #[derive(Debug, Drop)]
 pub struct Texts {
     texts: Vec<Text>,
+    // The places in the order of the texts, if they are many.
+    order: Option<Vec<usize>>,
 }
 
 impl Model for Texts {
-    ghost use Rattle.std.specs.Prelude.{List, ℕ};
+    ghost use Rattle.std.specs.Prelude.{List, ℕ, IfSome};
+    ghost use Rattle.nostr_filter.specs.Members.{AreInOrder};
 
     ghost Value = { List (List ℕ) };
 
     ghost view = { λ l. l.texts.items };
+
+    ghost invariant = { λ l. IfSome l.order (λ p. AreInOrder l.texts.items p.items) };
 }
 
 impl Texts {
     pub fn new(texts: Vec<Text>) -> Texts
         ensures { result ≡ texts.items }
     {
-        Texts { texts }
+        Texts { texts, order: None }
+    }
+
+    /// The same list, prepared so that `has` needs no pass over it: n log n in the number of texts.
+    pub fn searchable(alloc: Global, texts: Vec<Text>) -> Result<Texts, AllocError>
+        ensures { IfOk result (λ l. l ≡ texts.items) }
+    {
+        let order = order_of(alloc, texts.as_slice())?;
+        Ok(Texts { texts, order })
+    }
+
+    /// Whether the text is listed.
+    pub fn has(&self, text: &str) -> bool
+        ensures { result ≡ has_text self.now text.now }
+    {
+        match &self.order {
+            Some(order) => is_listed(self.texts.as_slice(), order.as_slice(), text),
+            None => self.texts.iter().any(|listed| listed.as_str() == text),
+        }
     }
 
     pub fn as_slice(&self) -> &[Text]

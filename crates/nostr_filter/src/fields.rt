@@ -25,7 +25,7 @@ fn texts_in(alloc: Global, values: &[Value], at: FilterField) -> Result<Texts, F
         };
         texts.push(Text::new(String::from_str(alloc, text)?))?;
     }
-    Ok(Texts::new(texts))
+    Ok(Texts::searchable(alloc, texts)?)
 }
 
 // The kinds of an array of numbers.
@@ -40,7 +40,7 @@ fn kinds_in(alloc: Global, values: &[Value]) -> Result<Kinds, FilterFault>
         };
         kinds.push(kind)?;
     }
-    Ok(Kinds::new(kinds))
+    Ok(Kinds::searchable(alloc, kinds)?)
 }
 
 fn kind_at(value: &Value) -> Option<u16>
@@ -143,7 +143,7 @@ fn bytes_in(alloc: Global, texts: &[Text], at: FilterField) -> Result<Bytes32Lis
         };
         values.push(bytes)?;
     }
-    Ok(Bytes32List::new(values))
+    Ok(Bytes32List::searchable(alloc, values)?)
 }
 
 // The bytes that the field's texts spell.

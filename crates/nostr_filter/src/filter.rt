@@ -1,9 +1,9 @@
 // Filters, and what they match.
-ghost use Rattle.std.specs.Prelude.{◌≡◌, [], ℕ, IsTrue, length};
-ghost use Rattle.nostr_filter.specs.Matching.{has_text, tag_meets, tags_meet, within_of, matches_of};
+ghost use Rattle.std.specs.Prelude.{◌≡◌, [], ℕ};
+ghost use Rattle.nostr_filter.specs.Matching.{tag_meets, tags_meet, within_of, matches_of};
 ghost use Rattle.std.specs.List.{list_any, list_all};
 
-use crate::conditions::{Bytes32List, Kinds, TagCondition, TagConditions, Texts};
+use crate::conditions::{Bytes32List, Kinds, TagCondition, TagConditions};
 use nostr_event::{Event, Tag};
 
 /// What an event has to meet (NIP-01). An absent condition is met by each event, an empty list by none.
@@ -45,15 +45,15 @@ impl Filter {
         let draft = event.draft();
         let id = event.id();
         let named = match &self.ids {
-            Some(ids) => has_bytes(ids, &id.0),
+            Some(ids) => ids.has(&id.0),
             None => true,
         };
         let by_author = match &self.authors {
-            Some(authors) => has_bytes(authors, &draft.pubkey),
+            Some(authors) => authors.has(&draft.pubkey),
             None => true,
         };
         let of_kind = match &self.kinds {
-            Some(kinds) => kinds.as_slice().contains(&draft.kind),
+            Some(kinds) => kinds.has(draft.kind),
             None => true,
         };
         named
@@ -78,26 +78,13 @@ impl Filter {
     }
 }
 
-fn has_bytes(list: &Bytes32List, bytes: &[u8; 32]) -> bool
-    ensures { result ≡ has_text list.now bytes.now }
-{
-    list.as_slice().iter().any(|value| value == bytes)
-}
-
-// Whether one of the texts is this one.
-fn has_value(texts: &Texts, text: &str) -> bool
-    ensures { result ≡ has_text texts.now text.now }
-{
-    texts.as_slice().iter().any(|value| value.as_str() == text)
-}
-
 // Whether the tag has the condition's name, and its first value is one of the condition's.
 fn tag_met(condition: &TagCondition, tag: &Tag) -> bool
     ensures { result ≡ tag_meets condition.now tag.now }
 {
     match tag.texts() {
         [name, value, ..] => name.as_str().as_bytes() == [condition.letter].as_slice()
-            && has_value(&condition.values, value.as_str()),
+            && condition.values.has(value.as_str()),
         _ => false,
     }
 }

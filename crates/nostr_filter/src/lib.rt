@@ -7,6 +7,7 @@ mod fault;
 mod fields;
 mod filter;
 mod letters;
+mod members;
 mod reading;
 mod writing;
 

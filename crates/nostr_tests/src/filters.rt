@@ -268,6 +268,71 @@ fn texts_as_python_writes_them(rt: HostRuntime) -> Result<(), Fail> {
     Ok(())
 }
 
+// A field, the first event's value of it, and how other values begin and end.
+static LISTS: [(&str, &str, &str, &str); 4] = [
+    (
+        "ids",
+        "\"c834e78ee1a16342ad8786756ffb00d078df09ccbc0c6d17605aafc6897bc7de\"",
+        "\"00000000000000000000000000000000000000000000000000000000000000",
+        "\"",
+    ),
+    (
+        "authors",
+        "\"2bd806c97f0e00af1a1fc3328fa763a9269723c8db8fac4f93af71db186d6e90\"",
+        "\"ffffffffffffffffffffffffffffffffffffffffffffffffffffffffffffff",
+        "\"",
+    ),
+    ("kinds", "1", "1", ""),
+    ("#t", "\"y\"", "\"y", "\""),
+];
+
+// A filter's text: a list of so many values, with the event's at the places.
+fn list_text(
+    alloc: Global,
+    list: &(&str, &str, &str, &str),
+    count: usize,
+    places: &[usize],
+) -> Result<String, Fail> {
+    let mut text = format!(in alloc; "{{\"{}\":[", list.0)?;
+    for i in 0..count {
+        let comma = if i == 0 { "" } else { "," };
+        let value = if places.contains(&i) {
+            String::from_str(alloc, list.1)?
+        } else {
+            format!(in alloc; "{}{}{}", list.2, i.saturating_add(10), list.3)?
+        };
+        text.push_str(comma)?;
+        text.push_str(value.as_str())?;
+    }
+    text.push_str("]}")?;
+    Ok(text)
+}
+
+// Whether the filter of the text matches the event or not, as is wanted, and is written as the text again.
+fn answers(alloc: Global, text: &str, event: &Event, wanted: bool) -> Result<bool, Fail> {
+    let filter = filter(alloc, text)?;
+    let again = written(alloc, &filter)?;
+    Ok(filter.matches(event) == wanted && again.as_str() == text)
+}
+
+#[test]
+fn short_and_long_lists(rt: HostRuntime) -> Result<(), Fail> {
+    let alloc = rt.alloc();
+    let event = event(alloc, EVENTS[0])?;
+    for list in &LISTS {
+        for count in [3_usize, 15, 16, 20] {
+            let last = count.saturating_sub(1);
+            for places in [[0, 0], [last, last], [1, 2], [count, count]] {
+                let text = list_text(alloc, list, count, places.as_slice())?;
+                let wanted = places[0] < count;
+                let right = answers(alloc, text.as_str(), &event, wanted)?;
+                assert!(rt; right, "{text}");
+            }
+        }
+    }
+    Ok(())
+}
+
 fn condition(alloc: Global, letter: u8) -> Result<TagCondition, Fail> {
     let mut texts = Vec::new(alloc);
     texts.push(Text::new(String::from_str(alloc, "v")?))?;

@@ -14,4 +14,4 @@ pub returns-clause-ok : goal.returns-clause-ok
 returns-clause-ok c =
     let whole = take_all c.loop-value.value-index c.args.values.now (omega arith) in
     let all : map (λ v. kind_of (view v)) c.args.values.now ≡ map Some c.loop-value.kinds.items = ap (map (λ v. kind_of (view v))) (sym whole) ∙ c.loop-value.invariant in
-    each_some kind_of c.args.values.now c.loop-value.kinds.items all ∙ ap Some (sym c.new.ensures)
+    each_some kind_of c.args.values.now c.loop-value.kinds.items all ∙ ap Some (sym c.in_ok-searchable.ensures)

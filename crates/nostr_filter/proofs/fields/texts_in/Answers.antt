@@ -14,4 +14,4 @@ pub returns-clause-ok : goal.returns-clause-ok
 returns-clause-ok c =
     let whole = take_all c.loop-value.value-index c.args.values.now (omega arith) in
     let all : map (λ v. as_str (view v)) c.args.values.now ≡ map Some c.loop-value.texts.items = ap (map (λ v. as_str (view v))) (sym whole) ∙ c.loop-value.invariant in
-    each_some as_str c.args.values.now c.loop-value.texts.items all ∙ ap Some (sym c.new-2.ensures)
+    each_some as_str c.args.values.now c.loop-value.texts.items all ∙ ap Some (sym c.in_ok-searchable.ensures)
