@@ -10,6 +10,7 @@ mod fault;
 mod fields;
 mod hexes;
 mod ids;
+mod printing;
 mod reading;
 mod texts;
 mod writing;

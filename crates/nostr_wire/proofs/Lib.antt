@@ -2,3 +2,4 @@ pub mod Arrays
 pub mod Laws
 pub mod Plain
 pub mod Several
+pub mod Texts

@@ -1,6 +1,7 @@
 -- The messages, each by its name and what stands behind it (NIP-01, NIP-77).
 use Rattle.std.specs.Prelude.{ℕ, List, [], ◌∷◌, map, drop, codes}
 use Rattle.serde_json.specs.Data.{Data}
+use Rattle.nostr_event.specs.EventView.{EventView}
 use Rattle.nostr_wire.specs.declared.messages.FromClient.{FromClient}
 use Rattle.nostr_wire.specs.declared.messages.FromClient.TheVariants as client
 use Rattle.nostr_wire.specs.declared.messages.FromRelay.{FromRelay}
@@ -20,8 +21,12 @@ client_form (client.NegOpen s f m) = record { name = codes "NEG-OPEN"; said = su
 client_form (client.NegMsg s m) = record { name = codes "NEG-MSG"; said = sub s ∷ hex m ∷ [] }
 client_form (client.NegClose s) = record { name = codes "NEG-CLOSE"; said = sub s ∷ [] }
 
+-- an event for the subscription of that name
+abbrev pub event_form : List ℕ → EventView → Form
+event_form s e = record { name = codes "EVENT"; said = sub s ∷ event e ∷ [] }
+
 abbrev pub relay_form : FromRelay → Form
-relay_form (relay.Event s e) = record { name = codes "EVENT"; said = sub s ∷ event e.value ∷ [] }
+relay_form (relay.Event s e) = event_form s e.value
 relay_form (relay.Okay i taken t) = record { name = codes "OK"; said = id i ∷ flag taken ∷ text t ∷ [] }
 relay_form (relay.Eose s) = record { name = codes "EOSE"; said = sub s ∷ [] }
 relay_form (relay.Closed s t) = record { name = codes "CLOSED"; said = sub s ∷ text t ∷ [] }

@@ -1,17 +1,24 @@
 // Messages written as texts.
 ghost use Rattle.std.specs.Prelude.{◌≡◌, ◌≢◌, ◌∷◌, ◌++◌, [], map, IfOk, OnOk, string_bytes};
+ghost use Rattle.std.specs.Arc.{arc_value};
 ghost use Rattle.serde_json.specs.View.{view};
 ghost use Rattle.nostr_wire.specs.Elements.{data_of, sub, filter};
-ghost use Rattle.nostr_wire.specs.Forms.{client_form, relay_form, client_table, relay_table};
+ghost use Rattle.nostr_wire.specs.Forms.{client_form, event_form, relay_form, client_table, relay_table};
 ghost use Rattle.nostr_wire.specs.Reading.{SayEach, IsMessage, Reads};
 ghost use Rattle.nostr_wire.specs.Writing.{array_of, text_of};
 
 use crate::elements::Element;
 use crate::lists::{Filters, Sub};
 use crate::messages::{FromClient, FromRelay};
+use json::Writer;
+use nostr_event::Event;
 use nostr_filter::Filter;
 use serde_json::{Value, json};
 use std::alloc::{AllocError, Global};
+use std::sync::Arc;
+
+// As many bytes as the text of most events has.
+const MOST_EVENTS: usize = 1_024;
 
 // The array of a name and one element.
 fn one<A: Element>(alloc: Global, name: &str, first: &A) -> Result<Value, AllocError>
@@ -123,12 +130,40 @@ pub fn write_client(alloc: Global, message: &FromClient) -> Result<String, Alloc
     Ok(text)
 }
 
-/// The text of what a relay says: compact JSON, which is read as the same.
-pub fn write_relay(alloc: Global, message: &FromRelay) -> Result<String, AllocError>
+// The text of an event for a subscription, written token by token.
+fn event_text(alloc: Global, name: &Sub, event: &Arc<Event>) -> Result<String, AllocError>
+    ensures text { IfOk result (λ s. string_bytes s ≡ text_of (event_form name.now (arc_value event.now))) }
+    ensures reads_back { IfOk result (λ s. Reads relay_table (string_bytes s) (event_form name.now (arc_value event.now))) }
+{
+    let mut out = Writer::new(Vec::with_capacity(alloc, MOST_EVENTS)?);
+    out.begin_array()?;
+    out.string("EVENT")?;
+    out.string(name.as_str())?;
+    event.put_json(alloc, &mut out)?;
+    out.end_array()?;
+    match String::from_utf8(out.into_inner()) {
+        Ok(text) => Ok(text),
+        Err(_) => unreachable!(),
+    }
+}
+
+// The text of another message.
+fn value_text(alloc: Global, message: &FromRelay) -> Result<String, AllocError>
     ensures text { IfOk result (λ s. string_bytes s ≡ text_of (relay_form message.now)) }
     ensures reads_back { IfOk result (λ s. Reads relay_table (string_bytes s) (relay_form message.now)) }
 {
     let value = relay_value(alloc, message)?;
     let text = value.to_string(alloc)?;
     Ok(text)
+}
+
+/// The text of what a relay says: compact JSON, which is read as the same.
+pub fn write_relay(alloc: Global, message: &FromRelay) -> Result<String, AllocError>
+    ensures text { IfOk result (λ s. string_bytes s ≡ text_of (relay_form message.now)) }
+    ensures reads_back { IfOk result (λ s. Reads relay_table (string_bytes s) (relay_form message.now)) }
+{
+    match message {
+        FromRelay::Event { sub, event } => event_text(alloc, sub, event),
+        other => value_text(alloc, other),
+    }
 }

@@ -4,7 +4,7 @@ use Rattle.serde_json.specs.Written.{compact_text}
 use Rattle.nostr_wire.specs.Forms.{relay_form}
 use Rattle.nostr_wire.specs.Writing.{array_of}
 use Rattle.nostr_wire.proofs.Plain.{array_of-plain}
-use Rattle.nostr_wire.proofs.writing.write_relay.Goals as goal
+use Rattle.nostr_wire.proofs.writing.value_text.Goals as goal
 
 pub returns-clause-text : goal.returns-clause-text
 returns-clause-text c =

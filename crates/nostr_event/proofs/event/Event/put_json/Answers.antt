@@ -1,0 +1,26 @@
+use Rattle.std.proofs.Common.{append_assoc}
+use Rattle.nostr_event.proofs.event.Event.put_json.Goals as goal
+
+pub returns-clause-tokens : goal.returns-clause-tokens
+returns-clause-tokens c =
+    rw (
+      c.in_ok-end_object.ensures.ok,
+      c.in_ok-put_tags.ensures.tokens,
+      c.in_ok-key.ensures.ok,
+      c.in_ok-put_hex-3.ensures.tokens,
+      c.in_ok-put_hex-2.ensures.tokens,
+      c.in_ok-put_number-2.ensures.tokens,
+      c.in_ok-put_hex.ensures.tokens,
+      c.in_ok-put_number.ensures.tokens,
+      c.in_ok-put_string.ensures.tokens,
+      c.in_ok-begin_object.ensures.ok,
+      c.as_slice-4.ensures,
+      c.as_slice-3.ensures,
+      c.sig.ensures,
+      c.as_slice-2.ensures,
+      c.from.ensures,
+      c.as_slice.ensures,
+      c.id-id.ensures.value,
+      c.as_str.ensures,
+      c.draft-draft.ensures,
+    ) (simp append_assoc)

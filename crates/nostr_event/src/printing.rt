@@ -1,0 +1,116 @@
+// An event written token by token.
+ghost use Rattle.std.specs.Prelude.{◌≡◌, ◌<◌, ◌^◌, ◌∷◌, ◌++◌, [], map, flat_map, decimal, OnOk, IfOk, string_bytes};
+ghost use Rattle.json.specs.Token.{string, number, key as key_token, begin_array, end_array};
+ghost use Rattle.json.specs.Tree.{json_tokens};
+ghost use Rattle.hex.specs.Hex.{encode_lower};
+ghost use Rattle.serde_json.specs.Data.{array};
+ghost use Rattle.serde_json.specs.Written.{outline, compact_text};
+ghost use Rattle.nostr_event.specs.EventJson.{Reads, object_of, tag_items, tags_items};
+
+use crate::event::Event;
+use crate::texts::{Tag, Text};
+use json::Writer;
+use std::alloc::{AllocError, Global};
+
+/// As many bytes as most events have.
+const MOST_EVENTS: usize = 1_024;
+
+fn put_texts(out: &mut Writer, texts: &[Text]) -> Result<(), AllocError>
+    ensures tokens { OnOk result (out.new.tokens ≡ out.old.tokens ++ map string texts.now) }
+    ensures before { out.new.before ≡ out.old.before }
+{
+    for text in texts {
+        out.string(text.as_str())?;
+    }
+    Ok(())
+}
+
+fn put_tag(out: &mut Writer, tag: &Tag) -> Result<(), AllocError>
+    ensures tokens { OnOk result (out.new.tokens ≡ out.old.tokens ++ json_tokens (outline (array (tag_items tag.now)))) }
+    ensures before { out.new.before ≡ out.old.before }
+{
+    out.begin_array()?;
+    put_texts(out, tag.texts())?;
+    out.end_array()
+}
+
+fn put_each_tag(out: &mut Writer, tags: &[Tag]) -> Result<(), AllocError>
+    ensures tokens { OnOk result (out.new.tokens ≡ out.old.tokens ++ flat_map (λ t. json_tokens (outline (array (tag_items t)))) tags.now) }
+    ensures before { out.new.before ≡ out.old.before }
+{
+    for tag in tags {
+        put_tag(out, tag)?;
+    }
+    Ok(())
+}
+
+fn put_tags(out: &mut Writer, tags: &[Tag]) -> Result<(), AllocError>
+    ensures tokens { OnOk result (out.new.tokens ≡ out.old.tokens ++ json_tokens (outline (array (tags_items tags.now)))) }
+    ensures before { out.new.before ≡ out.old.before }
+{
+    out.begin_array()?;
+    put_each_tag(out, tags)?;
+    out.end_array()
+}
+
+// A member that is a string.
+fn put_string(out: &mut Writer, name: &str, text: &str) -> Result<(), AllocError>
+    ensures tokens { OnOk result (out.new.tokens ≡ out.old.tokens ++ key_token name.now ∷ string text.now ∷ []) }
+    ensures before { out.new.before ≡ out.old.before }
+{
+    out.key(name)?;
+    out.string(text)
+}
+
+// A member that is a number.
+fn put_number(out: &mut Writer, name: &str, value: u64) -> Result<(), AllocError>
+    ensures tokens { OnOk result (out.new.tokens ≡ out.old.tokens ++ key_token name.now ∷ number (decimal value) ∷ []) }
+    ensures before { out.new.before ≡ out.old.before }
+{
+    out.key(name)?;
+    out.u64(value)
+}
+
+// A member that is a text of hexadecimal digits.
+fn put_hex(out: &mut Writer, alloc: Global, name: &str, bytes: &[u8]) -> Result<(), AllocError>
+    ensures tokens { OnOk result (out.new.tokens ≡ out.old.tokens ++ key_token name.now ∷ string (encode_lower bytes.now) ∷ []) }
+    ensures before { out.new.before ≡ out.old.before }
+{
+    let digits = hex::encode(alloc, bytes)?;
+    put_string(out, name, digits.as_str())
+}
+
+impl Event {
+    /// Puts the tokens of the event's JSON object (NIP-01) behind the others.
+    pub fn put_json(&self, alloc: Global, out: &mut Writer) -> Result<(), AllocError>
+        ensures tokens { OnOk result (out.new.tokens ≡ out.old.tokens ++ json_tokens (outline (object_of self.now))) }
+        ensures before { out.new.before ≡ out.old.before }
+        ensures reads_back { OnOk result (Reads (object_of self.now) self.now) }
+    {
+        let id = self.id();
+        let draft = self.draft();
+        out.begin_object()?;
+        put_string(out, "content", draft.content.as_str())?;
+        put_number(out, "created_at", draft.created_at)?;
+        put_hex(out, alloc, "id", id.0.as_slice())?;
+        put_number(out, "kind", u64::from(draft.kind))?;
+        put_hex(out, alloc, "pubkey", draft.pubkey.as_slice())?;
+        put_hex(out, alloc, "sig", self.sig().as_slice())?;
+        out.key("tags")?;
+        put_tags(out, draft.tags.as_slice())?;
+        out.end_object()?;
+        Ok(())
+    }
+
+    /// The text of the event's JSON object, with no space.
+    pub fn to_text(&self, alloc: Global) -> Result<String, AllocError>
+        ensures { IfOk result (λ s. string_bytes s ≡ compact_text (object_of self.now)) }
+    {
+        let mut out = Writer::new(Vec::with_capacity(alloc, MOST_EVENTS)?);
+        self.put_json(alloc, &mut out)?;
+        match String::from_utf8(out.into_inner()) {
+            Ok(text) => Ok(text),
+            Err(_) => unreachable!(),
+        }
+    }
+}
