@@ -56,7 +56,7 @@ fn take_hits(
         if found.len() == most {
             return Ok(());
         }
-        if filter.matches(&entry.event) {
+        if entry.event.matches(filter) {
             found.push(entry.rank())?;
         }
     }

@@ -5,6 +5,7 @@ mod choice;
 mod ends;
 mod growth;
 mod node;
+mod noted;
 mod order;
 
 pub use choice::choose;

@@ -4,7 +4,7 @@ ghost use Rattle.std.specs.Arc.{arc_value};
 ghost use Rattle.newest.specs.Newest.{rank};
 ghost use Rattle.newest.specs.Nodes.{seen, entries_of, entries_in, entries_beneath};
 
-use nostr_event::Event;
+use crate::noted::Noted;
 use nostr_filter::{Rank, rank_at};
 use std::alloc::{AllocError, Global};
 use std::sync::Arc;
@@ -16,7 +16,7 @@ const MOST: usize = 32;
 #[derive(Drop)]
 pub struct Entry {
     pub place: usize,
-    pub event: Arc<Event>,
+    pub event: Noted,
 }
 
 /// Some entries, or nodes with earlier and earlier ones.
@@ -31,7 +31,7 @@ impl Entry {
     pub fn rank(&self) -> Rank
         ensures { result ≡ rank (seen self.now) }
     {
-        rank_at(self.place, &self.event)
+        rank_at(self.place, self.event.event())
     }
 }
 
@@ -48,7 +48,7 @@ pub fn share_entries(all: &mut Vec<Entry>, entries: &[Entry]) -> Result<(), Allo
     ensures { OnOk result (map seen all.new.items ≡ map seen all.old.items ++ map seen entries.now) }
 {
     for entry in entries {
-        let event = Arc::try_clone(&entry.event)?;
+        let event = entry.event.share()?;
         all.push(Entry {
             place: entry.place,
             event,

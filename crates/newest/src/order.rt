@@ -10,6 +10,7 @@ ghost use Rattle.newest.specs.Newest.{AreOf, inserted};
 use crate::choice::walk;
 use crate::growth::grown;
 use crate::node::{Entry, Node, is_long, parts};
+use crate::noted::Noted;
 use nostr_event::Event;
 use nostr_filter::{Filter, Rank, cut};
 use std::alloc::{AllocError, Global};
@@ -67,6 +68,7 @@ impl Newest {
         // Where these are the events of a list, they are those of the list with the new one at its end.
         ensures events { (events : List EventView) → AreOf events self.now → IfOk result (λ n. AreOf (events ++ event.value ∷ []) n) }
     {
+        let event = Noted::new(event);
         let node = grown(alloc, &self.root, Entry { place, event }, self.layers)?;
         if self.layers < MOST_LAYERS && is_long(&node) {
             let root = Arc::new(alloc, Node::Fork(parts(alloc, node)?))?;

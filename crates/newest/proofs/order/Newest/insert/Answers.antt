@@ -15,12 +15,14 @@ higher c =
     let at : c.self.inside.layers + 1 ≡ suc c.self.inside.layers = omega arith in
     let old : entries_of c.self.inside.layers c.deref.result.now ≡ c.args.self.now = search rules in
     fork_is (c.self.inside.layers + 1) c.self.inside.layers (arc_value c.in_ok-root.root) c.in_ok-parts.field-0 at (ap out-Node c.in_ok-root.ensures.ok ∙ outs-Fork c.in_ok-parts.field-0)
-    ∙ c.in_ok-parts.ensures c.self.inside.layers ∙ c.in_ok-node.ensures ∙ ap (inserted (c.args.place, c.args.event.value)) old
+    ∙ c.in_ok-parts.ensures c.self.inside.layers ∙ c.in_ok-node.ensures
+    ∙ ap (λ e. inserted (c.args.place, e.value) (entries_of c.self.inside.layers c.deref.result.now)) c.new-event.ensures ∙ ap (inserted (c.args.place, c.args.event.value)) old
 
 same : (c : goal.In_ok-root-2) → entries_of c.self.inside.layers (arc_value c.in_ok-root-2.root) ≡ inserted (c.args.place, c.args.event.value) c.args.self.now
 same c =
     let old : entries_of c.self.inside.layers c.deref.result.now ≡ c.args.self.now = search rules in
-    ap (entries_of c.self.inside.layers) c.in_ok-root-2.ensures.ok ∙ c.in_ok-node.ensures ∙ ap (inserted (c.args.place, c.args.event.value)) old
+    ap (entries_of c.self.inside.layers) c.in_ok-root-2.ensures.ok ∙ c.in_ok-node.ensures
+    ∙ ap (λ e. inserted (c.args.place, e.value) (entries_of c.self.inside.layers c.deref.result.now)) c.new-event.ensures ∙ ap (inserted (c.args.place, c.args.event.value)) old
 
 pub invariant_of-result : goal.invariant_of-result
 invariant_of-result c =
