@@ -1,5 +1,5 @@
 //! The readers, which never wait.
-ghost use Rattle.std.specs.Prelude.{◌≡◌, ◌⊎◌, map, IfOk, IsPermutation};
+ghost use Rattle.std.specs.Prelude.{◌≡◌, ◌⊎◌, map, IfOk, IfErr, IsPermutation};
 ghost use Rattle.std.specs.Arc.{arc_value};
 ghost use mathlib.Core.List.{IsPrefix};
 ghost use Rattle.left_right.specs.Sides.{view};
@@ -23,7 +23,7 @@ use std::sync::Arc;
 /// Why nothing was pinned.
 #[derive(Clone, Copy, Debug, PartialEq, Eq)]
 pub enum PinFault {
-    /// There was no view, as once the desk is gone.
+    /// There was no view, as once the desk is gone. Nothing more was seen.
     Gone,
     /// A growth was refused.
     Memory,
@@ -81,6 +81,7 @@ impl<J: Naming> Reader<J> {
         ensures events { IfOk result (λ s. s.events ≡ matching filter.now self.new) }
         ensures items { IfOk result (λ s. IsPermutation (map item_of s.events) s.roll) }
         ensures sorted { IfOk result (λ s. IsRoll s.roll) }
+        ensures gone { IfErr result (λ f. f ≡ PinFault.Gone → self.new ≡ self.old) }
     {
         let state = self.see()?;
         Snapshot::of(alloc, state, filter).map_err(|_| PinFault::Memory)
@@ -89,6 +90,7 @@ impl<J: Naming> Reader<J> {
     fn see(&mut self) -> Result<Arc<State>, PinFault>
         ensures kept { IsPrefix self.old self.new }
         ensures seen { IfOk result (λ p. arc_value p ≡ self.new) }
+        ensures gone { IfErr result (λ f. f ≡ PinFault.Gone → self.new ≡ self.old) }
     {
         let Some((front, state)) = replace_with(&mut self.side, (), |side, _| look(side)) else {
             return Err(PinFault::Gone);

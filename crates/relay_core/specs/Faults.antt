@@ -14,11 +14,11 @@ GoesOnBy R (Some old) (Some new) = R old new
 GoesOnBy R (Some old) None = ⊥
 GoesOnBy R None new = ⊥
 
--- closed just where a call before ended in a fault; each fault closes
-abbrev pub RefusesRightly : Option Kept → ConnFault → Option Kept → Type 0
-RefusesRightly old Closed new = (old ≡ None) × (new ≡ None)
-RefusesRightly old Gone new = ((t : Kept) × (old ≡ Some t)) × (new ≡ None)
-RefusesRightly old Memory new = ((t : Kept) × (old ≡ Some t)) × (new ≡ None)
+-- Closed just where a call before ended in a fault; each fault closes. The store can be told as gone just where it was asked.
+abbrev pub RefusesRightly : (Kept → Type 0) → Option Kept → ConnFault → Option Kept → Type 0
+RefusesRightly Asked old Closed new = (old ≡ None) × (new ≡ None)
+RefusesRightly Asked old Gone new = ((t : Kept) × (old ≡ Some t) × Asked t) × (new ≡ None)
+RefusesRightly Asked old Memory new = ((t : Kept) × (old ≡ Some t)) × (new ≡ None)
 
 -- each cause is told as itself
 abbrev pub broken_by : PinFault → Broken

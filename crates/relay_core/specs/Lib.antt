@@ -8,4 +8,5 @@ pub mod Sessions
 pub mod Serving
 pub mod Stored
 pub mod Due
+pub mod Asking
 pub mod Faults

@@ -1,5 +1,5 @@
 //! What was published since the subscriptions were last served.
-ghost use Rattle.std.specs.Prelude.{◌≡◌, ◌≤◌, ◌∷◌, ◌++◌, [], map, length, IfOk, OnOk};
+ghost use Rattle.std.specs.Prelude.{◌≡◌, ◌≤◌, ◌∷◌, ◌++◌, [], map, length, IfOk, IfErr, OnOk};
 ghost use Rattle.std.specs.List.{AllByRecursion, list_any};
 ghost use Rattle.std.specs.Arc.{arc_value};
 ghost use mathlib.Core.List.{IsPrefix};
@@ -99,6 +99,7 @@ pub fn catch_up<J: Naming>(
     reader: &mut Reader<J>,
 ) -> Result<Vec<FromRelay>, Broken>
     ensures due { IfOk result (λ v. (map relay_form v.items ≡ all_due talk.old.subs reader.new) × (talk.new ≡ caught_up reader.new talk.old)) }
+    ensures gone { IfErr result (λ b. b ≡ Broken.Gone → reader.new ≡ reader.old) }
     ensures reader { IsPrefix reader.old reader.new }
 {
     let pin = reader.pin(alloc, &Filter::all())?;

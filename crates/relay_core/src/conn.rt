@@ -7,6 +7,7 @@ ghost use Rattle.relay_core.specs.Turns.{turn_of};
 ghost use Rattle.relay_core.specs.Serving.{Serves};
 ghost use Rattle.relay_core.specs.Stored.{placed_answer, fault_answer};
 ghost use Rattle.relay_core.specs.Due.{due, caught_up};
+ghost use Rattle.relay_core.specs.Asking.{TextAsks};
 ghost use Rattle.relay_core.specs.Faults.{GoesOnBy, RefusesRightly};
 
 use crate::catching::catch_up;
@@ -57,7 +58,7 @@ impl Conn {
         text: &str,
     ) -> Result<Step, ConnFault>
         ensures served { IfOk result (λ s. GoesOnBy (λ old new. Serves self.old.limits reader.new text.now old (turn_of s new)) self.old.kept self.new.kept) }
-        ensures refused { IfErr result (λ f. RefusesRightly self.old.kept f self.new.kept) }
+        ensures refused { IfErr result (λ f. RefusesRightly (λ t. TextAsks self.old.limits text.now t × (reader.new ≡ reader.old)) self.old.kept f self.new.kept) }
         ensures limits { self.new.limits ≡ self.old.limits }
         ensures reader { IsPrefix reader.old reader.new }
     {
@@ -80,7 +81,7 @@ impl Conn {
         ensures answer { IfOk result (λ m. MatchResult placed.entry (λ p. relay_form m ≡ placed_answer id p.now.fresh) (λ f. relay_form m ≡ fault_answer id f.now)) }
         ensures learnt { IfOk result (λ _. IfOk placed.entry (λ p. IsPrefix p.now.list reader.new)) }
         ensures kept { IfOk result (λ _. GoesOnBy (λ old new. new ≡ old) self.old.kept self.new.kept) }
-        ensures refused { IfErr result (λ f. RefusesRightly self.old.kept f self.new.kept) }
+        ensures refused { IfErr result (λ f. RefusesRightly (λ _. ⊥) self.old.kept f self.new.kept) }
         ensures limits { self.new.limits ≡ self.old.limits }
         ensures reader { IsPrefix reader.old reader.new }
     {
@@ -101,7 +102,7 @@ impl Conn {
         reader: &mut Reader<J>,
     ) -> Result<Vec<FromRelay>, ConnFault>
         ensures due { IfOk result (λ v. GoesOnBy (λ old new. (map relay_form v.items ≡ due old.subs reader.new) × (new ≡ caught_up reader.new old)) self.old.kept self.new.kept) }
-        ensures refused { IfErr result (λ f. RefusesRightly self.old.kept f self.new.kept) }
+        ensures refused { IfErr result (λ f. RefusesRightly (λ _. reader.new ≡ reader.old) self.old.kept f self.new.kept) }
         ensures limits { self.new.limits ≡ self.old.limits }
         ensures reader { IsPrefix reader.old reader.new }
     {

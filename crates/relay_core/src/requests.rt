@@ -1,5 +1,5 @@
 //! Requests for events (REQ of NIP-01).
-ghost use Rattle.std.specs.Prelude.{◌≡◌, List, [], ◌∷◌, ◌++◌, false, map, filter_map, slice_get, option_to_list, bytes_eq, IfOk, OnOk};
+ghost use Rattle.std.specs.Prelude.{◌≡◌, List, [], ◌∷◌, ◌++◌, false, map, filter_map, slice_get, option_to_list, bytes_eq, IfOk, IfErr, OnOk};
 ghost use Rattle.std.specs.List.{list_any};
 ghost use Rattle.std.specs.Arc.{arc_value};
 ghost use Rattle.std.specs.declared.alloc.Global.{Global as AGlobal};
@@ -8,6 +8,8 @@ ghost use mathlib.Core.List.{IsPrefix};
 ghost use Rattle.nostr_event.specs.EventView.{EventView};
 ghost use Rattle.nostr_filter.specs.Choice.{chosen};
 ghost use Rattle.nostr_wire.specs.Forms.{relay_form};
+ghost use Rattle.nostr_wire.specs.declared.messages.FromClient.{FromClient};
+ghost use Rattle.relay_core.specs.Asking.{Asks};
 ghost use Rattle.relay_core.specs.Messages.{event_to};
 ghost use Rattle.relay_core.specs.Requests.{stored_events as all_stored, subscribed, Requests};
 ghost use Rattle.relay_core.specs.Turns.{turn_of};
@@ -68,6 +70,7 @@ fn subscribe<J: Naming>(
 ) -> Result<Step, Broken>
     requires { list_any (λ s. bytes_eq s.name name) talk.old.subs ≡ false }
     ensures turn { IfOk result (λ s. (shared : List (AnArc EventView AGlobal)) → map arc_value shared ≡ reader.new → turn_of s talk.new ≡ subscribed reader.new name filters (chosen filters shared) talk.old) }
+    ensures gone { IfErr result (λ b. b ≡ Broken.Gone → reader.new ≡ reader.old) }
     ensures reader { IsPrefix reader.old reader.new }
 {
     let pin = reader.pin(alloc, &Filter::all())?;
@@ -91,6 +94,7 @@ pub fn request<J: Naming>(
     filters: Filters,
 ) -> Result<Step, Broken>
     ensures turn { IfOk result (λ s. Requests limits.now reader.new name filters talk.old (turn_of s talk.new)) }
+    ensures gone { IfErr result (λ b. b ≡ Broken.Gone → Asks limits.now talk.old (FromClient.Req name filters) × (reader.new ≡ reader.old)) }
     ensures reader { IsPrefix reader.old reader.new }
 {
     talk.end_sub(&name);

@@ -1,6 +1,7 @@
 //! A client's text, and what it brings about.
-ghost use Rattle.std.specs.Prelude.{◌≡◌, ◌≢◌, IfOk};
+ghost use Rattle.std.specs.Prelude.{◌≡◌, ◌≢◌, IfOk, IfErr};
 ghost use mathlib.Core.List.{IsPrefix};
+ghost use Rattle.relay_core.specs.Asking.{Asks, TextAsks};
 ghost use Rattle.relay_core.specs.Kept.{Kept};
 ghost use Rattle.relay_core.specs.Serving.{refusal, Brings, Serves};
 ghost use Rattle.relay_core.specs.Turns.{turn_of, says_one};
@@ -38,6 +39,7 @@ fn bring<J: Naming>(
     message: FromClient,
 ) -> Result<Step, Broken>
     ensures turn { IfOk result (λ s. Brings limits.now reader.new talk.old message (turn_of s talk.new)) }
+    ensures gone { IfErr result (λ b. b ≡ Broken.Gone → Asks limits.now talk.old message × (reader.new ≡ reader.old)) }
     ensures reader { IsPrefix reader.old reader.new }
 {
     match message {
@@ -82,6 +84,7 @@ pub fn serve_text<J: Naming>(
     text: &str,
 ) -> Result<Step, Broken>
     ensures turn { IfOk result (λ s. Serves limits.now reader.new text.now talk.old (turn_of s talk.new)) }
+    ensures gone { IfErr result (λ b. b ≡ Broken.Gone → TextAsks limits.now text.now talk.old × (reader.new ≡ reader.old)) }
     ensures reader { IsPrefix reader.old reader.new }
 {
     if text.len() > limits.text {

@@ -1,6 +1,8 @@
 //! Negentropy sessions (NIP-77).
-ghost use Rattle.std.specs.Prelude.{◌≡◌, ◌≤◌, option_map, IfOk, IfSome, None};
+ghost use Rattle.std.specs.Prelude.{◌≡◌, ◌≤◌, option_map, IfOk, IfErr, IfSome, None};
 ghost use mathlib.Core.List.{IsPrefix};
+ghost use Rattle.nostr_wire.specs.declared.messages.FromClient.{FromClient};
+ghost use Rattle.relay_core.specs.Asking.{Asks};
 ghost use Rattle.relay_core.specs.Kept.{other_sessions, session_of};
 ghost use Rattle.relay_core.specs.Sessions.{IsBad, IsAnswer, GoesOn, Begins, Opens};
 ghost use Rattle.relay_core.specs.Turns.{turn_of};
@@ -116,6 +118,7 @@ pub fn open<J: Naming>(
     query: &[u8],
 ) -> Result<Step, Broken>
     ensures turn { IfOk result (λ s. Opens limits.now reader.new name filter.now query.now talk.old (turn_of s talk.new)) }
+    ensures gone { IfErr result (λ b. b ≡ Broken.Gone → Asks limits.now talk.old (FromClient.NegOpen name filter.now query.now) × (reader.new ≡ reader.old)) }
     ensures reader { IsPrefix reader.old reader.new }
 {
     talk.end_session(&name);

@@ -490,27 +490,68 @@ fn beginnings_of_a_reply(rt: HostRuntime) -> Result<(), Fail> {
     Ok(())
 }
 
-/// What is answered once the store is gone, and after that.
+/// What ends a connection once the store is gone.
+static GONE: [(&str, Option<ConnFault>); 6] = [
+    (r##"["REQ","a",{}]"##, Some(ConnFault::Gone)),
+    (r##"["NEG-OPEN","s",{},"61"]"##, Some(ConnFault::Gone)),
+    (r##"["REQ","a",{},{}]"##, None),
+    (r##"["CLOSE","a"]"##, None),
+    (PLAIN, None),
+    ("hello", None),
+];
+
+/// The first of those texts that doesn't end a connection as it should, or how many there are.
+fn first_other<J: Naming>(alloc: Global, reader: &mut Reader<J>, limits: RelayLimits) -> usize {
+    for (place, (text, fault)) in GONE.iter().enumerate() {
+        let mut conn = Conn::new(alloc, limits);
+        if conn.serve(reader, text).err() != *fault {
+            return place;
+        }
+    }
+    GONE.len()
+}
+
+/// That text; and what is answered in place of what is due, and after that.
 fn ends<J: Naming, D: Wait + Drop>(
     keep: D,
     alloc: Global,
     blank: Blank,
-) -> Option<(ConnFault, ConnFault)>
+) -> Option<(usize, ConnFault, ConnFault)>
     requires book { blank ≡ J.book }
     requires most { J.most ≡ 1000000 }
 {
     let (desk, mut readers) = open_store::<J, D>(keep, alloc, blank, 1).ok()?;
     let mut reader = readers.pop()?;
-    let mut conn = Conn::new(alloc, RelayLimits::default());
     drop(desk);
+    let limits = with(1, 1, 1_000, 1, 1);
+    let place = first_other(alloc, &mut reader, limits);
+    let mut conn = Conn::new(alloc, limits);
     let first = conn.catch_up(&mut reader).err()?;
     let second = conn.serve(&mut reader, PLAIN).err()?;
-    Some((first, second))
+    Some((place, first, second))
 }
 
 #[test]
 fn a_store_that_is_gone(rt: HostRuntime) -> Result<(), Fail> {
     let ended = ends::<Brand, _>(&rt, rt.alloc(), Blank::new());
-    assert_eq!(rt; ended, Some((ConnFault::Gone, ConnFault::Closed)));
+    assert_eq!(rt;
+        ended,
+        Some((GONE.len(), ConnFault::Gone, ConnFault::Closed))
+    );
+    Ok(())
+}
+
+#[test]
+fn texts_of_faults(rt: HostRuntime) -> Result<(), Fail> {
+    let faults = [ConnFault::Gone, ConnFault::Memory, ConnFault::Closed];
+    let texts = [
+        "the store is gone",
+        "out of memory",
+        "the connection is closed",
+    ];
+    for (fault, text) in faults.iter().zip(texts) {
+        let shown = format!(in rt.alloc(); "{fault}")?;
+        assert_eq!(rt; shown.as_str(), text);
+    }
     Ok(())
 }
