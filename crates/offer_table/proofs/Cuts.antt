@@ -1,5 +1,5 @@
 -- Lists in order.
-use Rattle.std.proofs.Common.{◌≡◌, ℕ, suc, ◌+◌, ◌<◌, ◌≤◌, List, [], ◌∷◌, ◌++◌, length, get_or, map, Result, Ok, Err, Some, None, refl, sym, ap, ◌∙◌, arith}
+use Rattle.std.proofs.Common.{◌≡◌, ℕ, ◌+◌, ◌<◌, List, [], ◌∷◌, length, get_or, map, Result, Ok, Err, Some, None, refl, sym, ap, ◌∙◌, arith}
 use Rattle.std.specs.Prelude.{MatchResult}
 use Rattle.std.specs.declared.cmp.Ordering.{Ordering}
 use Rattle.std.specs.declared.cmp.Ordering.TheVariants.{Less, Equal, Greater}
@@ -14,7 +14,7 @@ use Rattle.neg_codec.specs.declared.Id.{Id}
 use Rattle.sharing.specs.Offers.{Ascend, id_cmp, beside}
 use Rattle.sharing.proofs.Orders.{id_total, same_id}
 use Rattle.sharing.proofs.Looks.{found_itself}
-use Rattle.sharing.proofs.Searched.{IsBetween, not_found}
+use Rattle.sharing.proofs.Searched.{not_found}
 
 pub sorted_cons : {K : Type 0} (c : K → K → Ordering) (x : K) (xs : List K) → All (λ y. c x y ≡ Less) xs → IsStrictlySortedBy c xs → IsStrictlySortedBy c (x ∷ xs)
 unfolding IsStrictlySortedBy

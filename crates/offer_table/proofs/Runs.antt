@@ -7,11 +7,11 @@ use Rattle.std.specs.List.{All, filter}
 use Rattle.std.specs.List.Sorted.{IsStrictlySortedBy, IsNonDecreasingBy}
 use Rattle.std.proofs.lemmas.Bool.{cases_lt, eq-eqb, eqb-true}
 use Rattle.std.proofs.lemmas.List.{map-append, get_or-drop, length-drop, length-map, length-take-le, get_or_default}
-use Rattle.std.proofs.lemmas.List.Elements.{All-head, All-tail, All-cons, All-nil, All-map, All-filter, All-drop, All-push, filter-append}
+use Rattle.std.proofs.lemmas.List.Elements.{All-head, All-tail, All-cons, All-nil, All-drop, All-push, filter-append}
 use Rattle.std.proofs.lemmas.List.Sorted.{IsNonDecreasingBy-drop}
 use Rattle.neg_codec.specs.declared.Id.{Id}
 use Rattle.sharing.specs.Offers.{AreRelays, Ascend, id_cmp}
-use Rattle.sharing.proofs.Orders.{head_sorted, tail_sorted, sorted_push, less_from, All-unmap}
+use Rattle.sharing.proofs.Orders.{head_sorted, tail_sorted, sorted_push, less_from}
 use Rattle.offer_table.specs.Relays.{bits_of}
 use Rattle.offer_table.specs.Groups.{ids_numbered}
 use Rattle.offer_table.specs.Rows.{ids_at, row_cmp, AreRows}

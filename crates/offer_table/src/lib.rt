@@ -14,6 +14,7 @@ mod table;
 
 pub use bases::Bases;
 pub use faults::{BaseFault, OfferFault};
+pub use groups::Groups;
 pub use ids::Ids;
 pub use relays::{Members, RelaySet};
 pub use table::OfferTable;

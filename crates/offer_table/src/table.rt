@@ -21,27 +21,22 @@ use std::alloc::{AllocError, Global};
 use std::collections::BTreeSet;
 use std::marker::Model;
 
-/// Which relays reported what they offer, and for each offered id the relays that offer it. Beside that the
-/// table keeps the ids in groups of equal relay sets.
+/// Which relays reported what they offer, and for each offered id the relays that offer it.
 #[derive(Drop)]
 pub struct OfferTable {
     reported: RelaySet,
     offers: Vec<(Id, RelaySet)>,
-    groups: Groups,
-    numbers: Vec<u32>,
     alloc: Global,
 }
 
 impl Model for OfferTable {
-    ghost use Rattle.std.specs.Prelude.{◌≡◌};
     ghost use Rattle.offer_table.specs.Table.{Table, IsTable};
-    ghost use Rattle.offer_table.specs.Groups.{groups_of, AreNumbers};
 
     ghost Value = { Table };
 
     ghost view = { λ t. record { reported = t.reported; offers = t.offers.items } };
 
-    ghost invariant = { λ t. record { table : IsTable (record { reported = t.reported; offers = t.offers.items }); groups : t.groups ≡ groups_of t.offers.items; numbers : AreNumbers t.offers.items (groups_of t.offers.items) t.numbers.items } };
+    ghost invariant = { λ t. IsTable (record { reported = t.reported; offers = t.offers.items }) };
 }
 
 /// The relays that offer some id.
@@ -68,22 +63,15 @@ fn looked_up(offers: &[(Id, RelaySet)], id: &Id) -> RelaySet
 
 impl OfferTable {
     /// The table of these relays that reported, and these offers.
-    fn of_list(
-        alloc: Global,
-        reported: RelaySet,
-        offers: Vec<(Id, RelaySet)>,
-    ) -> Result<OfferTable, AllocError>
+    fn of_list(alloc: Global, reported: RelaySet, offers: Vec<(Id, RelaySet)>) -> OfferTable
         requires { IsTable (record { reported = reported; offers = offers.items }) }
-        ensures { IfOk result (λ t. t ≡ record { reported = reported; offers = offers.items }) }
+        ensures { result ≡ record { reported = reported; offers = offers.items } }
     {
-        let (groups, numbers) = Groups::of(alloc, &offers)?;
-        Ok(OfferTable {
+        OfferTable {
             reported,
             offers,
-            groups,
-            numbers,
             alloc,
-        })
+        }
     }
 
     /// The table to which no relay has reported.
@@ -94,14 +82,12 @@ impl OfferTable {
         OfferTable {
             reported: RelaySet::empty(),
             offers: Vec::new(alloc),
-            groups: Groups::new(alloc),
-            numbers: Vec::new(alloc),
             alloc,
         }
     }
 
     /// The table of these offers: ids in order, each with the set of relays that offer it. The relays that offer
-    /// an id are those that reported. One sort of the sets, n log n in the number of ids.
+    /// an id are those that reported. One pass.
     ///
     /// # Errors
     ///
@@ -117,7 +103,7 @@ impl OfferTable {
             return Err(OfferFault::TableFull);
         }
         let reported = all_of(&offers);
-        Ok(OfferTable::of_list(alloc, reported, offers)?)
+        Ok(OfferTable::of_list(alloc, reported, offers))
     }
 
     /// The table of one relay's report: it offers each of these ids.
@@ -146,11 +132,10 @@ impl OfferTable {
         for id in need {
             offers.push((*id, relays))?;
         }
-        Ok(OfferTable::of_list(alloc, relays, offers)?)
+        Ok(OfferTable::of_list(alloc, relays, offers))
     }
 
-    /// The offers of both tables: two passes over both, and a sort of the sets. After a fault both come back
-    /// unchanged.
+    /// The offers of both tables: two passes over both. After a fault both come back unchanged.
     ///
     /// # Errors
     ///
@@ -181,7 +166,7 @@ impl OfferTable {
     }
 
     /// Leaves these offers out: beside an id that stands here, those of its relays that stand beside it. One pass
-    /// over both, and a sort of the sets. Where memory runs out nothing has changed.
+    /// over both. Where memory runs out nothing has changed.
     pub fn leave_out(&mut self, gone: &[(Id, RelaySet)]) -> Result<(), AllocError>
         requires { Ascend (map (λ o. o.0) gone.now) }
         ensures offers { OnOk result ((i : Id) (r : ℕ) → is_among (relays_of self.new.offers i) r ≡ (is_among (relays_of self.old.offers i) r && not (is_among (relays_of gone.now i) r))) }
@@ -196,7 +181,7 @@ impl OfferTable {
             gone,
             self.offers.len(),
         )?;
-        *self = OfferTable::of_list(self.alloc, self.reported, left)?;
+        *self = OfferTable::of_list(self.alloc, self.reported, left);
         Ok(())
     }
 
@@ -242,32 +227,15 @@ impl OfferTable {
         &self.offers
     }
 
-    /// The number of each offered id's group, in the order of the ids.
-    pub fn numbers(&self) -> &[u32]
-        ensures numbers { AreNumbers self.now.offers (groups_of self.now.offers) result.now }
-        ensures table { IsTable self.now }
-    {
-        &self.numbers
-    }
-
-    /// How many distinct sets of relays the offered ids have: each of them is a group.
-    pub fn groups(&self) -> usize
-        ensures count { result ≡ length (groups_of self.now.offers) }
+    /// The offered ids in groups, and the number of each id's group, in the order of the ids. One sort of the sets,
+    /// n log n in the number of ids.
+    pub fn groups(&self) -> Result<(Groups, Vec<u32>), AllocError>
+        ensures value { IfOk result (λ made. made.0 ≡ groups_of self.now.offers) }
+        ensures numbers { IfOk result (λ made. AreNumbers self.now.offers (groups_of self.now.offers) made.1.items) }
         ensures groups { AreGroups self.now.offers (groups_of self.now.offers) }
         ensures table { IsTable self.now }
     {
-        self.groups.len()
-    }
-
-    /// A group: a set of relays, which is not empty, and the ids that just these relays offer, ascending.
-    /// The sets of the groups are distinct, and ascend as numbers in which relay r counts 2^r.
-    pub fn group_at(&self, k: usize) -> (RelaySet, &[Id])
-        requires { k < length (groups_of self.now.offers) }
-        ensures value { slice_get (groups_of self.now.offers) k ≡ Some (result.0, result.1.now) }
-        ensures groups { AreGroups self.now.offers (groups_of self.now.offers) }
-        ensures table { IsTable self.now }
-    {
-        self.groups.at(k)
+        Groups::of(self.alloc, &self.offers)
     }
 
     /// The relays that reported.
@@ -286,7 +254,8 @@ impl OfferTable {
         ensures table { IfOk result IsTable }
     {
         let offers = combined(self.alloc, Keep::Either, &self.offers, &other.offers, count)?;
-        OfferTable::of_list(self.alloc, self.reported.union(other.reported), offers)
+        let reported = self.reported.union(other.reported);
+        Ok(OfferTable::of_list(self.alloc, reported, offers))
     }
 }
 

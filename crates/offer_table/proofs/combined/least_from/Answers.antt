@@ -1,7 +1,5 @@
-use Rattle.std.proofs.Common.{◌≡◌, ℕ, List, sym, ap, ◌∙◌}
-use Rattle.std.specs.declared.cmp.Ordering.TheVariants.{Less}
+use Rattle.std.proofs.Common.{sym, ap, ◌∙◌}
 use Rattle.std.specs.Ordering.{ordering_reverse, is_eq}
-use Rattle.neg_codec.specs.declared.Id.{Id}
 use Rattle.sharing.proofs.Orders.{id_total, same_id}
 use Rattle.offer_table.proofs.SideBySide.{least_alone, least_second, least_both, behind_none, behind_all, empty}
 use Rattle.offer_table.proofs.combined.least_from.Goals as goal

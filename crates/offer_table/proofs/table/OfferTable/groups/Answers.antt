@@ -1,13 +1,8 @@
-use Rattle.std.proofs.Common.{◌≡◌, length, ap, ◌∙◌, subst}
+use Rattle.std.proofs.Common.{subst}
 use Rattle.sharing.specs.Offers.{IsOffers}
 use Rattle.offer_table.specs.Table.{Table}
-use Rattle.offer_table.specs.Groups.{groups_of}
-use Rattle.offer_table.proofs.Rows.{Rows}
 use Rattle.offer_table.proofs.Partition.{are_groups}
 use Rattle.offer_table.proofs.table.OfferTable.groups.Goals as goal
 
-pub returns-clause-count : goal.returns-clause-count
-returns-clause-count c = c.len.ensures ∙ ap (λ (g : Rows). length g) c.self.invariant.groups ∙ ap (λ (t : Table). length (groups_of t.offers)) c.self.view_is
-
 pub returns-clause-groups : goal.returns-clause-groups
-returns-clause-groups c = are_groups c.args.self.now.offers (subst (λ (t : Table). IsOffers t.offers) c.self.view_is c.self.invariant.table.offers_ok)
+returns-clause-groups c = are_groups c.args.self.now.offers (subst (λ (t : Table). IsOffers t.offers) c.self.view_is c.self.invariant.offers_ok)

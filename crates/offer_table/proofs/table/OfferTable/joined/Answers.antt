@@ -1,5 +1,4 @@
-use Rattle.std.proofs.Common.{◌≡◌, ◌≤◌, ◌+◌, length, ap, subst, arith}
-use Rattle.sharing.specs.declared.TheConstants.{MOST_IDS}
+use Rattle.std.proofs.Common.{◌≡◌, ◌+◌, length, ap, arith}
 use Rattle.offer_table.specs.Table.{Table, new_in}
 use Rattle.offer_table.proofs.Runs.{Offers}
 use Rattle.offer_table.proofs.table.OfferTable.joined.Goals as goal

@@ -1,7 +1,6 @@
-use Rattle.std.proofs.Common.{◌≡◌, ◌<◌, ◌==◌, ◌||◌, ◌≤◌, ◌++◌, ◌∷◌, [], ℕ, List, map, length, sym, ap, ◌∙◌, subst, arith}
+use Rattle.std.proofs.Common.{◌≡◌, ◌<◌, ◌≤◌, ◌++◌, ◌∷◌, [], ℕ, List, map, length, sym, ap, ◌∙◌, subst, arith}
 use Rattle.std.specs.Map.Iter.{deref}
 use Rattle.sharing.specs.declared.TheConstants.{MOST_IDS}
-use Rattle.sharing.specs.Sharing.{is_among}
 use Rattle.offer_table.specs.Table.{Table, IsTable}
 use Rattle.std.proofs.lemmas.Map.Iter.{iter_end}
 use Rattle.std.proofs.lemmas.List.{map-append}
@@ -41,12 +40,12 @@ of_list-requires c =
 
 pub returns-clause-reported : goal.returns-clause-reported
 returns-clause-reported c =
-    ap (λ (t : Table). t.reported) c.in_ok-of_list.ensures ∙ c.one-relays.ensures.value
+    ap (λ (t : Table). t.reported) c.of_list.ensures ∙ c.one-relays.ensures.value
 
 pub returns-clause-offers : goal.returns-clause-offers
 returns-clause-offers c =
     let start = c.into_iter-id-iterator.ensures.into_iter_gives in
     let end = iter_end deref c.args.need.now.keys c.loop-id.yielded c.into_iter-id-iterator.result c.loop-id.id-iterator c.next.new.self c.next.result start.0 c.loop-id.yielded_by c.in-None.is c.next.ensures.steps in
-    ap (λ (t : Table). t.offers) c.in_ok-of_list.ensures
+    ap (λ (t : Table). t.offers) c.of_list.ensures
     ∙ c.loop-id.invariant ∙ ap (each_with c.one-relays.result) end.0
     ∙ ap (λ rs. each_with rs c.args.need.now.keys) c.one-relays.ensures.value
