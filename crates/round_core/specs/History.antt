@@ -6,6 +6,7 @@ use Rattle.sharing.specs.Sharing.{is_among}
 use Rattle.sharing.specs.Offers.{StandsFor, AreRelays, is_id}
 use Rattle.offer_table.specs.Table.{Table}
 use Rattle.fetch_plan.specs.Plan.{Planned}
+pub use Rattle.fetch_plan.specs.LeftOut.{no_give, leaves_out}
 use Rattle.fetch_plan.specs.declared.cell.Cell.{Cell}
 use Rattle.fetch_plan.specs.declared.cell.Cell.TheVariants.{Free, Held, Done, Missed}
 use Rattle.round_core.specs.declared.events.RoundEvent.{RoundEvent}
@@ -27,9 +28,6 @@ is_sealed h = list_any (λ x. seals x.1) h
 -- how many plans were made
 abbrev pub sealings : History → ℕ
 sealings h = count_by (λ x. seals x.1) h
-
-abbrev pub no_give : Id × ℕ
-no_give = (record { 0 = [] }, 0)
 
 -- The gives of these plans, each plan's after those of the plans before it: cell i has the i-th of them.
 abbrev pub gives_of : List Planned → List (Id × ℕ)
@@ -120,13 +118,6 @@ wants_in r i e a = false
 
 abbrev pub wants : History → ℕ → Id → Bool
 wants h r i = list_any (λ x. wants_in r i x.0 x.1) h
-
--- A cell with this give leaves relay r's offer of the id out of later plans: a done one all offers of its id, a
--- missed one that of its own relay.
-abbrev pub leaves_out : Cell → Id × ℕ → ℕ → Id → Bool
-leaves_out Done g r i = is_id i g.0
-leaves_out Missed g r i = is_id i g.0 && (r == g.1)
-leaves_out c g r i = false
 
 -- The offer stands: a report of relay r had the id, and none of the cells with these gives leaves it out.
 pub record Stands (h : History) (gives : List (Id × ℕ)) (r : ℕ) (i : Id) : Type 0 where

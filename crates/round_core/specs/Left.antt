@@ -10,6 +10,7 @@ use Rattle.offer_table.specs.Table.{Table, IsTable}
 use Rattle.offer_table.specs.declared.faults.OfferFault.{OfferFault}
 use Rattle.offer_table.specs.declared.faults.OfferFault.TheVariants as fault
 use Rattle.fetch_plan.specs.Plan.{Planned, IsPlanOf}
+pub use Rattle.fetch_plan.specs.LeftOut.{gone_beside, first_of}
 use Rattle.fetch_plan.specs.declared.cell.Cell.{Cell}
 use Rattle.fetch_plan.specs.declared.cell.Cell.TheVariants.{Free, Held, Done, Missed}
 use Rattle.round_core.specs.declared.events.Refusal.TheVariants as why
@@ -144,17 +145,6 @@ abbrev pub SealsTo : State → List ℕ → Result Answer AllocError → State �
 SealsTo old bases result new =
     MatchOption old.plan (MatchResult result (λ a. Plans bases old.table.offers old old.table a new) (λ _. new ≡ old))
     (λ _. (result ≡ Ok (Refused why.Sealed)) × (new ≡ old))
-
--- f 0 to f (n - 1)
-abbrev pub first_of : {A : Type 0} → (ℕ → A) → ℕ → List A
-first_of f zero = []
-first_of f (suc n) = first_of f n ++ f n ∷ []
-
--- the relays whose offers of its id a cell with this give leaves out of these offers
-abbrev pub gone_beside : List (Id × List ℕ) → Cell → Id × ℕ → List ℕ
-gone_beside offers Done g = relays_of offers g.0
-gone_beside offers Missed g = g.1 ∷ []
-gone_beside offers c g = []
 
 -- what the cells from the first on leave out, which have these gives
 abbrev pub gone_of : List (Id × List ℕ) → List (Id × ℕ) → List Cell → List (Id × List ℕ)
