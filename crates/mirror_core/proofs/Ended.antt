@@ -20,6 +20,7 @@ use Rattle.mirror_core.specs.Fetching.{Fetching, fetched, WasGiven, WasMissed}
 use Rattle.mirror_core.specs.Working.{is_through, IsUnused, Ends, Worked}
 use Rattle.mirror_core.specs.Closing.{AllBack, Closed, behind}
 use Rattle.mirror_core.specs.Fetched.{logs_gained, CellEnds, EachEnds, Fetches}
+use Rattle.mirror_core.specs.Asked.{AreIdsOf, AskInOrder, asked_in}
 
 -- what the worker of lane w left, whose source's log gained this
 record Left (cells : List (Id × ℕ)) (lanes : List ℕ) (w : ℕ) (log : List Fetching) (through : Bool) (f : LaneRecord) : Type 0 where
@@ -147,3 +148,11 @@ module _ {J S : Type 0} (cells : List (Id × ℕ)) (log : S → List Fetching) (
         long = closed.len;
         ends = λ i id relay at. cell_ends cells lanes (logs_gained log ss ts) stops keeper closed.honest whole i id relay at (get_or found i Free) (closed.settled i (slice_get_within cells i (id, relay) at));
       }
+
+  pub asked_of : (lanes : List ℕ) (news : List LaneView) (ss ts : List S) (us stops : List (Stop J)) → AllSix Works (map (placed_at board) (named 0 lanes)) news ss ts us stops → AskInOrder cells lanes (logs_gained log ss ts)
+  asked_of lanes news ss ts us stops h w relay mine =
+      let lt = slice_get_within lanes w relay mine in
+      let at = worked_at (named 0 lanes) news ss ts us stops h w (omega (arith, lt, named_length 0 lanes)) (fresh 0 0) in
+      let name = named_at 0 lanes w (fresh 0 0) lt in
+      let its : at.0.own.relay ≡ relay = at.7.same.relay ∙ (ap (λ (z : LaneRecord). z.relay) name ∙ get_or_from_slice_get lanes w relay 0 mine) in
+      subst (λ (r : ℕ). AreIdsOf cells r 0 (length cells) (asked_in (get_or (logs_gained log ss ts) w []))) its (subst (λ (z : List Fetching). AreIdsOf cells at.0.own.relay 0 (length cells) (asked_in z)) at.6 at.7.asked)

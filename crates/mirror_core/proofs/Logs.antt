@@ -17,6 +17,7 @@ use Rattle.mirror_core.specs.Fetching.{Fetching, fetching, fetched, WasGiven, Wa
 use Rattle.mirror_core.specs.Batches.{Batched, SameLane, Settles}
 use Rattle.mirror_core.specs.Working.{is_through, IsUnused, Ends, Logs, Worked}
 use Rattle.mirror_core.proofs.Batches.{none_of}
+use Rattle.mirror_core.proofs.Asked.{Asked, asked_all}
 
 -- a longer log tells of no less
 given_more : (log more : List Fetching) (id : Id) → WasGiven log id → WasGiven (log ++ more) id
@@ -71,8 +72,8 @@ logs_then cells e f g a b c h k = record {
 
 -- what a worker did, from its lane's beginning on
 pub worked : {J : Type 0} (cells : List (Id × ℕ)) (old new : LaneView) (before after : List Fetching) (faults faults' : ℕ) (stop : Stop J) (next : ℕ) → IsUnused old.own → SameLane old new → new.own.held ≡ [] → Logs cells old.own new.own before after
-    → (is_through stop ≡ true → Batched cells next [] [] new.own × (length cells ≤ next)) → (stop ≡ Source Failed → faults < faults') → Worked cells old new before after faults faults' stop
-worked cells old new before after faults faults' stop next unused same held logs through failed =
+    → (is_through stop ≡ true → Batched cells next [] [] new.own × (length cells ≤ next)) → (stop ≡ Source Failed → faults < faults') → (asked : ℕ) → Asked cells new.own.relay asked before after → Worked cells old new before after faults faults' stop
+worked cells old new before after faults faults' stop next unused same held logs through failed asked so_far =
     let gained : fetched before after ≡ logs.gained = ap (fetched before) logs.appended ∙ drop-append_seam before logs.gained in
     let none : Ends cells [] old.own = record {
       done = λ i z. absurd (none_of old.own.ended (i, Done) unused.ended z);
@@ -83,6 +84,7 @@ worked cells old new before after faults faults' stop next unused same held logs
       held = held;
       appended = logs.appended ∙ ap (λ (z : List Fetching). before ++ z) (sym gained);
       few = subst (λ (z : List Fetching). (g : Fetching) → Contains z g → length g.asked ≤ 100) (sym gained) logs.few;
+      asked = asked_all cells new.own.relay asked before after so_far;
       ends = subst (λ (z : List Fetching). Ends cells z new.own) (sym gained) (logs.ends [] none);
       won = λ t i z. ⊎_elim (λ (x : Contains new.own.ended (i, Done) ⊎ Contains new.own.ended (i, Missed)). x) (λ (x : Contains {X = ℕ} [] i). absurd (none_of {X = ℕ} [] i refl x)) ((through t).0.won i z);
       seen = λ t i low mine. (through t).0.seen i (let m = (through t).1 in omega (arith, low, m)) mine;

@@ -15,7 +15,8 @@ use Rattle.sharing.proofs.Orders.{same_id, id_itself}
 use Rattle.fetch_plan.specs.Plan.{Planned, IsPlanOf}
 use Rattle.fetch_plan.specs.declared.cell.Cell.{Cell}
 use Rattle.fetch_plan.specs.declared.cell.Cell.TheVariants.{Free, Held, Done, Missed}
-use Rattle.mirror_core.specs.Next.{no_give, strikes, IsLeft, IsLess, IsNextPlan, first_of, struck_beside, struck_of}
+use Rattle.fetch_plan.specs.LeftOut.{no_give, leaves_out, gone_beside, first_of}
+use Rattle.mirror_core.specs.Next.{IsLeft, IsLess, IsNextPlan, struck_of}
 
 or_false : (b : Bool) → (b || false) ≡ b
 or_false true = refl
@@ -77,19 +78,19 @@ found f (suc n) i =
     ]
 
 -- ---- what one cell strikes
-strikes_id : (c : Cell) (g : Id × ℕ) (r : ℕ) (i : Id) → strikes c g r i ≡ true → is_id i g.0 ≡ true
+strikes_id : (c : Cell) (g : Id × ℕ) (r : ℕ) (i : Id) → leaves_out c g r i ≡ true → is_id i g.0 ≡ true
 strikes_id Done g r i h = h
 strikes_id Missed g r i h = (and_parts (is_id i g.0) (r == g.1) h).0
 strikes_id Free g r i h = absurd (false≢true h)
 strikes_id (Held w) g r i h = absurd (false≢true h)
 
-struck_strikes : (offers : List (Id × List ℕ)) (c : Cell) (g : Id × ℕ) (r : ℕ) (i : Id) → is_id i g.0 ≡ true → is_among (struck_beside offers c g) r ≡ true → strikes c g r i ≡ true
+struck_strikes : (offers : List (Id × List ℕ)) (c : Cell) (g : Id × ℕ) (r : ℕ) (i : Id) → is_id i g.0 ≡ true → is_among (gone_beside offers c g) r ≡ true → leaves_out c g r i ≡ true
 struck_strikes offers Done g r i t h = t
 struck_strikes offers Missed g r i t h = and_from (is_id i g.0) (r == g.1) t (sym (or_false (r == g.1)) ∙ h)
 struck_strikes offers Free g r i t h = absurd (false≢true h)
 struck_strikes offers (Held w) g r i t h = absurd (false≢true h)
 
-strikes_struck : (offers : List (Id × List ℕ)) (c : Cell) (g : Id × ℕ) (r : ℕ) (i : Id) → strikes c g r i ≡ true → is_among (relays_of offers i) r ≡ true → is_among (struck_beside offers c g) r ≡ true
+strikes_struck : (offers : List (Id × List ℕ)) (c : Cell) (g : Id × ℕ) (r : ℕ) (i : Id) → leaves_out c g r i ≡ true → is_among (relays_of offers i) r ≡ true → is_among (gone_beside offers c g) r ≡ true
 strikes_struck offers Done g r i h m = ap (λ (k : Id). is_among (relays_of offers k) r) (sym (same_id i g.0 h)) ∙ m
 strikes_struck offers Missed g r i h m = or_false (r == g.1) ∙ (and_parts (is_id i g.0) (r == g.1) h).1
 strikes_struck offers Free g r i h m = absurd (false≢true h)
@@ -98,12 +99,12 @@ strikes_struck offers (Held w) g r i h m = absurd (false≢true h)
 -- ---- what all of them strike
 module _ (offers : List (Id × List ℕ)) (gives : List (Id × ℕ)) (cells : List Cell) where
   pub struck_ids : map (λ o. o.0) (struck_of offers gives cells) ≡ map (λ g. g.0) gives
-  struck_ids = first_map (λ (o : Id × List ℕ). o.0) (λ k. ((get_or gives k no_give).0, struck_beside offers (get_or cells k Free) (get_or gives k no_give))) (length gives) ∙ first_get (λ (g : Id × ℕ). g.0) no_give gives
+  struck_ids = first_map (λ (o : Id × List ℕ). o.0) (λ k. ((get_or gives k no_give).0, gone_beside offers (get_or cells k Free) (get_or gives k no_give))) (length gives) ∙ first_get (λ (g : Id × ℕ). g.0) no_give gives
 
-  looked : (i : Id) → Found (λ k. ((get_or gives k no_give).0, struck_beside offers (get_or cells k Free) (get_or gives k no_give))) (length gives) i
-  looked i = found (λ k. ((get_or gives k no_give).0, struck_beside offers (get_or cells k Free) (get_or gives k no_give))) (length gives) i
+  looked : (i : Id) → Found (λ k. ((get_or gives k no_give).0, gone_beside offers (get_or cells k Free) (get_or gives k no_give))) (length gives) i
+  looked i = found (λ k. ((get_or gives k no_give).0, gone_beside offers (get_or cells k Free) (get_or gives k no_give))) (length gives) i
 
-  pub struck_from : (i : Id) (r : ℕ) → is_among (relays_of (struck_of offers gives cells) i) r ≡ true → (j : ℕ) × (j < length gives) × (strikes (get_or cells j Free) (get_or gives j no_give) r i ≡ true)
+  pub struck_from : (i : Id) (r : ℕ) → is_among (relays_of (struck_of offers gives cells) i) r ≡ true → (j : ℕ) × (j < length gives) × (leaves_out (get_or cells j Free) (get_or gives j no_give) r i ≡ true)
   struck_from i r m =
       elim (looked i) [
         | inl e ↦ absurd (false≢true (ap (λ o. is_among (unwrap_or o []) r) (sym e.1) ∙ m))
@@ -129,7 +130,7 @@ module _ (offers : List (Id × List ℕ)) (gives : List (Id × ℕ)) (cells : Li
         ]
       ]
 
-  pub struck_has : (j : ℕ) (i : Id) (r : ℕ) → Ascend (map (λ g. g.0) gives) → j < length gives → strikes (get_or cells j Free) (get_or gives j no_give) r i ≡ true → is_among (relays_of offers i) r ≡ true → is_among (relays_of (struck_of offers gives cells) i) r ≡ true
+  pub struck_has : (j : ℕ) (i : Id) (r : ℕ) → Ascend (map (λ g. g.0) gives) → j < length gives → leaves_out (get_or cells j Free) (get_or gives j no_give) r i ≡ true → is_among (relays_of offers i) r ≡ true → is_among (relays_of (struck_of offers gives cells) i) r ≡ true
   struck_has j i r ascend lt leaves m =
       let t : is_id i (get_or gives j no_give).0 ≡ true = strikes_id (get_or cells j Free) (get_or gives j no_give) r i leaves in
       elim (looked i) [
@@ -137,7 +138,7 @@ module _ (offers : List (Id × List ℕ)) (gives : List (Id × ℕ)) (cells : Li
         | inr e ↦
             (let same : e.0 ≡ j = apart e.0 j ascend e.1 lt i e.2 t in
             ap (λ o. is_among (unwrap_or o []) r) e.3
-            ∙ ap (λ k. is_among (struck_beside offers (get_or cells k Free) (get_or gives k no_give)) r) same
+            ∙ ap (λ k. is_among (gone_beside offers (get_or cells k Free) (get_or gives k no_give)) r) same
             ∙ strikes_struck offers (get_or cells j Free) (get_or gives j no_give) r i leaves m)
       ]
 

@@ -1,27 +1,18 @@
 -- What a next round's plan is made of.
-use Rattle.std.specs.Prelude.{◌≡◌, ℕ, zero, suc, ◌<◌, ◌==◌, ◌&&◌, Bool, true, false, List, [], ◌∷◌, ◌++◌, length, slice_index_or}
+use Rattle.std.specs.Prelude.{◌≡◌, ℕ, ◌<◌, true, false, List, length, slice_index_or}
 use Rattle.neg_codec.specs.declared.Id.{Id}
 use Rattle.sharing.specs.Bases.{base_of}
 use Rattle.sharing.specs.Sharing.{is_among, NoneSmaller}
-use Rattle.sharing.specs.Offers.{is_id, relays_of, StandsFor}
+use Rattle.sharing.specs.Offers.{relays_of, StandsFor}
 use Rattle.fetch_plan.specs.Plan.{Planned, IsPlanOf}
+use Rattle.fetch_plan.specs.LeftOut.{no_give, leaves_out, gone_beside, first_of}
 use Rattle.fetch_plan.specs.declared.cell.Cell.{Cell}
-use Rattle.fetch_plan.specs.declared.cell.Cell.TheVariants.{Free, Done, Missed}
+use Rattle.fetch_plan.specs.declared.cell.Cell.TheVariants.{Free}
 
--- what is read beyond the gives
-abbrev pub no_give : Id × ℕ
-no_give = (record { 0 = [] }, 0)
-
--- a cell with this give strikes relay r's offer of the id: a done one all offers of its id, a missed one that of its own relay
-abbrev pub strikes : Cell → Id × ℕ → ℕ → Id → Bool
-strikes Done g r i = is_id i g.0
-strikes Missed g r i = is_id i g.0 && (r == g.1)
-strikes c g r i = false
-
--- relay r offered the id, and no cell strikes that
+-- relay r offered the id, and no cell leaves that out
 pub record IsLeft (offers : List (Id × List ℕ)) (gives : List (Id × ℕ)) (cells : List Cell) (r : ℕ) (i : Id) : Type 0 where
   pub offered : is_among (relays_of offers i) r ≡ true
-  pub kept : (k : ℕ) → k < length gives → strikes (slice_index_or cells k Free) (slice_index_or gives k no_give) r i ≡ false
+  pub kept : (k : ℕ) → k < length gives → leaves_out (slice_index_or cells k Free) (slice_index_or gives k no_give) r i ≡ false
 
 -- a least plan, over these bases, of just the offers that are left
 pub record IsNextPlan (bases : List ℕ) (old : List (Id × List ℕ)) (gives : List (Id × ℕ)) (cells : List Cell) (new : List (Id × List ℕ)) (plan : Planned) : Type 0 where
@@ -34,17 +25,6 @@ pub record IsLess (old : List (Id × List ℕ)) (gives : List (Id × ℕ)) (cell
   pub sound : (r : ℕ) (i : Id) → is_among (relays_of new i) r ≡ true → is_among (relays_of old i) r ≡ true
   pub whole : (r : ℕ) (i : Id) → IsLeft old gives cells r i → is_among (relays_of new i) r ≡ true
 
--- f 0 to f (n - 1)
-abbrev pub first_of : {A : Type 0} → (ℕ → A) → ℕ → List A
-first_of f zero = []
-first_of f (suc n) = first_of f n ++ f n ∷ []
-
--- the relays whose offers of its id a cell with this give strikes
-abbrev pub struck_beside : List (Id × List ℕ) → Cell → Id × ℕ → List ℕ
-struck_beside offers Done g = relays_of offers g.0
-struck_beside offers Missed g = g.1 ∷ []
-struck_beside offers c g = []
-
 -- what the cells with these gives strike
 abbrev pub struck_of : List (Id × List ℕ) → List (Id × ℕ) → List Cell → List (Id × List ℕ)
-struck_of offers gives cells = first_of (λ k. ((slice_index_or gives k no_give).0, struck_beside offers (slice_index_or cells k Free) (slice_index_or gives k no_give))) (length gives)
+struck_of offers gives cells = first_of (λ k. ((slice_index_or gives k no_give).0, gone_beside offers (slice_index_or cells k Free) (slice_index_or gives k no_give))) (length gives)

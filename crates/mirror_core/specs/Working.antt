@@ -13,6 +13,7 @@ use Rattle.mirror_core.specs.declared.worker.Stop.{Stop}
 use Rattle.mirror_core.specs.declared.worker.Stop.TheVariants as ended
 use Rattle.mirror_core.specs.Fetching.{Fetching, fetched, WasGiven, WasMissed}
 use Rattle.mirror_core.specs.Batches.{SameLane}
+use Rattle.mirror_core.specs.Asked.{AreIdsOf, asked_in}
 
 -- a refused insert ends a worker so
 abbrev pub stop_of : {J : Type 0} → InsertFault J → Stop J
@@ -49,6 +50,7 @@ pub record Worked {J : Type 0} (cells : List (Id × ℕ)) (old new : LaneView) (
   pub held : new.own.held ≡ []
   pub appended : after ≡ before ++ fetched before after
   pub few : (g : Fetching) → Contains (fetched before after) g → length g.asked ≤ 100
+  pub asked : AreIdsOf cells new.own.relay 0 (length cells) (asked_in (fetched before after))
   pub ends : Ends cells (fetched before after) new.own
   pub won : is_through stop ≡ true → (i : ℕ) → Contains new.own.won i → Contains new.own.ended (i, Done) ⊎ Contains new.own.ended (i, Missed)
   pub seen : is_through stop ≡ true → (i : ℕ) → i < length cells → slice_index (relays cells) i ≡ new.own.relay → Contains new.own.won i ⊎ ((c : Cell) × (c ≢ Free) × Contains new.own.met (i, c))

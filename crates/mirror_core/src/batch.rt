@@ -2,6 +2,7 @@
 
 ghost use Rattle.std.specs.Prelude.{◌≡◌, ◌<◌, ◌≤◌, ◌+◌, ◌^◌, [], ◌∷◌, ℕ, length, drop, Contains, IfOk, OnErr};
 ghost use Rattle.mirror_core.specs.Batches.{Batched, Holds, SameLane};
+ghost use Rattle.mirror_core.specs.Asked.{AreIdsOf};
 
 use claim_board::{Board, Claimed, Lane};
 use neg_codec::Id;
@@ -32,6 +33,7 @@ fn claim_next(board: &Board, lane: &mut Lane, batch: &mut Batch)
     ensures same { SameLane lane.old lane.new }
     ensures ended { lane.new.own.ended ≡ lane.old.own.ended }
     ensures batched { Batched board.now.cells batch.new.next batch.new.cells.items batch.new.ids.items lane.new.own }
+    ensures asked { (first : ℕ) → AreIdsOf board.now.cells lane.old.own.relay first batch.old.next batch.old.ids.items → AreIdsOf board.now.cells lane.old.own.relay first batch.new.next batch.new.ids.items }
 {
     let at = batch.next;
     batch.next = at + 1;
@@ -62,6 +64,7 @@ pub(crate) fn fill(
     ensures batched { IfOk result (λ b. Batched board.now.cells b.next b.cells.items b.ids.items lane.new.own) }
     ensures next { IfOk result (λ b. next < length board.now.cells → next < b.next) }
     ensures few { IfOk result (λ b. length b.ids.items ≤ 100) }
+    ensures asked { IfOk result (λ b. AreIdsOf board.now.cells lane.old.own.relay next b.next b.ids.items) }
     ensures err { OnErr result (lane.new ≡ lane.old) }
 {
     let mut batch = Batch {

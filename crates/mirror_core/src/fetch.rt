@@ -5,6 +5,7 @@ ghost use Rattle.claim_board.specs.Rules.{named};
 ghost use Rattle.claim_board.specs.Views.{placed_at};
 ghost use Rattle.mirror_core.specs.Three.{AllThree};
 ghost use Rattle.mirror_core.specs.Fetched.{EachEnds, Fetches, logs_gained};
+ghost use Rattle.mirror_core.specs.Asked.{AskInOrder};
 
 use crate::source::Source;
 use crate::worker::Stop;
@@ -81,6 +82,7 @@ pub fn fetch_all<
     requires ready { All (λ s. S.faults s < 2 ^ 64 - 1) sources.old }
     ensures cells { IfOk result (λ r. EachEnds board.cells board.lanes (logs_gained S.log sources.old sources.new) r.stops.items r.cells.items) }
     ensures sources { IfOk result (λ r. AllThree (λ s t stop. Fetches (S.log s) (S.log t) (S.faults s) (S.faults t) stop × S.becomes s t) sources.old sources.new r.stops.items) }
+    ensures asked { IfOk result (λ _. AskInOrder board.cells board.lanes (logs_gained S.log sources.old sources.new)) }
     ensures lanes { result ≡ Err FetchFault.Lanes → length lanes.items ≢ 0 → length lanes.items ≢ length sources.old }
     ensures memory { result ≡ Err FetchFault.Memory → length lanes.items ≡ length sources.old }
     ensures paired { IfOk result (λ _. (0 < length lanes.items) × (length lanes.items ≡ length sources.old)) }

@@ -3,7 +3,8 @@
 ghost use Rattle.std.specs.Prelude.{◌≡◌, ◌<◌, length, map, IfOk, OnErr};
 ghost use Rattle.sharing.specs.declared.TheConstants.{RELAYS};
 ghost use Rattle.sharing.specs.Offers.{Ascend};
-ghost use Rattle.mirror_core.specs.Next.{struck_beside, struck_of, IsLess, IsNextPlan};
+ghost use Rattle.fetch_plan.specs.LeftOut.{gone_beside};
+ghost use Rattle.mirror_core.specs.Next.{struck_of, IsLess, IsNextPlan};
 
 use fetch_plan::{Cell, Plan, plan};
 use neg_codec::Id;
@@ -13,7 +14,7 @@ use std::alloc::{AllocError, Global};
 /// The relays whose offers of its id a cell strikes: all where it is done, its own where it is missed.
 fn struck_relays(table: &OfferTable, cell: Cell, give: (Id, u16)) -> RelaySet
     requires { give.1 < RELAYS }
-    ensures { result ≡ struck_beside table.now.offers cell give }
+    ensures { result ≡ gone_beside table.now.offers cell give }
 {
     match cell {
         Cell::Done => table.offers(&give.0),

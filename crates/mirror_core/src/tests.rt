@@ -5,7 +5,7 @@ ghost use Rattle.std.specs.Prelude.{◌≡◌, ℕ, ◌+◌, ◌<◌, ◌^◌, �
 use super::*;
 use item_roll::Roll;
 use neg_codec::{Id, Item};
-use neg_session::{LocalPeer, Pair, Peer, PeerFault, SessionFault, SessionLimits};
+use neg_session::{LocalPeer, Outcome, Pair, Peer, PeerFault, SessionFault, SessionLimits};
 use offer_table::Bases;
 use sharing::RELAYS;
 use std::alloc::Global;
@@ -188,7 +188,14 @@ fn pair_of(alloc: Global, question: &[u8], reply: &[u8]) -> Result<Pair, PeerFau
     })
 }
 
-/// A peer that gives one answer, once another one was asked. Without an answer it fails.
+/// What a peer's flag is once it was told that its session finished.
+const FINISHED: u64 = 2;
+
+/// What it is once it was told that its session failed.
+const FAILED: u64 = 3;
+
+/// A peer that gives one answer, once another one was asked. Without an answer it fails. Its flag tells that it was asked, and then
+/// how its session ended.
 #[derive(Drop)]
 struct Waiting<'a, C> {
     alloc: Global,
@@ -264,6 +271,11 @@ impl<C: Clock> Peer for Waiting<'_, C> {
     fn failures(&self) -> u64 {
         self.failures
     }
+
+    fn ended(&self, end: Result<&Outcome, SessionFault>) {
+        let told = if end.is_ok() { FINISHED } else { FAILED };
+        self.mine.store(told, Ordering::SeqCst);
+    }
 }
 
 #[test]
@@ -286,10 +298,10 @@ fn two_sessions_meet(rt: HostRuntime) -> Result<(), Fail> {
 #[test]
 fn one_fails(rt: HostRuntime) -> Result<(), Fail> {
     let alloc = rt.alloc();
-    let set = AtomicU64::new(1);
+    let (one, two) = (AtomicU64::new(1), AtomicU64::new(1));
     let mut peers = [
-        Waiting::new(alloc, &rt, &set, &set, None),
-        Waiting::new(alloc, &rt, &set, &set, Some(LISTS_ONE)),
+        Waiting::new(alloc, &rt, &one, &two, None),
+        Waiting::new(alloc, &rt, &two, &one, Some(LISTS_ONE)),
     ];
     let mine = roll_of(alloc, b"")?;
     let limits = SessionLimits::default();
@@ -300,5 +312,7 @@ fn one_fails(rt: HostRuntime) -> Result<(), Fail> {
     assert!(rt; !done.table.reported().has(0));
     assert!(rt; done.table.reported().has(1));
     assert_eq!(rt; done.plan.relay_of(&Id([1; 32])), Some(1));
+    assert_eq!(rt; one.load(Ordering::SeqCst), FAILED);
+    assert_eq!(rt; two.load(Ordering::SeqCst), FINISHED);
     Ok(())
 }

@@ -5,6 +5,7 @@ ghost use Rattle.std.specs.Arc.{arc_value};
 ghost use Rattle.mirror_core.specs.Fetching.{fetching, ids_of};
 ghost use Rattle.mirror_core.specs.Batches.{Batched, SameLane, EndsCell, Settles};
 ghost use Rattle.mirror_core.specs.Working.{is_through, stop_of, IsUnused, Logs, Worked};
+ghost use Rattle.mirror_core.specs.Asked.{AsksOnce};
 
 use crate::batch::{Batch, fill, release_from};
 use crate::source::{Source, SourceFault};
@@ -130,6 +131,7 @@ fn fetch_batch<R: Wait, J: Naming, D: Wait + Drop, S: Source>(
     requires ready { S.faults source.old < 2 ^ 64 - 1 }
     ensures same { SameLane lane.old lane.new }
     ensures log { Logs board.now.cells lane.old.own lane.new.own (S.log source.old) (S.log source.new) }
+    ensures asked { AsksOnce batch.now.ids.items (S.log source.old) (S.log source.new) }
     ensures batched { OnOk result (Batched board.now.cells batch.now.next [] [] lane.new.own) }
     ensures faults { OnOk result (S.faults source.new ≡ S.faults source.old) }
     ensures held { lane.new.own.held ≡ [] }

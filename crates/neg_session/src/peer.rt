@@ -3,6 +3,8 @@
 ghost use Rattle.std.specs.Prelude.{◌≡◌, ℕ, ◌+◌, ◌<◌, ◌^◌, ◌-◌, List, [], ◌∷◌, ◌++◌, IfOk, IfErr, OnErr, Err};
 ghost use Rattle.neg_session.specs.Exchange.{Exchange, exchange};
 
+use crate::fault::SessionFault;
+use neg_initiator::Outcome;
 use std::alloc::{AllocError, AllocFailed};
 use std::marker::Model;
 use thiserror::Error;
@@ -86,6 +88,11 @@ pub trait Peer {
     /// How often it failed.
     fn failures(&self) -> u64
         ensures { result ≡ faults self.now };
+
+    /// Is told how a session with it ended.
+    fn ended(&self, end: Result<&Outcome, SessionFault>) {
+        let _ = end;
+    }
 
     ghost stays: { (p : Self) → becomes p p };
 

@@ -2,6 +2,8 @@ use Rattle.std.proofs.Common.{◌≡◌, ℕ, ◌+◌, List, Some, sym, ap, ◌�
 use Rattle.neg_codec.specs.declared.Id.{Id}
 use Rattle.claim_board.specs.declared.records.LaneRecord.{LaneRecord}
 use Rattle.mirror_core.specs.Batches.{Batched}
+use Rattle.mirror_core.specs.Asked.{AreIdsOf}
+use Rattle.mirror_core.proofs.Asked.{one_more, up_to}
 use Rattle.mirror_core.proofs.Batches.{batched_met, batched_won}
 use Rattle.mirror_core.proofs.batch.claim_next.Goals as goal
 
@@ -21,3 +23,18 @@ returns-in-Lost-clause-batched c =
     let met = c.in-Lost.ensures.claimed in
     let b = batched_met c.args.board.now.cells n c.args.batch.now.cells.items c.args.batch.now.ids.items c.args.lane.now.own c.requires.batched _ met.0 in
     subst (Batched c.args.board.now.cells (n + 1) c.args.batch.now.cells.items c.args.batch.now.ids.items) (sym met.1) b
+
+pub returns-then-relay-clause-asked : goal.returns-then-relay-clause-asked
+returns-then-relay-clause-asked c = λ first h. up_to c.args.board.now.cells c.args.lane.now.own.relay first c.args.batch.now.next (c.args.batch.now.next + 1) c.args.batch.now.ids.items (omega arith) h
+
+pub returns-in-Won-clause-asked : goal.returns-in-Won-clause-asked
+returns-in-Won-clause-asked c =
+    let own = c.args.lane.now.own in
+    let n = c.args.batch.now.next in
+    let cell = c.cell-relay.result in
+    let same : cell.1 ≡ own.relay = let f = c.if-relay.false in let r = c.relay.ensures in omega arith in
+    λ first h. subst (AreIdsOf c.args.board.now.cells own.relay first (n + 1)) (sym c.push_reserved-in-Won.ensures.items)
+    (one_more c.args.board.now.cells own.relay first n c.args.batch.now.ids.items cell.0 h (c.cell-relay.ensures.value ∙ ap (λ (r : ℕ). Some (cell.0, r)) same))
+
+pub returns-in-Lost-clause-asked : goal.returns-in-Lost-clause-asked
+returns-in-Lost-clause-asked c = λ first h. up_to c.args.board.now.cells c.args.lane.now.own.relay first c.args.batch.now.next (c.args.batch.now.next + 1) c.args.batch.now.ids.items (omega arith) h

@@ -9,7 +9,7 @@ use Rattle.mirror_core.specs.Closing.{AllBack, behind}
 use Rattle.mirror_core.specs.Fetched.{EachEnds, Fetches, logs_gained}
 use Rattle.mirror_core.specs.declared.worker.Stop.{Stop}
 use Rattle.mirror_core.proofs.Six.{six_lengths, written}
-use Rattle.mirror_core.proofs.Ended.{all_new, Works, back_of, fetches_of, each_ends}
+use Rattle.mirror_core.proofs.Ended.{all_new, Works, back_of, fetches_of, each_ends, asked_of}
 use denote.Exit.{no}
 use denote.Param.{param}
 use denote.Param.Send.{param_send, param_sync, arg_send, arg_sync}
@@ -61,3 +61,9 @@ returns-in-Some-clause-sources g c =
     let there = written c.in_ok-stops.stops.len c.in_ok-stops.stops.items c.run_workers.new.stops (omega (arith, long1, stops, c.in_ok-stops.stops.ok.0)) in
     subst (λ (z : List (Stop g.row.J.Denot)). AllThree (λ s t stop. Fetches (g.S.Source.log s) (g.S.Source.log t) (g.S.Source.faults s) (g.S.Source.faults t) stop × g.S.Source.becomes s t) c.args.sources.now c.run_workers.new.sources z) (sym there)
     (fetches_of c.args.board.cells g.S.Source.log g.S.Source.faults g.S.Source.becomes c.args.board.board c.deref_mut.result.now c.run_workers.new.lanes c.args.sources.now c.run_workers.new.sources c.deref_mut-2.result.now c.run_workers.new.stops six)
+
+pub returns-in-Some-clause-asked : goal.returns-in-Some-clause-asked
+returns-in-Some-clause-asked g c =
+    let R = Works {J = g.row.J.Denot} c.args.board.cells g.S.Source.log g.S.Source.faults g.S.Source.becomes c.args.board.board in
+    let six = subst (λ (z : List LaneView). AllSix R z c.run_workers.new.lanes c.args.sources.now c.run_workers.new.sources c.deref_mut-2.result.now c.run_workers.new.stops) (c.deref_mut.ensures.value ∙ c.requires.lanes) c.run_workers.ensures in
+    asked_of c.args.board.cells g.S.Source.log g.S.Source.faults g.S.Source.becomes c.args.board.board c.args.board.lanes c.run_workers.new.lanes c.args.sources.now c.run_workers.new.sources c.deref_mut-2.result.now c.run_workers.new.stops six

@@ -1,7 +1,7 @@
 use Rattle.std.proofs.Common.{◌≡◌, ◌∙◌, sym, ap, subst, map, arith, length, get_or}
 use Rattle.sharing.specs.Offers.{Ascend}
 use Rattle.fetch_plan.specs.declared.cell.Cell.TheVariants.{Free}
-use Rattle.mirror_core.specs.Next.{no_give, first_of, struck_beside}
+use Rattle.fetch_plan.specs.LeftOut.{no_give, first_of, gone_beside}
 use Rattle.mirror_core.proofs.Struck.{struck_ids}
 use Rattle.mirror_core.proofs.next.struck.Goals as goal
 
@@ -9,5 +9,5 @@ pub returns-clause-ascend : goal.returns-clause-ascend
 returns-clause-ascend c =
     let n : c.loop-at.at ≡ length c.args.last.now.gives = omega (arith, c.loop-at-test.false, c.loop-at.auto.at-end, c.len-at-end.ensures.value) in
     subst Ascend (sym (ap (map (λ o. o.0)) (c.loop-at.invariant
-    ∙ ap (first_of (λ k. ((get_or c.args.last.now.gives k no_give).0, struck_beside c.args.table.now.offers (get_or c.args.cells.now k Free) (get_or c.args.last.now.gives k no_give)))) n)
+    ∙ ap (first_of (λ k. ((get_or c.args.last.now.gives k no_give).0, gone_beside c.args.table.now.offers (get_or c.args.cells.now k Free) (get_or c.args.last.now.gives k no_give)))) n)
     ∙ struck_ids c.args.table.now.offers c.args.last.now.gives c.args.cells.now)) c.len-at-end.ensures.plan.ascend

@@ -1,4 +1,4 @@
-use Rattle.std.proofs.Common.{ℕ, List, sym, subst, arith}
+use Rattle.std.proofs.Common.{ℕ, List, refl, sym, subst, inl, inr, arith}
 use Rattle.std.specs.Prelude.{Contains, vec_len}
 use Rattle.std.proofs.lemmas.List.{nil_from_length}
 use Rattle.std.proofs.lemmas.Bool.{eqb-true}
@@ -36,3 +36,15 @@ release_from-requires-clause-within g c =
 
 pub returns-clause-log : goal.returns-clause-log
 returns-clause-log g c = logs_none c.args.board.now.cells c.args.lane.now.own c.release_from.new.lane.own _ _ c.in-Err.ensures.err c.release_from.ensures.same.relay c.release_from.ensures.ended
+
+pub returns-then-is_empty-clause-asked : goal.returns-then-is_empty-clause-asked
+returns-then-is_empty-clause-asked g c = inl refl
+
+pub returns-in-Ok-settle-clause-asked : goal.returns-in-Ok-settle-clause-asked
+returns-in-Ok-settle-clause-asked g c = inr (ids_of c.in-Ok.given.items, rw (← c.deref.ensures.value) c.in-Ok.ensures.ok.0)
+
+pub returns-in-Ok-clause-asked : goal.returns-in-Ok-clause-asked
+returns-in-Ok-clause-asked g c = inr (ids_of c.in-Ok.given.items, rw (← c.deref.ensures.value) c.in-Ok.ensures.ok.0)
+
+pub returns-clause-asked : goal.returns-clause-asked
+returns-clause-asked g c = inl c.in-Err.ensures.err

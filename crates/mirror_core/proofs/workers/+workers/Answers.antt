@@ -1,4 +1,4 @@
-use Rattle.std.proofs.Common.{rules, ◌≡◌, List, ◌++◌}
+use Rattle.std.proofs.Common.{rules}
 use Rattle.claim_board.specs.Views.{LaneView}
 use Rattle.mirror_core.specs.Six.{AllSix}
 use Rattle.mirror_core.proofs.Six.{AllSix-append}
