@@ -6,7 +6,7 @@ ghost use Rattle.std.specs.Cmp.Lexicographic.{slice_cmp};
 ghost use Rattle.neg_codec.specs.Keys.{number_of_bytes};
 
 use crate::Id;
-use crate::items::is_whole;
+use crate::items::id_has_its_length;
 use std::cmp::Ordering;
 
 /// The first eight bytes of an id as a number, the first byte the highest.
@@ -46,8 +46,8 @@ impl Ord for Id {
 
     #[inline(always)]
     fn cmp(&self, other: &Id) -> Ordering {
-        is_whole(&self.0);
-        is_whole(&other.0);
+        id_has_its_length(&self.0);
+        id_has_its_length(&other.0);
         match first_word(self).cmp(&first_word(other)) {
             Ordering::Equal => compare_bytes(self, other),
             order => order,

@@ -8,7 +8,7 @@ use crate::{Id, Item};
 use std::cmp::Ordering;
 
 /// That an array has its length, of bytes.
-pub(crate) fn is_whole(bytes: &[u8; 32])
+pub(crate) fn id_has_its_length(bytes: &[u8; 32])
     ensures { IsId (id_of_bytes bytes.now) }
 {
     let _ = bytes.as_slice();
@@ -20,7 +20,7 @@ impl Id {
         ensures value { result.now ≡ self.now.0 }
         ensures whole { IsId self.now }
     {
-        is_whole(&self.0);
+        id_has_its_length(&self.0);
         &self.0
     }
 }
@@ -30,8 +30,8 @@ impl Item {
     pub fn compare(&self, other: &Item) -> Ordering
         ensures { result ≡ nat_cmp (place self.now) (place other.now) }
     {
-        is_whole(&self.id.0);
-        is_whole(&other.id.0);
+        id_has_its_length(&self.id.0);
+        id_has_its_length(&other.id.0);
         self.cmp(other)
     }
 

@@ -33,14 +33,14 @@ impl Model for Message {
 }
 
 /// That a print has its length, of bytes.
-pub(crate) fn is_print(bytes: &[u8; 16])
+pub(crate) fn print_has_its_length(bytes: &[u8; 16])
     ensures { IsClaim (print bytes.now) }
 {
     let _ = bytes.as_slice();
 }
 
 /// That ids have their lengths, of bytes.
-pub(crate) fn are_ids(list: &[Id])
+pub(crate) fn ids_have_their_lengths(list: &[Id])
     ensures { All IsId list.now }
 {
     for id in list {
@@ -49,26 +49,26 @@ pub(crate) fn are_ids(list: &[Id])
 }
 
 /// That a range has what its parts have by their types.
-pub(crate) fn is_span(range: &Range)
+pub(crate) fn span_has_its_lengths(range: &Range)
     ensures { IsSpan (span_of range.now) }
 {
     let _ = range.upper.edge();
     match &range.payload {
         Payload::Skip => {}
-        Payload::Print(bytes) => is_print(bytes),
+        Payload::Print(bytes) => print_has_its_length(bytes),
         Payload::Ids(list) => {
-            are_ids(list);
+            ids_have_their_lengths(list);
             let _ = list.len();
         }
     }
 }
 
 /// That ranges have what their parts have by their types.
-fn are_spans(ranges: &[Range])
+fn spans_have_their_lengths(ranges: &[Range])
     ensures { All IsSpan (map span_of ranges.now) }
 {
     for range in ranges {
-        is_span(range);
+        span_has_its_lengths(range);
     }
 }
 
@@ -99,7 +99,7 @@ impl Message {
         ensures fault { IfErr result (λ e. first_misplaced (map span_of ranges.items) ≡ Some e.0) }
         ensures hands_back { IfErr result (λ e. e.1 ≡ ranges) }
     {
-        are_spans(&ranges);
+        spans_have_their_lengths(&ranges);
         match misplaced(&ranges) {
             Some(fault) => Err((fault, ranges)),
             None => Ok(Message { ranges }),
@@ -243,7 +243,7 @@ pub fn decode(alloc: Global, bytes: &[u8]) -> Result<Message, CodecFault>
 {
     match message_ranges(alloc, bytes) {
         Ok(ranges) => {
-            are_spans(&ranges);
+            spans_have_their_lengths(&ranges);
             Ok(Message { ranges })
         }
         Err(fault) => Err(fault),

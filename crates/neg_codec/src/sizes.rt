@@ -4,7 +4,7 @@ ghost use Rattle.std.specs.Prelude.{◌≡◌, ◌<◌, ◌≤◌, ◌^◌, leng
 ghost use Rattle.neg_codec.specs.Ranges.{edge_of, claim_of, span_of, IsSpan};
 ghost use Rattle.neg_codec.specs.Encoding.{bound_text, claim_text, range_text, IsShort};
 
-use crate::message::{are_ids, is_print, is_span};
+use crate::message::{ids_have_their_lengths, print_has_its_length, span_has_its_lengths};
 use crate::writing::len_kept;
 use crate::{Bound, Key, Payload, Range};
 use neg_varint::spell;
@@ -43,11 +43,11 @@ fn payload_len(payload: &Payload) -> usize
     match payload {
         Payload::Skip => 1,
         Payload::Print(print) => {
-            is_print(print);
+            print_has_its_length(print);
             17
         }
         Payload::Ids(list) => {
-            are_ids(list);
+            ids_have_their_lengths(list);
             let (_, count) = spell(list.len() as u64);
             1 + count + 32 * list.len()
         }
@@ -63,7 +63,7 @@ impl Range {
         ensures value { result ≡ length (range_text before (span_of self.now)) }
         ensures span { IsSpan (span_of self.now) }
     {
-        is_span(self);
+        span_has_its_lengths(self);
         bound_len(before, &self.upper) + payload_len(&self.payload)
     }
 }

@@ -15,10 +15,10 @@ pub returns-in-Skip-clause-value : goal.returns-in-Skip-clause-value
 returns-in-Skip-clause-value c = sym (said _ _ (ap claim_of c.in-Skip.is) ∙ skip_len)
 
 pub returns-in-Print-clause-value : goal.returns-in-Print-clause-value
-returns-in-Print-clause-value c = omega (arith, said _ _ (ap claim_of c.in-Print.is), print_len c.in-Print.print, c.is_print.ensures.0)
+returns-in-Print-clause-value c = omega (arith, said _ _ (ap claim_of c.in-Print.is), print_len c.in-Print.print, c.print_has_its_length.ensures.0)
 
 fits : (c : goal.After-len-in-Ids) → All IsId c.in-Ids.list.items
-fits c = subst (λ (list : List Id). All IsId list) c.deref.ensures.value c.are_ids.ensures
+fits c = subst (λ (list : List Id). All IsId list) c.deref.ensures.value c.ids_have_their_lengths.ensures
 
 pub returns-in-Ids-clause-value : goal.returns-in-Ids-clause-value
 returns-in-Ids-clause-value c =

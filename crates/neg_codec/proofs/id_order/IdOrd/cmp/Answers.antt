@@ -5,6 +5,6 @@ use Rattle.neg_codec.proofs.id_order.IdOrd.cmp.Goals as goal
 
 pub returns-in_default : goal.returns-in_default
 returns-in_default c =
-    by_words c.args.self.now c.args.other.now c.is_whole.ensures c.is_whole-2.ensures c.cmp.result
+    by_words c.args.self.now c.args.other.now c.id_has_its_length.ensures c.id_has_its_length-2.ensures c.cmp.result
     (c.cmp.ensures ∙ ap (λ n. nat_cmp n c.first_word-2.result) c.first_word.ensures ∙ ap (nat_cmp _) c.first_word-2.ensures)
     c.in_default.not-Equal

@@ -9,7 +9,7 @@ use Rattle.neg_codec.proofs.message.Message.of.Goals as goal
 pub invariant_of-result : goal.invariant_of-result
 invariant_of-result c = record {
   ascends = ascends_if_placed (map span_of c.args.ranges.items) (ap (λ (x : List Range). first_misplaced (map span_of x)) (sym c.deref-2.ensures.value) ∙ sym c.misplaced.ensures ∙ c.in-None.is);
-  fits = subst (λ (x : List Range). All IsSpan (map span_of x)) c.deref.ensures.value c.are_spans.ensures;
+  fits = subst (λ (x : List Range). All IsSpan (map span_of x)) c.deref.ensures.value c.spans_have_their_lengths.ensures;
 }
 
 pub returns-in-Some-clause-in_place : goal.returns-in-Some-clause-in_place

@@ -4,7 +4,7 @@ use Rattle.std.proofs.lemmas.List.{take_all}
 use Rattle.std.proofs.lemmas.List.Elements.{All-more}
 use Rattle.neg_codec.specs.declared.Id.{Id}
 use Rattle.neg_codec.specs.Keys.{IsId}
-use Rattle.neg_codec.proofs.message.are_ids.Goals as goal
+use Rattle.neg_codec.proofs.message.ids_have_their_lengths.Goals as goal
 
 pub loop-id-preserved : goal.loop-id-preserved
 loop-id-preserved c = All-more IsId c.args.list.now c.loop-id.id-index _ c.loop-id-test.true c.loop-id.invariant c.as_bytes.ensures.whole
