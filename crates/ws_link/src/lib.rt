@@ -3,6 +3,7 @@
 
 mod client;
 mod fault;
+mod gathered;
 mod peer;
 mod serve;
 mod source;

@@ -5,6 +5,7 @@ ghost use Rattle.ws_link.specs.Faults.{IsOfStream};
 
 use crate::client::{close, config};
 use crate::fault::LinkFault;
+use crate::gathered::Gathered;
 use event_store::{Desk, Naming, Reader};
 use nostr_event::{Event, Text};
 use nostr_wire::{FromRelay, write_relay};
@@ -25,8 +26,8 @@ const MOST_ROUNDS: u32 = 100;
 
 /// Does the server's handshake, and serves the client (NIP-01, NIP-77) until it closes, or until the connection has been read
 /// 1,000,000 times: then it closes the connection itself. It gives the number of texts served. After each message, and where a
-/// read answers `WouldBlock` or `TimedOut`, it sends the client what was published for it. The desk is locked for one insert
-/// at a time.
+/// read answers `WouldBlock` or `TimedOut`, it sends the client what was published for it. What answers messages that came
+/// together is sent together, before more is read. The desk is locked for one insert at a time.
 pub fn serve_conn<W: Wait, S: Read + Write + Drop, J: Naming, D: Wait + Drop>(
     rt: &W,
     alloc: Global,
@@ -39,17 +40,40 @@ pub fn serve_conn<W: Wait, S: Read + Write + Drop, J: Naming, D: Wait + Drop>(
     ensures fault { IfErr result IsOfStream }
     ensures reader { IsPrefix reader.old reader.new }
 {
-    let mut socket = accepted(alloc, stream)?;
+    let mut socket = accepted(alloc, Gathered::new(alloc, stream))?;
+    let served = serve(rt, alloc, &mut socket, reader, desk, limits);
+    // What was answered goes out, also where a fault ended the connection.
+    let sent = socket.get_mut().send();
+    let texts = served?;
+    match sent {
+        Ok(()) => Ok(texts),
+        Err(error) => Err(Error::Io(error).into()),
+    }
+}
+
+/// Serves the client until it closes, or until the connection has been read 1,000,000 times.
+fn serve<W: Wait, S: Read + Write + Drop, K: MaskKeys + Drop, J: Naming, D: Wait + Drop>(
+    rt: &W,
+    alloc: Global,
+    socket: &mut WebSocket<S, K>,
+    reader: &mut Reader<J>,
+    desk: &Mutex<Desk<J, D>>,
+    limits: RelayLimits,
+) -> Result<u64, LinkFault>
+    ensures served { IfOk result (λ n. n ≤ 1000000) }
+    ensures fault { IfErr result IsOfStream }
+    ensures reader { IsPrefix reader.old reader.new }
+{
     let mut conn = Conn::new(alloc, limits);
     let mut texts = 0;
     for _read in 0..MOST_READS {
-        match go_on(rt, alloc, &mut socket, &mut conn, reader, desk)? {
+        match go_on(rt, alloc, socket, &mut conn, reader, desk)? {
             Went::Text => texts += 1,
             Went::Other => {}
             Went::Closed => return Ok(texts),
         }
     }
-    close(&mut socket)?;
+    close(socket)?;
     Ok(texts)
 }
 
@@ -127,7 +151,7 @@ fn unheard(error: Error) -> Result<Heard, LinkFault>
     }
 }
 
-/// Reads once, and sends what that brings about and what was published for the client.
+/// Reads once, and puts what that brings about and what was published for the client behind what waits to be sent.
 fn go_on<W: Wait, S: Read + Write + Drop, K: MaskKeys + Drop, J: Naming, D: Wait + Drop>(
     rt: &W,
     alloc: Global,
@@ -146,7 +170,6 @@ fn go_on<W: Wait, S: Read + Write + Drop, K: MaskKeys + Drop, J: Naming, D: Wait
         return Ok(went);
     }
     catch_up(alloc, socket, conn, reader)?;
-    socket.flush()?;
     Ok(went)
 }
 
