@@ -45,15 +45,21 @@ impl<F: io::Write + OpenFile + Drop> NewFile<F> {
         let path = String::from_str(alloc, path)?;
         let beside = format!(in alloc; "{path}{BESIDE}")?;
         let file = File::create(rt, beside.as_str())?;
-        if let Some(permissions) = permissions {
-            file.set_permissions(permissions)?;
+        let new = NewFile { file, path, beside };
+        let Some(permissions) = permissions else {
+            return Ok(new);
+        };
+        match new.file.set_permissions(permissions) {
+            Ok(()) => Ok(new),
+            Err(error) => {
+                let _ = new.discard(rt);
+                Err(error)
+            }
         }
-        Ok(NewFile { file, path, beside })
     }
 
-    /// Writes the events, and then takes the other file's place.
-    pub fn save<R: Files<File = F>>(
-        mut self,
+    fn replace<R: Files<File = F>>(
+        &mut self,
         rt: &R,
         alloc: Global,
         events: &EventList,
@@ -61,6 +67,21 @@ impl<F: io::Write + OpenFile + Drop> NewFile<F> {
         write_lines(alloc, &mut self.file, events)?;
         self.file.sync_all()?;
         fs::rename(rt, self.beside.as_str(), self.path.as_str())
+    }
+
+    /// Writes the events, and then takes the other file's place. After a fault that one is as it was, and no other is left
+    /// beside it, where that can be removed.
+    pub fn save<R: Files<File = F>>(
+        mut self,
+        rt: &R,
+        alloc: Global,
+        events: &EventList,
+    ) -> io::Result<()> {
+        let saved = self.replace(rt, alloc, events);
+        if saved.is_err() {
+            let _ = self.discard(rt);
+        }
+        saved
     }
 
     /// Leaves the other file as it is.

@@ -3,8 +3,6 @@ ghost use Rattle.std.specs.Prelude.{◌≡◌, [], IfOk, OnOk, string_bytes};
 ghost use Rattle.std.specs.Arc.{arc_value};
 ghost use Rattle.std.specs.Io.KnownBytes.{Appends};
 ghost use Rattle.mirror_run.specs.Waiting.{Sends};
-ghost use Rattle.serde_json.specs.Written.{compact_text};
-ghost use Rattle.nostr_event.specs.EventJson.{object_of};
 ghost use Rattle.event_file.specs.Text.{line_of, text_of};
 
 use event_store::EventList;
@@ -18,20 +16,11 @@ use std::sync::Arc;
 /// How many bytes wait before they are written.
 const WAITING: usize = 1 << 16;
 
-/// The compact JSON of an event.
-fn json(alloc: Global, event: &Event) -> Result<String, AllocError>
-    ensures { IfOk result (λ s. string_bytes s ≡ compact_text (object_of event.now)) }
-{
-    let value = event.to_json(alloc)?;
-    let text = value.to_string(alloc)?;
-    Ok(text)
-}
-
 /// The line of an event, with the line feed at its end.
 fn line(alloc: Global, event: &Event) -> Result<String, AllocError>
     ensures { IfOk result (λ s. string_bytes s ≡ line_of event.now) }
 {
-    let mut text = json(alloc, event)?;
+    let mut text = event.to_text(alloc)?;
     text.push_str("\n")?;
     Ok(text)
 }

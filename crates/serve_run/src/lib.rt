@@ -5,8 +5,10 @@ mod client;
 mod hall;
 mod refusal;
 mod run;
+mod saving;
 mod workers;
 
 pub use hall::{Hall, serve_all, serve_beside};
 pub use refusal::{Refusal, read_refusal, write_refusal};
 pub use run::{fill, open_hall, readers_for, run_serve, say};
+pub use saving::save;

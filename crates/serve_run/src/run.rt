@@ -4,10 +4,10 @@ ghost use Rattle.std.specs.Prelude.{◌≡◌};
 
 use crate::hall::{Hall, serve_all};
 use crate::refusal::{Refusal, read_refusal, write_refusal};
+use crate::saving::save;
 use event_file::{NewFile, insert_lines, read_file};
 use event_store::{Blank, Desk, Naming, Reader, open_store};
 use mirror_settings::{Address, Settings, SettingsKey, read_settings};
-use nostr_filter::Filter;
 use std::alloc::Global;
 use std::io::Write;
 use std::marker::Brand;
@@ -96,7 +96,7 @@ pub fn open_hall<K: Drop, R: Net<Listener = TcpListener, Stream = TcpStream>, W:
     Ok(Hall::new(listener, conns, push, desk))
 }
 
-/// Tells how many connections and events there were, and writes the events file.
+/// Writes the events file, and tells how many connections and events there were.
 fn end<J: Naming, R: Files, W: Write>(
     rt: &R,
     alloc: Global,
@@ -105,14 +105,9 @@ fn end<J: Naming, R: Files, W: Write>(
     file: NewFile<R::File>,
     writer: &mut W,
 ) -> Result<(), Refusal> {
-    let all = reader.pin(alloc, &Filter::all())?;
-    let events = all.front();
+    let events = save(rt, alloc, reader, file)?;
     let text = format!(in alloc; "served {conns}\nevents {events}\n")?;
-    say(writer, text.as_str())?;
-    match file.save(rt, alloc, all.events()) {
-        Ok(()) => Ok(()),
-        Err(error) => Err(write_refusal(&error)),
-    }
+    say(writer, text.as_str())
 }
 
 /// Does the job in a store of this name.

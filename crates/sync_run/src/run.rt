@@ -13,9 +13,10 @@ use fetch_plan::Plan;
 use mirror_core::{End, SyncFault, Synced, next_plan, sync_plan};
 use mirror_settings::{Settings, SettingsKey, read_settings};
 use neg_session::SessionLimits;
-use nostr_filter::Filter;
 use offer_table::Bases;
-use serve_run::{Hall, Refusal, fill, open_hall, readers_for, say, serve_beside, write_refusal};
+use serve_run::{
+    Hall, Refusal, fill, open_hall, readers_for, save, say, serve_beside, write_refusal,
+};
 use std::alloc::Global;
 use std::io::Write;
 use std::marker::Brand;
@@ -187,20 +188,6 @@ where
     say(writer, counts_text(alloc, &counts)?.as_str())
 }
 
-/// Writes the events file.
-fn save<J: Naming, R: Files>(
-    rt: &R,
-    alloc: Global,
-    reader: &mut Reader<J>,
-    file: NewFile<R::File>,
-) -> Result<(), Refusal> {
-    let all = reader.pin(alloc, &Filter::all())?;
-    match file.save(rt, alloc, all.events()) {
-        Ok(()) => Ok(()),
-        Err(error) => Err(write_refusal(&error)),
-    }
-}
-
 /// Does the job over a store that isn't served, and writes the file. The desk is there until it is written.
 fn run_alone<
     J: Naming + Send + Sync,
@@ -223,7 +210,10 @@ where
 {
     let desk = Mutex::new(desk);
     match run_all(rt, alloc, settings, reader, &desk, writer, progress) {
-        Ok(()) => save(rt, alloc, reader, file),
+        Ok(()) => {
+            save(rt, alloc, reader, file)?;
+            Ok(())
+        }
         Err(refusal) => {
             let _ = file.discard(rt);
             Err(refusal)
@@ -298,7 +288,8 @@ fn run_serving<
     let saved = save(rt, alloc, reader, file);
     drop(hall);
     ran?;
-    saved
+    saved?;
+    Ok(())
 }
 
 /// How many readers the job takes: one of its own, and where it listens one for each connection that is served at once.
