@@ -16,6 +16,7 @@ import argparse
 import json
 import os
 import random
+import socket
 import subprocess
 import sys
 import tempfile
@@ -74,6 +75,40 @@ class Serving:
         if self.child.wait() != 0:
             raise SystemExit("a relay ended with status %d" % self.child.returncode)
         return said
+
+
+class Cutting:
+    """A way to a relay's port. The second connection is closed once so many bytes came from the relay."""
+
+    def __init__(self, port, most):
+        self.server = socket.create_server(("127.0.0.1", 0))
+        self.port = self.server.getsockname()[1]
+        threading.Thread(target=self.pass_on, args=(port, most), daemon=True).start()
+
+    def pass_on(self, port, most):
+        for limit in (None, most):
+            here, _from = self.server.accept()
+            there = socket.create_connection(("127.0.0.1", port))
+            for one, other, end in ((here, there, None), (there, here, limit)):
+                threading.Thread(target=self.copy, args=(one, other, end), daemon=True).start()
+
+    @staticmethod
+    def copy(one, other, most):
+        came = 0
+        try:
+            while most is None or came < most:
+                text = one.recv(65536)
+                if not text:
+                    break
+                came += len(text)
+                other.sendall(text)
+        except OSError:
+            pass
+        for end in (one, other):
+            try:
+                end.shutdown(socket.SHUT_RDWR)
+            except OSError:
+                pass
 
 
 def put(client, lines, window=64):
@@ -145,16 +180,19 @@ def row_of_connecting(program, folder, times):
     return found, times
 
 
-def row_of_syncing(program, folder, lines, relays, share, workers, partner):
+def row_of_syncing(program, folder, lines, relays, share, partner, cut=None):
     rng = random.Random(3)
     held = [[line for line in lines if rng.random() < 0.5] for _ in range(relays)]
-    # One session, one connection a worker, for each round one more.
-    serving = [Serving(partner, folder, "relay%d" % i, 1 + workers, part) for i, part in enumerate(held)]
+    # A session, and a connection that fetches.
+    serving = [Serving(partner, folder, "relay%d" % i, 2, part) for i, part in enumerate(held)]
+    ports = [it.port for it in serving]
+    if cut is not None:
+        ports[0] = Cutting(ports[0], cut).port
     mine = os.path.join(folder, "mine.jsonl")
     own = [line for line in lines if rng.random() < share]
     with open(mine, "w", encoding="utf-8") as text:
         text.writelines(own)
-    conf = settings(os.path.join(folder, "sync.toml"), events=mine, relays=["127.0.0.1:%d" % it.port for it in serving], workers=workers)
+    conf = settings(os.path.join(folder, "sync.toml"), events=mine, relays=["127.0.0.1:%d" % port for port in ports])
     child = subprocess.Popen([program, "sync", conf], stdout=subprocess.PIPE)
     said = child.stdout.read().decode()
     _, status, usage = os.wait4(child.pid, 0)
@@ -164,8 +202,11 @@ def row_of_syncing(program, folder, lines, relays, share, workers, partner):
     for relay in serving:
         relay.child.kill()
         relay.child.wait()
-    given = [line for line in said.splitlines() if line.startswith(("given", "missed", "left", "least"))]
-    return (usage.ru_utime + usage.ru_stime, usage.ru_maxrss / 1024), " ".join(given)
+    told = dict(line.rsplit(" ", 1) for line in said.splitlines() if line.startswith(("given", "missed", "left", "least")))
+    if cut is not None:
+        # How far the relay comes before it closes isn't the same each time.
+        told = {"least": told["least"], "planned": int(told["given"]) + int(told["left"])}
+    return (usage.ru_utime + usage.ru_stime, usage.ru_maxrss / 1024), str(told)
 
 
 def filters_of(lines, rng):
@@ -186,7 +227,7 @@ def main():
     parser.add_argument("--baseline", help="a plain program to compare with")
     parser.add_argument("--mirror", default=program_of("mirror_app"))
     parser.add_argument("--events", type=int, default=50000)
-    parser.add_argument("--only", default="put1,put8,ids,kind,author,tag,newest,connect,sync")
+    parser.add_argument("--only", default="put1,put8,ids,kind,author,tag,newest,connect,sync,sync16,cut")
     parser.add_argument("--runs", type=int, default=2)
     options = parser.parse_args()
     programs = [options.mirror] + ([options.baseline] if options.baseline else [])
@@ -200,7 +241,9 @@ def main():
             "put1": lambda it: row_of_putting(it, folder, lines, 1),
             "put8": lambda it: row_of_putting(it, folder, lines, 8),
             "connect": lambda it: row_of_connecting(it, folder, 200),
-            "sync": lambda it: row_of_syncing(it, folder, lines * 1, 4, 0.6, 1, programs[-1]),
+            "sync": lambda it: row_of_syncing(it, folder, lines, 4, 0.6, programs[-1]),
+            "sync16": lambda it: row_of_syncing(it, folder, lines, 16, 0.6, programs[-1]),
+            "cut": lambda it: row_of_syncing(it, folder, lines, 4, 0.6, programs[-1], 1000000),
         }
         for name, asked in filters.items():
             rows[name] = lambda it, asked=asked: row_of_asking(it, folder, lines, asked)

@@ -7,30 +7,14 @@ It starts a relay over an empty file, puts an event in with one client, asks for
 other puts another in, opens a Negentropy session, says goodbye, and reads the file that the relay has written.
 """
 import asyncio
-import hashlib
 import json
 import os
-import subprocess
-import sys
 import tempfile
 
 import websocket
 import websockets
 
-ROOT = os.path.dirname(os.path.dirname(os.path.abspath(__file__)))
-
-
-def event(time, content):
-    """An event with a right id. Nobody checks its signature."""
-    draft = [0, "11" * 32, time, 1, [["t", "test"]], content]
-    text = json.dumps(draft, ensure_ascii=False, separators=(",", ":"))
-    return {"id": hashlib.sha256(text.encode()).hexdigest(), "pubkey": draft[1], "created_at": time, "kind": 1,
-            "tags": draft[4], "content": content, "sig": "22" * 64}
-
-
-def same(found, wanted):
-    if found != wanted:
-        raise SystemExit("wanted %s\nfound  %s" % (json.dumps(wanted), json.dumps(found)))
+from told import event, program, read, same, settings, start
 
 
 async def by_websockets(port, first, second):
@@ -73,16 +57,11 @@ def by_websocket(port, new):
 
 
 def main():
-    program = sys.argv[1] if len(sys.argv) > 1 else os.path.join(ROOT, "crates/mirror_app/out/mirror_app")
     first, second = event(1700000000, "first \u00e9 \u4e16"), event(1700000001, "second")
     with tempfile.TemporaryDirectory() as folder:
-        file = os.path.join(folder, "events.jsonl")
-        conf = os.path.join(folder, "relay.toml")
-        with open(conf, "w") as text:
-            text.write('events = "%s"\nlisten = "127.0.0.1:0"\nconns = 3\npush_ms = 50\n' % file)
-        relay = subprocess.Popen([program, "serve", conf], stdout=subprocess.PIPE, text=True)
+        conf = settings(folder, "relay", listen="127.0.0.1:0", conns=3, push_ms=50)
+        relay, port = start(program(), "serve", conf)
         try:
-            port = int(relay.stdout.readline().rsplit(":", 1)[1])
             by_websocket(port, first)
             asyncio.run(asyncio.wait_for(by_websockets(port, first, second), 60))
             same(relay.stdout.read(), "served 3\nevents 2\n")
@@ -90,8 +69,7 @@ def main():
         finally:
             relay.kill()
             relay.wait()
-        with open(file, encoding="utf-8") as text:
-            same([json.loads(line) for line in text], [first, second])
+        same(read(os.path.join(folder, "relay.jsonl")), [first, second])
     print("websockets %s and websocket-client %s: as wanted" % (websockets.__version__, websocket.__version__))
 
 

@@ -14,12 +14,9 @@ import random
 import socket
 import struct
 import subprocess
-import sys
 import tempfile
 
-ROOT = os.path.dirname(os.path.dirname(os.path.abspath(__file__)))
-sys.path.insert(0, os.path.join(ROOT, "bench"))
-from clients import event, same
+from told import ROOT, event, same
 from wire import Client, Gone
 
 # Connections that a relay serves side by side.

@@ -10,39 +10,16 @@ the client's event in its file. Last, a client takes a second over its handshake
 import json
 import os
 import socket
-import subprocess
-import sys
 import tempfile
 import time
 
-ROOT = os.path.dirname(os.path.dirname(os.path.abspath(__file__)))
-sys.path.insert(0, os.path.join(ROOT, "bench"))
-from clients import event, same
+from told import by_id, event, program, read, same, settings, start, written
 from wire import Client
 
 
-def written(path, events):
-    with open(path, "w", encoding="utf-8") as text:
-        text.writelines(json.dumps(it, ensure_ascii=False) + "\n" for it in events)
-
-
-def read(path):
-    with open(path, encoding="utf-8") as text:
-        return [json.loads(line) for line in text]
-
-
-def by_id(events):
-    return sorted(events, key=lambda it: it["id"])
-
-
-def run(program, folder, job, name, *words, **settings):
+def run(path, folder, job, name, *words, **values):
     """Starts a job, which listens, and gives its process and its port."""
-    conf = os.path.join(folder, name + ".toml")
-    settings = dict(events=os.path.join(folder, name + ".jsonl"), listen="127.0.0.1:0", **settings)
-    with open(conf, "w") as text:
-        text.writelines("%s = %s\n" % (key, json.dumps(value)) for key, value in settings.items())
-    child = subprocess.Popen([program, job, conf, *words], stdout=subprocess.PIPE, stderr=subprocess.PIPE, text=True)
-    return child, int(child.stdout.readline().rsplit(":", 1)[1])
+    return start(path, job, settings(folder, name, listen="127.0.0.1:0", **values), *words)
 
 
 def put(client, new):
@@ -50,12 +27,12 @@ def put(client, new):
     same(json.loads(client.read()), ["OK", new["id"], True, ""])
 
 
-def serves_meanwhile(program, folder):
+def serves_meanwhile(path, folder):
     theirs, mine, put_in = [event(1700000000 + n, "theirs") for n in range(300)], event(1, "mine"), event(2, "put in")
     written(os.path.join(folder, "relay.jsonl"), theirs)
     written(os.path.join(folder, "mirror.jsonl"), [mine])
-    relay, port = run(program, folder, "serve", "relay", conns=2)
-    mirror, own = run(program, folder, "sync", "mirror", "--progress", conns=1, push_ms=5,
+    relay, port = run(path, folder, "serve", "relay", conns=2)
+    mirror, own = run(path, folder, "sync", "mirror", "--progress", conns=1, push_ms=5,
                       relays=["127.0.0.1:%d" % port])
     client = Client(own)
     put(client, put_in)
@@ -77,11 +54,11 @@ def serves_meanwhile(program, folder):
     relay.communicate(timeout=60)
 
 
-def ends_when_refused(program, folder):
+def ends_when_refused(path, folder):
     new = event(3, "put in")
     # Its address takes connections and says nothing: the session goes on until it is closed.
     with socket.create_server(("127.0.0.1", 0)) as silent:
-        mirror, own = run(program, folder, "sync", "refused", conns=1000000,
+        mirror, own = run(path, folder, "sync", "refused", conns=1000000,
                           relays=["127.0.0.1:%d" % silent.getsockname()[1]])
         client = Client(own)
         put(client, new)
@@ -99,8 +76,8 @@ def ends_when_refused(program, folder):
     same(read(os.path.join(folder, "refused.jsonl")), [new])
 
 
-def waits_for_handshakes(program, folder):
-    relay, port = run(program, folder, "serve", "slow", conns=1, push_ms=1)
+def waits_for_handshakes(path, folder):
+    relay, port = run(path, folder, "serve", "slow", conns=1, push_ms=1)
     stream = socket.create_connection(("127.0.0.1", port))
     stream.settimeout(10)
     time.sleep(1)
@@ -114,10 +91,10 @@ def waits_for_handshakes(program, folder):
 
 
 def main():
-    program = sys.argv[1] if len(sys.argv) > 1 else os.path.join(ROOT, "crates/mirror_app/out/mirror_app")
+    path = program()
     for part in (serves_meanwhile, ends_when_refused, waits_for_handshakes):
         with tempfile.TemporaryDirectory() as folder:
-            part(os.path.abspath(program), folder)
+            part(path, folder)
         print(part.__name__.replace("_", " "))
 
 

@@ -1,0 +1,102 @@
+#!/usr/bin/env python3
+"""Runs `nostr-mirror serve` and `sync` on this machine, and compares all that they print and write.
+
+    tests/jobs.py [PATH]      (PATH of the program; else the proved build)
+"""
+import os
+import socket
+import tempfile
+
+from told import by_id, done, event, program, read, same, settings, start, written
+
+E = [event(1700000000 + n, "event %d" % n) for n in range(4)]
+
+
+def relays_of(path, folder, *held):
+    """A relay for each list of events, and their addresses. Each serves two connections: a session, and one that fetches."""
+    relays = []
+    for number, events in enumerate(held):
+        name = "relay%d" % number
+        written(os.path.join(folder, name + ".jsonl"), events)
+        relays.append(start(path, "serve", settings(folder, name, listen="127.0.0.1:0", conns=2)))
+    return relays, ["127.0.0.1:%d" % port for _, port in relays]
+
+
+def two_relays_are_mirrored(path, folder):
+    relays, at = relays_of(path, folder, E[:2], E[1:3])
+    written(os.path.join(folder, "mirror.jsonl"), E[:1])
+    told = "relay 0 need 1\nrelay 1 need 2\nleast 1\ngroup 0 1\ngiven 2\nmissed 0\nleft 0\n"
+    same(done(path, "sync", settings(folder, "mirror", relays=at)), (0, told, ""))
+    same(by_id(read(os.path.join(folder, "mirror.jsonl"))), by_id(E[:3]))
+    for relay, _ in relays:
+        same(relay.communicate(timeout=60), ("served 2\nevents 2\n", ""))
+        same(relay.returncode, 0)
+
+
+def a_relay_that_is_away_touches_no_other(path, folder):
+    relays, at = relays_of(path, folder, E[:2])
+    with socket.create_server(("127.0.0.1", 0)) as gone:
+        away = "127.0.0.1:%d" % gone.getsockname()[1]
+    told = "relay 0 failed 1\nrelay 1 need 2\nleast 2\ngroup 1\ngiven 2\nmissed 0\nleft 0\n"
+    same(done(path, "sync", settings(folder, "mirror", relays=[away] + at)), (0, told, ""))
+    same(by_id(read(os.path.join(folder, "mirror.jsonl"))), by_id(E[:2]))
+    same(relays[0][0].communicate(timeout=60)[0], "served 2\nevents 2\n")
+
+
+def a_level_mirror_fetches_nothing(path, folder):
+    relays, at = relays_of(path, folder, E)
+    written(os.path.join(folder, "mirror.jsonl"), E)
+    told = "relay 0 need 0\nleast 0\ngroup\ngiven 0\nmissed 0\nleft 0\n"
+    same(done(path, "sync", settings(folder, "mirror", relays=at)), (0, told, ""))
+    same(read(os.path.join(folder, "mirror.jsonl")), E)
+    relays[0][0].kill()
+    relays[0][0].communicate()
+
+
+def a_filter_and_bases_are_kept(path, folder):
+    relays, at = relays_of(path, folder, E, E)
+    conf = settings(folder, "mirror", relays=at, bases=[5, 0], filter='{"until":%d}' % E[2]["created_at"])
+    told = "relay 0 need 3\nrelay 1 need 3\nleast 5\ngroup 0\ngiven 3\nmissed 0\nleft 0\n"
+    same(done(path, "sync", conf), (0, told, ""))
+    same(by_id(read(os.path.join(folder, "mirror.jsonl"))), by_id(E[:3]))
+    # Nothing was to be asked of the first: no second connection came.
+    for relay, _ in relays:
+        relay.kill()
+        relay.communicate()
+
+
+def refusals_say_what_and_where(path, folder):
+    def refused(job, text, events="", **values):
+        with open(os.path.join(folder, "it.jsonl"), "w") as file:
+            file.write(events)
+        same(done(path, job, settings(folder, "it", **values)), (1, "", "refused: %s\n" % text))
+        same(open(os.path.join(folder, "it.jsonl")).read(), events)
+
+    refused("serve", "settings listen", conns=1)
+    refused("serve", "settings conns", listen="127.0.0.1:0", conns=0)
+    refused("serve", "settings push_ms", listen="127.0.0.1:0", conns=1, push_ms=60001)
+    refused("sync", "settings relays", relays=[])
+    refused("sync", "settings relays", relays=["127.0.0.1:1"] * 257)
+    refused("sync", "settings filter", relays=["127.0.0.1:1"], filter="{")
+    refused("sync", "settings bases", relays=["127.0.0.1:1"], bases=[1, 2])
+    refused("sync", "settings rounds", relays=["127.0.0.1:1"], rounds=17)
+    refused("serve", "file line 2", events="\n{}\n", listen="127.0.0.1:0", conns=1)
+    with socket.create_server(("127.0.0.1", 0)) as taken:
+        refused("serve", "listen", listen="127.0.0.1:%d" % taken.getsockname()[1], conns=1)
+    with open(os.path.join(folder, "no.toml"), "w") as text:
+        text.write("events = \n")
+    same(done(path, "serve", os.path.join(folder, "no.toml")), (1, "", "refused: settings\n"))
+    same(done(path, "sync", os.path.join(folder, "none.toml")), (1, "", "refused: read\n"))
+
+
+def main():
+    path = program()
+    for part in (two_relays_are_mirrored, a_relay_that_is_away_touches_no_other, a_level_mirror_fetches_nothing,
+                 a_filter_and_bases_are_kept, refusals_say_what_and_where):
+        with tempfile.TemporaryDirectory() as folder:
+            part(path, folder)
+        print(part.__name__.replace("_", " "))
+
+
+if __name__ == "__main__":
+    main()

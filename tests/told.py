@@ -1,0 +1,68 @@
+"""What the tests of the program share: events, settings, starting it, and comparing what it tells."""
+import hashlib
+import json
+import os
+import subprocess
+import sys
+
+ROOT = os.path.dirname(os.path.dirname(os.path.abspath(__file__)))
+sys.path.insert(0, os.path.join(ROOT, "bench"))
+
+
+def program(words=None):
+    """The path that the first word names, else the proved build."""
+    given = (sys.argv[1:] if words is None else words)[:1]
+    return os.path.abspath(given[0] if given else os.path.join(ROOT, "crates/mirror_app/out/mirror_app"))
+
+
+def event(time, content):
+    """An event with a right id. Nobody checks its signature."""
+    draft = [0, "11" * 32, time, 1, [["t", "test"]], content]
+    text = json.dumps(draft, ensure_ascii=False, separators=(",", ":"))
+    return {"id": hashlib.sha256(text.encode()).hexdigest(), "pubkey": draft[1], "created_at": time, "kind": 1,
+            "tags": draft[4], "content": content, "sig": "22" * 64}
+
+
+def same(found, wanted):
+    if found != wanted:
+        raise SystemExit("wanted %s\nfound  %s" % (json.dumps(wanted), json.dumps(found)))
+
+
+def written(path, events):
+    with open(path, "w", encoding="utf-8") as text:
+        text.writelines(json.dumps(it, ensure_ascii=False) + "\n" for it in events)
+
+
+def read(path):
+    with open(path, encoding="utf-8") as text:
+        return [json.loads(line) for line in text]
+
+
+def by_id(events):
+    return sorted(events, key=lambda it: it["id"])
+
+
+def settings(folder, name, **values):
+    """Writes settings whose events stand in NAME.jsonl, and gives their path."""
+    path = os.path.join(folder, name + ".toml")
+    with open(path, "w") as text:
+        for key, value in dict(events=os.path.join(folder, name + ".jsonl"), **values).items():
+            text.write("%s = %s\n" % (key, json.dumps(value)))
+    return path
+
+
+def begin(path, job, conf, *words):
+    """Starts a job, and gives its process."""
+    return subprocess.Popen([path, job, conf, *words], stdout=subprocess.PIPE, stderr=subprocess.PIPE, text=True)
+
+
+def start(path, job, conf, *words):
+    """Starts a job, which listens, and gives its process and its port."""
+    child = begin(path, job, conf, *words)
+    return child, int(child.stdout.readline().rsplit(":", 1)[1])
+
+
+def done(path, job, conf):
+    """Runs a job to its end: its status and what it wrote."""
+    ran = subprocess.run([path, job, conf], capture_output=True, text=True, timeout=120, check=False)
+    return ran.returncode, ran.stdout, ran.stderr
