@@ -123,7 +123,7 @@ module _ {J S : Type 0} (cells : List (Id × ℕ)) (log : S → List Fetching) (
 
   pub fetches_of : (ps news : List LaneView) (ss ts : List S) (us stops : List (Stop J)) → AllSix Works ps news ss ts us stops → AllThree (λ s t stop. Fetches (log s) (log t) (faults s) (faults t) stop × becomes s t) ss ts stops
   fetches_of [] [] [] [] [] [] h = tt
-  fetches_of (r ∷ rs) (q ∷ news) (s ∷ ss) (t ∷ ts) (u ∷ us) (p ∷ stops) h = ((record { appended = h.0.0.appended; few = h.0.0.few; failed = h.0.0.failed }, h.0.1), fetches_of rs news ss ts us stops h.1)
+  fetches_of (r ∷ rs) (q ∷ news) (s ∷ ss) (t ∷ ts) (u ∷ us) (p ∷ stops) h = ((record { appended = h.0.0.appended; few = h.0.0.few; failed = h.0.0.failed; told = h.0.0.told }, h.0.1), fetches_of rs news ss ts us stops h.1)
   fetches_of _ _ _ _ _ _ h = absurd h
 
   pub each_ends : (lanes : List ℕ) (news : List LaneView) (ss ts : List S) (us stops : List (Stop J)) (keeper : LaneView) (found : List Cell) → AllSix Works (map (placed_at board) (named 0 lanes)) news ss ts us stops

@@ -10,7 +10,8 @@ use Rattle.fetch_plan.specs.declared.cell.Cell.TheVariants.{Done, Missed}
 use Rattle.claim_board.specs.declared.records.LaneRecord.{LaneRecord}
 use Rattle.claim_board.specs.Views.{LaneView}
 use Rattle.claim_board.proofs.Words.{in_cases}
-use Rattle.mirror_core.specs.declared.source.SourceFault.TheVariants.{Failed}
+use Rattle.mirror_core.specs.declared.source.SourceFault.{SourceFault}
+use Rattle.mirror_core.specs.declared.source.SourceFault.TheVariants.{Failed, Memory}
 use Rattle.mirror_core.specs.declared.worker.Stop.{Stop}
 use Rattle.mirror_core.specs.declared.worker.Stop.TheVariants.{Source}
 use Rattle.mirror_core.specs.Fetching.{Fetching, fetching, fetched, WasGiven, WasMissed}
@@ -72,8 +73,8 @@ logs_then cells e f g a b c h k = record {
 
 -- what a worker did, from its lane's beginning on
 pub worked : {J : Type 0} (cells : List (Id × ℕ)) (old new : LaneView) (before after : List Fetching) (faults faults' : ℕ) (stop : Stop J) (next : ℕ) → IsUnused old.own → SameLane old new → new.own.held ≡ [] → Logs cells old.own new.own before after
-    → (is_through stop ≡ true → Batched cells next [] [] new.own × (length cells ≤ next)) → (stop ≡ Source Failed → faults < faults') → (asked : ℕ) → Asked cells new.own.relay asked before after → Worked cells old new before after faults faults' stop
-worked cells old new before after faults faults' stop next unused same held logs through failed asked so_far =
+    → (is_through stop ≡ true → Batched cells next [] [] new.own × (length cells ≤ next)) → (stop ≡ Source Failed → faults < faults') → (faults < faults' → stop ≡ Source Failed) → (asked : ℕ) → Asked cells new.own.relay asked before after → Worked cells old new before after faults faults' stop
+worked cells old new before after faults faults' stop next unused same held logs through failed told asked so_far =
     let gained : fetched before after ≡ logs.gained = ap (fetched before) logs.appended ∙ drop-append_seam before logs.gained in
     let none : Ends cells [] old.own = record {
       done = λ i z. absurd (none_of old.own.ended (i, Done) unused.ended z);
@@ -89,4 +90,10 @@ worked cells old new before after faults faults' stop next unused same held logs
       won = λ t i z. ⊎_elim (λ (x : Contains new.own.ended (i, Done) ⊎ Contains new.own.ended (i, Missed)). x) (λ (x : Contains {X = ℕ} [] i). absurd (none_of {X = ℕ} [] i refl x)) ((through t).0.won i z);
       seen = λ t i low mine. (through t).0.seen i (let m = (through t).1 in omega (arith, low, m)) mine;
       failed = failed;
+      told = told;
     }
+
+-- where the count of failures rose, the source failed
+pub told_by : {J : Type 0} (stop : Stop J) (f : SourceFault) (m n : ℕ) → stop ≡ Source f → (f ≡ Memory → n ≡ m) → m < n → stop ≡ Source Failed
+told_by stop Failed m n is same rose = is
+told_by stop Memory m n is same rose = let e = same refl in absurd (omega (arith, rose, e))

@@ -29,8 +29,9 @@ pub record EachEnds {J : Type 0} (cells : List (Id × ℕ)) (lanes : List ℕ) (
   pub long : length found ≡ length cells
   pub ends : (i : ℕ) (id : Id) (relay : ℕ) → slice_get cells i ≡ Some (id, relay) → CellEnds lanes logs stops id relay (slice_index_or found i Free)
 
--- A source's log only gained fetches, each of at most 100 ids, and a worker that stopped for a failure saw its source's count of failures rise.
+-- A source's log only gained fetches, each of at most 100 ids. A worker stopped for a failure just where its source's count of failures rose.
 pub record Fetches {J : Type 0} (before after : List Fetching) (faults faults' : ℕ) (stop : Stop J) : Type 0 where
   pub appended : after ≡ before ++ fetched before after
   pub few : (g : Fetching) → Contains (fetched before after) g → length g.asked ≤ 100
   pub failed : stop ≡ Source Failed → faults < faults'
+  pub told : faults < faults' → stop ≡ Source Failed

@@ -55,3 +55,4 @@ pub record Worked {J : Type 0} (cells : List (Id × ℕ)) (old new : LaneView) (
   pub won : is_through stop ≡ true → (i : ℕ) → Contains new.own.won i → Contains new.own.ended (i, Done) ⊎ Contains new.own.ended (i, Missed)
   pub seen : is_through stop ≡ true → (i : ℕ) → i < length cells → slice_index (relays cells) i ≡ new.own.relay → Contains new.own.won i ⊎ ((c : Cell) × (c ≢ Free) × Contains new.own.met (i, c))
   pub failed : stop ≡ ended.Source Failed → faults < faults'
+  pub told : faults < faults' → stop ≡ ended.Source Failed

@@ -137,6 +137,7 @@ fn fetch_batch<R: Wait, J: Naming, D: Wait + Drop, S: Source>(
     ensures held { lane.new.own.held ≡ [] }
     ensures stop { IfErr result (λ s. is_through s ≡ false) }
     ensures failed { result ≡ Err (Stop.Source SourceFault.Failed) → S.faults source.old < S.faults source.new }
+    ensures told { IfErr result (λ s. S.faults source.old < S.faults source.new → s ≡ Stop.Source SourceFault.Failed) }
     ensures becomes { S.becomes source.old source.new }
 {
     if batch.cells.is_empty() {

@@ -1,10 +1,10 @@
-use Rattle.std.proofs.Common.{ℕ, List, refl, sym, subst, inl, inr, arith}
+use Rattle.std.proofs.Common.{ℕ, List, Err, refl, sym, ap, subst, inl, inr, arith}
 use Rattle.std.specs.Prelude.{Contains, vec_len}
 use Rattle.std.proofs.lemmas.List.{nil_from_length}
 use Rattle.std.proofs.lemmas.Bool.{eqb-true}
 use Rattle.mirror_core.specs.Fetching.{ids_of}
 use Rattle.mirror_core.proofs.Batches.{holds_none, cells_within, batched_clear}
-use Rattle.mirror_core.proofs.Logs.{logs_one, logs_none}
+use Rattle.mirror_core.proofs.Logs.{logs_one, logs_none, told_by}
 use Rattle.mirror_core.proofs.worker.fetch_batch.Goals as goal
 
 pub returns-then-is_empty-clause-batched : goal.returns-then-is_empty-clause-batched
@@ -48,3 +48,6 @@ returns-in-Ok-clause-asked g c = inr (ids_of c.in-Ok.given.items, rw (← c.dere
 
 pub returns-clause-asked : goal.returns-clause-asked
 returns-clause-asked g c = inl c.in-Err.ensures.err
+
+pub returns-clause-told : goal.returns-clause-told
+returns-clause-told g c = told_by _ c.in-Err.fault _ _ refl (λ e. c.in-Err.ensures.memory (ap (λ z. Err z) e))
