@@ -229,7 +229,9 @@ def served(library, folder, old, new, at):
             need(any(it is not None for it in seen), "no client was served", out, errors)
             need(all(it is None or taken | kept <= it <= all_ids for it in seen), "a client lacks events", taken, seen)
         if relay.returncode:
-            need(relay.returncode == 1 and REFUSED.fullmatch(errors) and set(found) == kept, relay.returncode, out, errors, found)
+            # The file is the old one, or was written before the refusal.
+            need(relay.returncode == 1 and REFUSED.fullmatch(errors) and (set(found) == kept or taken | kept <= set(found)),
+                 relay.returncode, out, errors, found)
             return errors.strip() + (" at the end" if seen else "")
         need(not errors and taken | kept <= set(found), relay.returncode, out, errors, found, taken)
         if at == 0:
