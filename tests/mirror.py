@@ -5,15 +5,18 @@
 
 A relay serves 300 events. A mirror with `listen` compares and fetches them, with `--progress`, while a client of the mirror puts
 an event in and is sent what comes. Then a mirror whose reader leaves is refused while it serves: it has to end at once, with
-the client's event in its file. Last, a client takes a second over its handshake with a relay whose `push_ms` is 1.
+the client's event in its file. A client takes a second over its handshake with a relay whose `push_ms` is 1. Last, `--progress`
+tells how far a mirror of two relays is while the answers of one of them are held back.
 """
 import json
 import os
+import re
 import socket
 import tempfile
+import threading
 import time
 
-from told import by_id, event, program, read, same, settings, start, written
+from told import begin, by_id, event, program, read, same, settings, start, written
 from wire import Client
 
 
@@ -90,9 +93,70 @@ def waits_for_handshakes(path, folder):
     same(relay.communicate(timeout=60)[0], "served 1\nevents 0\n")
 
 
+def pass_on(source, sink, door):
+    """Passes on what comes, and what comes behind the head of a handshake once the door is open."""
+    passed = b""
+    try:
+        while found := source.recv(1 << 16):
+            if b"\r\n\r\n" in passed:
+                door.wait()
+            passed += found
+            sink.sendall(found)
+        sink.shutdown(socket.SHUT_WR)
+    except OSError:
+        pass
+
+
+def held_back(server, port, doors):
+    """Passes the connections of a server on to a port, and the answers to each once its door is open."""
+    opened = threading.Event()
+    opened.set()
+    for door in doors:
+        client, _from = server.accept()
+        relay = socket.create_connection(("127.0.0.1", port))
+        for ends in ((client, relay, opened), (relay, client, door)):
+            threading.Thread(target=pass_on, args=ends, daemon=True).start()
+
+
+def tells_progress(path, folder):
+    slow, fast = [event(1000 + n, "slow") for n in range(30)], [event(2000 + n, "fast") for n in range(20)]
+    relays = []
+    for name, events in (("slow", slow), ("fast", fast)):
+        written(os.path.join(folder, name + ".jsonl"), events)
+        relays.append(run(path, folder, "serve", name, conns=2))
+    written(os.path.join(folder, "mirror.jsonl"), [event(1, "mine")])
+    doors = threading.Event(), threading.Event()
+    # A mirror that waits for a relay where it has to tell something ends the test by this.
+    late = threading.Timer(60, lambda: [door.set() for door in doors])
+    late.start()
+    with socket.create_server(("127.0.0.1", 0)) as server:
+        threading.Thread(target=held_back, args=(server, relays[0][1], doors), daemon=True).start()
+        ports = server.getsockname()[1], relays[1][1]
+        mirror = begin(path, "sync", settings(folder, "mirror", relays=["127.0.0.1:%d" % port for port in ports]),
+                       "--progress")
+        lines = [mirror.stderr.readline() for _line in range(3)]
+        same(lines, ["1 events are compared\n", "2 relays are asked\n", "relay 1 need 20\n"])
+        same(doors[0].is_set(), False)
+        doors[0].set()
+        lines = [mirror.stderr.readline() for _line in range(3)]
+        same(lines, ["relay 0 need 30\n", "50 ids are planned\n", "2 connections fetch\n"])
+        time.sleep(1.1)
+        doors[1].set()
+        lines = mirror.stderr.read().splitlines()
+    late.cancel()
+    out = mirror.stdout.read()
+    same(out, "relay 0 need 30\nrelay 1 need 20\nleast 30\ngroup 0\ngiven 50\nmissed 0\nleft 0\n")
+    same(lines[-1], "50 ids given, 0 missed, 0 left")
+    same([bool(re.fullmatch("[0-9]+ of 50 ids answered, [0-9]+ events came", line)) for line in lines[:-1]],
+         [True] * max(1, len(lines) - 1))
+    same(mirror.wait(), 0)
+    for relay, _port in relays:
+        relay.communicate(timeout=60)
+
+
 def main():
     path = program()
-    for part in (serves_meanwhile, ends_when_refused, waits_for_handshakes):
+    for part in (serves_meanwhile, ends_when_refused, waits_for_handshakes, tells_progress):
         with tempfile.TemporaryDirectory() as folder:
             part(path, folder)
         print(part.__name__.replace("_", " "))

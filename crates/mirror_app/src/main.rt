@@ -29,12 +29,12 @@ fn main(rt: HostRuntime) -> io::Result<ExitCode> {
             return Ok(told(&mut rt.stderr(), done));
         }
         Went::Left(Words::Sync(path, is_wanted)) => {
-            let mut progress = if is_wanted {
+            let progress = if is_wanted {
                 Progress::to(rt.stderr())
             } else {
                 Progress::none()
             };
-            let done = sync(&rt, alloc, path.as_str(), &mut rt.stdout(), &mut progress);
+            let done = sync(&rt, alloc, path.as_str(), &mut rt.stdout(), &progress);
             return Ok(told(&mut rt.stderr(), done));
         }
         // The other jobs have ended.

@@ -6,7 +6,7 @@ use std::io::{ErrorKind, Write};
 use std::net::{Net, TcpListener, TcpStream};
 use std::process::ExitCode;
 use std::random::RandomSource;
-use std::rt::Files;
+use std::rt::{Clock, Files};
 use std::sync::Wait;
 use std::thread::Threads;
 use std::{fs, io};
@@ -55,16 +55,17 @@ pub fn sync<
         + Threads
         + Wait
         + Files
+        + Clock
         + AllocGlobal
         + Sync,
     W: Write,
-    P: Write,
+    P: Write + Send,
 >(
     rt: &R,
     alloc: Global,
     path: &str,
     writer: &mut W,
-    progress: &mut Progress<P>,
+    progress: &Progress<P>,
 ) -> Result<(), Refusal> {
     match fs::read_to_string(rt, path) {
         Ok(text) => run_sync(rt, alloc, text.as_str(), writer, progress),

@@ -3,6 +3,8 @@
 ghost use Rattle.std.specs.Prelude.{◌≡◌, ◌<◌, ◌^◌, ◌-◌, All, IfOk, length};
 
 use crate::links::source_at;
+use crate::progress::Progress;
+use crate::told::ToldSource;
 use claim_board::{Board, BoardFault, Cell};
 use event_store::{Desk, Naming};
 use fetch_plan::Plan;
@@ -51,23 +53,31 @@ pub fn counts_of(cells: &[Cell]) -> Counts {
     counts
 }
 
+/// A source over a connection.
+type Fetcher<'a, R, P> = ToldSource<'a, WsSource<<R as Net>::Stream, RandomKeys<&'a R>>, R, P>;
+
 /// Connects to a relay, and keeps a source for the connection, with the relay's number beside, if it can be made.
-fn add_source<'a, R: Net + RandomSource>(
+fn add_source<'a, R: Net + RandomSource, P>(
     rt: &'a R,
     alloc: Global,
     address: &Address,
     relay: u16,
-    sources: &mut Vec<WsSource<R::Stream, RandomKeys<&'a R>>>,
+    progress: &'a Progress<P>,
+    sources: &mut Vec<Fetcher<'a, R, P>>,
     relays: &mut Vec<u16>,
 ) -> Result<(), Refusal>
-    requires { All (λ s. s.faults < 2 ^ 64 - 1) sources.old.items }
-    ensures { IfOk result (λ _. All (λ s. s.faults < 2 ^ 64 - 1) sources.new.items) }
+    requires { All (λ s. s.source.faults < 2 ^ 64 - 1) sources.old.items }
+    ensures { IfOk result (λ _. All (λ s. s.source.faults < 2 ^ 64 - 1) sources.new.items) }
 {
     let found = source_at(rt, alloc, address)?;
     match found {
         Some(source) => {
             relays.push(relay)?;
-            sources.push(source)?;
+            sources.push(ToldSource {
+                source,
+                rt,
+                progress,
+            })?;
             Ok(())
         }
         None => Ok(()),
@@ -75,36 +85,38 @@ fn add_source<'a, R: Net + RandomSource>(
 }
 
 /// Connects to a relay so many times.
-fn add_sources<'a, R: Net + RandomSource>(
+fn add_sources<'a, R: Net + RandomSource, P>(
     rt: &'a R,
     alloc: Global,
     address: &Address,
     relay: u16,
     workers: u64,
-    sources: &mut Vec<WsSource<R::Stream, RandomKeys<&'a R>>>,
+    progress: &'a Progress<P>,
+    sources: &mut Vec<Fetcher<'a, R, P>>,
     relays: &mut Vec<u16>,
 ) -> Result<(), Refusal>
-    requires { All (λ s. s.faults < 2 ^ 64 - 1) sources.old.items }
-    ensures { IfOk result (λ _. All (λ s. s.faults < 2 ^ 64 - 1) sources.new.items) }
+    requires { All (λ s. s.source.faults < 2 ^ 64 - 1) sources.old.items }
+    ensures { IfOk result (λ _. All (λ s. s.source.faults < 2 ^ 64 - 1) sources.new.items) }
 {
     for _worker in 0..workers {
-        add_source(rt, alloc, address, relay, sources, relays)?;
+        add_source(rt, alloc, address, relay, progress, sources, relays)?;
     }
     Ok(())
 }
 
 /// Connects as many times as the settings say to a relay whose session finished.
-fn add_relay<'a, R: Net + RandomSource>(
+fn add_relay<'a, R: Net + RandomSource, P>(
     rt: &'a R,
     alloc: Global,
     settings: &Settings,
     relay: usize,
     end: &End,
-    sources: &mut Vec<WsSource<R::Stream, RandomKeys<&'a R>>>,
+    progress: &'a Progress<P>,
+    sources: &mut Vec<Fetcher<'a, R, P>>,
     relays: &mut Vec<u16>,
 ) -> Result<(), Refusal>
-    requires { All (λ s. s.faults < 2 ^ 64 - 1) sources.old.items }
-    ensures { IfOk result (λ _. All (λ s. s.faults < 2 ^ 64 - 1) sources.new.items) }
+    requires { All (λ s. s.source.faults < 2 ^ 64 - 1) sources.old.items }
+    ensures { IfOk result (λ _. All (λ s. s.source.faults < 2 ^ 64 - 1) sources.new.items) }
 {
     if relay > 255 || !matches!(end, End::Finished(_)) {
         return Ok(());
@@ -118,6 +130,7 @@ fn add_relay<'a, R: Net + RandomSource>(
                 address,
                 number,
                 settings.workers,
+                progress,
                 sources,
                 relays,
             )
@@ -127,13 +140,14 @@ fn add_relay<'a, R: Net + RandomSource>(
 }
 
 /// Sources at the relays whose sessions finished, and the relay of each.
-pub fn sources_of<'a, R: Net + RandomSource>(
+pub fn sources_of<'a, R: Net + RandomSource, P>(
     rt: &'a R,
     alloc: Global,
     settings: &Settings,
     ends: &[End],
-) -> Result<(Vec<WsSource<R::Stream, RandomKeys<&'a R>>>, Vec<u16>), Refusal>
-    ensures { IfOk result (λ r. All (λ s. s.faults < 2 ^ 64 - 1) r.0.items) }
+    progress: &'a Progress<P>,
+) -> Result<(Vec<Fetcher<'a, R, P>>, Vec<u16>), Refusal>
+    ensures { IfOk result (λ r. All (λ s. s.source.faults < 2 ^ 64 - 1) r.0.items) }
 {
     let mut sources = Vec::new(alloc);
     let mut relays = Vec::new(alloc);
@@ -144,6 +158,7 @@ pub fn sources_of<'a, R: Net + RandomSource>(
             settings,
             relay,
             &ends[relay],
+            progress,
             &mut sources,
             &mut relays,
         )?;

@@ -6,6 +6,7 @@ mod links;
 mod progress;
 mod run;
 mod text;
+mod told;
 
 pub use progress::Progress;
 pub use run::run_sync;

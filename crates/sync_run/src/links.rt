@@ -2,6 +2,8 @@
 
 ghost use Rattle.std.specs.Prelude.{◌≡◌, ◌<◌, ◌^◌, ◌-◌, All, IfOk, IfSome};
 
+use crate::progress::Progress;
+use crate::told::ToldPeer;
 use mirror_settings::Address;
 use nostr_filter::Filter;
 use serve_run::Refusal;
@@ -39,19 +41,26 @@ fn linked<'a, R: Net + RandomSource>(
     }
 }
 
-/// A peer for each relay, in their order.
-pub fn linked_all<'a, R: Net + RandomSource>(
+/// A peer for each relay, in their order, whose session is told as it ends.
+pub fn linked_all<'a, R: Net + RandomSource, P>(
     rt: &'a R,
     alloc: Global,
     relays: &[Address],
     filter: &Filter,
-) -> Result<Vec<WsPeer<R::Stream, RandomKeys<&'a R>>>, Refusal>
-    ensures { IfOk result (λ peers. All (λ peer. peer.faults < 2 ^ 64 - 1) peers.items) }
+    progress: &'a Progress<P>,
+) -> Result<Vec<ToldPeer<'a, WsPeer<R::Stream, RandomKeys<&'a R>>, R, P>>, Refusal>
+    ensures { IfOk result (λ peers. All (λ told. told.peer.faults < 2 ^ 64 - 1) peers.items) }
 {
     let mut peers = Vec::new(alloc);
     for relay in relays {
         let peer = linked(rt, alloc, relay, filter)?;
-        peers.push(peer)?;
+        let number = peers.len();
+        peers.push(ToldPeer {
+            peer,
+            relay: number,
+            rt,
+            progress,
+        })?;
     }
     Ok(peers)
 }
@@ -76,10 +85,10 @@ pub fn source_at<'a, R: Net + RandomSource>(
 }
 
 /// Ends the sessions, as far as that can be said to the relays.
-pub fn finish_all<S: Read + Write + Drop, R: RandomSource + Drop>(
-    peers: Vec<WsPeer<S, RandomKeys<R>>>,
+pub fn finish_all<S: Read + Write + Drop, K: RandomSource + Drop, R, P>(
+    peers: Vec<ToldPeer<'_, WsPeer<S, RandomKeys<K>>, R, P>>,
 ) {
-    for peer in peers {
-        let _ = peer.finish();
+    for told in peers {
+        let _ = told.peer.finish();
     }
 }

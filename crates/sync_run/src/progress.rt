@@ -1,51 +1,130 @@
 //! How far the job is, told while it goes on.
 
 use crate::fetching::Counts;
+use std::fmt::Display;
 use std::io::Write;
+use std::rt::Clock;
+use std::sync::{Mutex, Wait};
+use std::time::Instant;
 
-/// Where it is told how far the job is, if that is wanted. What can't be written is passed over.
+/// Where it is told how far the job is, if that is wanted, from any thread and in whole lines. What can't be written is
+/// passed over.
 #[derive(Drop)]
 pub struct Progress<P> {
-    writer: Option<P>,
+    telling: Option<Mutex<Telling<P>>>,
 }
 
 impl<P> Progress<P> {
     /// Tells it to the writer.
     pub fn to(writer: P) -> Progress<P> {
         Progress {
-            writer: Some(writer),
+            telling: Some(Mutex::new(Telling {
+                writer,
+                round: Fetching::default(),
+                last: None,
+            })),
         }
     }
 
     /// Tells nothing.
     pub fn none() -> Progress<P> {
-        Progress { writer: None }
+        Progress { telling: None }
     }
 }
 
 impl<P: Write> Progress<P> {
     /// Tells a count.
-    pub fn tell(&mut self, count: usize, what: &str) {
-        if let Some(writer) = &mut self.writer {
-            let _ = write!(writer, "{count} {what}\n");
-            let _ = writer.flush();
+    pub fn tell<R: Wait>(&self, rt: &R, count: usize, what: &str) {
+        if let Some(telling) = &self.telling {
+            telling.lock(rt).line(format_args!("{count} {what}"));
         }
     }
 
-    /// Tells lines.
-    pub fn say(&mut self, lines: &str) {
-        if let Some(writer) = &mut self.writer {
-            let _ = writer.write_all(lines.as_bytes());
-            let _ = writer.flush();
+    /// Tells a line.
+    pub fn say<R: Wait, D: Display + Drop>(&self, rt: &R, line: D) {
+        if let Some(telling) = &self.telling {
+            telling.lock(rt).line(line);
         }
     }
 
     /// Tells what became of ids.
-    pub fn tell_counts(&mut self, counts: &Counts) {
+    pub fn tell_counts<R: Wait>(&self, rt: &R, counts: &Counts) {
         let (given, missed, left) = (counts.given, counts.missed, counts.left);
-        if let Some(writer) = &mut self.writer {
-            let _ = write!(writer, "{given} ids given, {missed} missed, {left} left\n");
-            let _ = writer.flush();
+        self.say(
+            rt,
+            format_args!("{given} ids given, {missed} missed, {left} left"),
+        );
+    }
+
+    /// A round begins, which fetches so many ids.
+    pub fn begin<R: Wait + Clock>(&self, rt: &R, planned: usize) {
+        if let Some(telling) = &self.telling {
+            let now = Instant::now(rt).ok();
+            telling.lock(rt).begin(now, planned);
         }
+    }
+
+    /// So many ids were asked for and answered with so many events. Of all that the round has fetched a line is told where
+    /// none was for a second.
+    pub fn fetched<R: Wait + Clock>(&self, rt: &R, ids: usize, events: usize) {
+        if let Some(telling) = &self.telling {
+            let now = Instant::now(rt).ok();
+            telling.lock(rt).fetched(now, ids, events);
+        }
+    }
+}
+
+/// What a round has fetched.
+#[derive(Clone, Copy, Default)]
+struct Fetching {
+    planned: usize,
+    answered: usize,
+    came: usize,
+}
+
+/// A writer, and what is told next.
+#[derive(Drop)]
+struct Telling<P> {
+    writer: P,
+    round: Fetching,
+    // When it was last told what the round has fetched, or the round began.
+    last: Option<Instant>,
+}
+
+impl<P: Write> Telling<P> {
+    fn line<D: Display + Drop>(&mut self, line: D) {
+        let _ = self.writer.writeln(line);
+        let _ = self.writer.flush();
+    }
+
+    fn begin(&mut self, now: Option<Instant>, planned: usize) {
+        self.round = Fetching {
+            planned,
+            answered: 0,
+            came: 0,
+        };
+        self.last = now;
+    }
+
+    fn fetched(&mut self, now: Option<Instant>, ids: usize, events: usize) {
+        self.round.answered = self.round.answered.saturating_add(ids);
+        self.round.came = self.round.came.saturating_add(events);
+        if is_later(self.last, now) {
+            self.last = now;
+            let Fetching {
+                planned,
+                answered,
+                came,
+            } = self.round;
+            self.line(format_args!("{answered} of {planned} ids answered, {came} events came"));
+        }
+    }
+}
+
+/// Whether a second or more has gone by. Where the clock told no time, it has not.
+fn is_later(last: Option<Instant>, now: Option<Instant>) -> bool {
+    match (last, now) {
+        (Some(last), Some(now)) => now.duration_since(last).as_secs() > 0,
+        _ => false,
     }
 }

@@ -22,7 +22,7 @@ use std::io::Write;
 use std::marker::Brand;
 use std::net::{Net, TcpListener, TcpStream};
 use std::random::RandomSource;
-use std::rt::Files;
+use std::rt::{Clock, Files};
 use std::sync::{Mutex, Wait};
 use std::thread::Threads;
 
@@ -48,20 +48,26 @@ fn refusal_of(fault: SyncFault) -> Refusal {
 }
 
 /// Sessions with the relays over the events that the filter matches, and the plan made of what they found.
-fn synced<J: Naming, R: Net + RandomSource + Threads + Sync, P: Write>(
+fn synced<J: Naming, R: Net + RandomSource + Threads + Wait + Sync, P: Write + Send>(
     rt: &R,
     alloc: Global,
     settings: &Settings,
     reader: &mut Reader<J>,
-    progress: &mut Progress<P>,
+    progress: &Progress<P>,
 ) -> Result<Synced, Refusal>
 where
     R::Stream: Send,
 {
     let snapshot = reader.pin(alloc, &settings.filter)?;
-    progress.tell(snapshot.events().len(), "events are compared");
-    let mut peers = linked_all(rt, alloc, settings.relays.as_slice(), &settings.filter)?;
-    progress.tell(peers.len(), "relays are asked");
+    progress.tell(rt, snapshot.events().len(), "events are compared");
+    let mut peers = linked_all(
+        rt,
+        alloc,
+        settings.relays.as_slice(),
+        &settings.filter,
+        progress,
+    )?;
+    progress.tell(rt, peers.len(), "relays are asked");
     let bases = bases_of(settings.bases.as_slice());
     let limits = SessionLimits::default();
     let done = sync_plan(rt, alloc, peers.as_mut_slice(), &snapshot, &bases, &limits);
@@ -76,8 +82,8 @@ where
 fn fetch_round<
     J: Naming + Send + Sync,
     D: Wait + Drop + Send + Sync,
-    R: Net + RandomSource + Threads + Wait + Sync,
-    P: Write,
+    R: Net + RandomSource + Threads + Wait + Clock + Sync,
+    P: Write + Send,
 >(
     rt: &R,
     alloc: Global,
@@ -85,15 +91,16 @@ fn fetch_round<
     ends: &[End],
     plan: &Plan,
     desk: &Mutex<Desk<J, D>>,
-    progress: &mut Progress<P>,
+    progress: &Progress<P>,
 ) -> Result<Vec<Cell>, Refusal>
 where
     R::Stream: Send,
     ensures { IfOk result (λ v. length v.items ≡ length plan.now.gives) }
 {
-    progress.tell(plan.len(), "ids are planned");
-    let (mut sources, relays) = sources_of(rt, alloc, settings, ends)?;
-    progress.tell(sources.len(), "connections fetch");
+    progress.tell(rt, plan.len(), "ids are planned");
+    let (mut sources, relays) = sources_of(rt, alloc, settings, ends, progress)?;
+    progress.begin(rt, plan.len());
+    progress.tell(rt, sources.len(), "connections fetch");
     let cells = fetched(
         rt,
         alloc,
@@ -102,7 +109,7 @@ where
         relays.as_slice(),
         desk,
     )?;
-    progress.tell_counts(&counts_of(cells.as_slice()));
+    progress.tell_counts(rt, &counts_of(cells.as_slice()));
     Ok(cells)
 }
 
@@ -123,9 +130,9 @@ fn say_round<W: Write>(
 fn fetch_rounds<
     J: Naming + Send + Sync,
     D: Wait + Drop + Send + Sync,
-    R: Net + RandomSource + Threads + Wait + Sync,
+    R: Net + RandomSource + Threads + Wait + Clock + Sync,
     W: Write,
-    P: Write,
+    P: Write + Send,
 >(
     rt: &R,
     alloc: Global,
@@ -133,7 +140,7 @@ fn fetch_rounds<
     done: Synced,
     desk: &Mutex<Desk<J, D>>,
     writer: &mut W,
-    progress: &mut Progress<P>,
+    progress: &Progress<P>,
 ) -> Result<Counts, Refusal>
 where
     R::Stream: Send,
@@ -163,9 +170,9 @@ where
 fn run_all<
     J: Naming + Send + Sync,
     D: Wait + Drop + Send + Sync,
-    R: Net + RandomSource + Threads + Wait + Sync,
+    R: Net + RandomSource + Threads + Wait + Clock + Sync,
     W: Write,
-    P: Write,
+    P: Write + Send,
 >(
     rt: &R,
     alloc: Global,
@@ -173,7 +180,7 @@ fn run_all<
     reader: &mut Reader<J>,
     desk: &Mutex<Desk<J, D>>,
     writer: &mut W,
-    progress: &mut Progress<P>,
+    progress: &Progress<P>,
 ) -> Result<(), Refusal>
 where
     R::Stream: Send,
@@ -181,7 +188,6 @@ where
     let done = synced(rt, alloc, settings, reader, progress)?;
     let mut text = String::new(alloc);
     put_ends(alloc, &mut text, done.ends.as_slice())?;
-    progress.say(text.as_str());
     put_plan(alloc, &mut text, &done.plan)?;
     say(writer, text.as_str())?;
     let counts = fetch_rounds(rt, alloc, settings, done, desk, writer, progress)?;
@@ -192,9 +198,9 @@ where
 fn run_alone<
     J: Naming + Send + Sync,
     D: Wait + Drop + Send + Sync,
-    R: Net + RandomSource + Threads + Wait + Files + Sync,
+    R: Net + RandomSource + Threads + Wait + Files + Clock + Sync,
     W: Write,
-    P: Write,
+    P: Write + Send,
 >(
     rt: &R,
     alloc: Global,
@@ -203,7 +209,7 @@ fn run_alone<
     reader: &mut Reader<J>,
     file: NewFile<R::File>,
     writer: &mut W,
-    progress: &mut Progress<P>,
+    progress: &Progress<P>,
 ) -> Result<(), Refusal>
 where
     R::Stream: Send,
@@ -225,9 +231,9 @@ where
 fn run_in_hall<
     J: Naming + Send + Sync,
     D: Wait + Drop + Send + Sync,
-    R: Net + RandomSource + Threads + Wait + Sync,
+    R: Net + RandomSource + Threads + Wait + Clock + Sync,
     W: Write,
-    P: Write,
+    P: Write + Send,
 >(
     rt: &R,
     alloc: Global,
@@ -236,7 +242,7 @@ fn run_in_hall<
     waiting: usize,
     reader: &mut Reader<J>,
     writer: &mut W,
-    progress: &mut Progress<P>,
+    progress: &Progress<P>,
 ) -> Result<(), Refusal>
 where
     R::Stream: Send,
@@ -258,9 +264,10 @@ fn run_serving<
         + Threads
         + Wait
         + Files
+        + Clock
         + Sync,
     W: Write,
-    P: Write,
+    P: Write + Send,
 >(
     rt: &R,
     alloc: Global,
@@ -270,7 +277,7 @@ fn run_serving<
     reader: &mut Reader<J>,
     file: NewFile<R::File>,
     writer: &mut W,
-    progress: &mut Progress<P>,
+    progress: &Progress<P>,
 ) -> Result<(), Refusal> {
     let hall = match open_hall(rt, alloc, settings, desk, writer) {
         Ok(hall) => hall,
@@ -309,10 +316,11 @@ fn run_named<
         + Threads
         + Wait
         + Files
+        + Clock
         + AllocGlobal
         + Sync,
     W: Write,
-    P: Write,
+    P: Write + Send,
 >(
     rt: &R,
     keep: D,
@@ -320,7 +328,7 @@ fn run_named<
     blank: Blank,
     settings: &Settings,
     writer: &mut W,
-    progress: &mut Progress<P>,
+    progress: &Progress<P>,
 ) -> Result<(), Refusal>
     requires book { blank ≡ J.book }
     requires most { J.most ≡ 1000000 }
@@ -371,16 +379,17 @@ pub fn run_sync<
         + Threads
         + Wait
         + Files
+        + Clock
         + AllocGlobal
         + Sync,
     W: Write,
-    P: Write,
+    P: Write + Send,
 >(
     rt: &R,
     alloc: Global,
     text: &str,
     writer: &mut W,
-    progress: &mut Progress<P>,
+    progress: &Progress<P>,
 ) -> Result<(), Refusal> {
     let settings = read_settings(alloc, text, true)?;
     run_named::<Brand, &R, R, W, P>(rt, rt, alloc, Blank::new(), &settings, writer, progress)

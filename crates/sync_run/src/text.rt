@@ -3,23 +3,39 @@
 use crate::fetching::Counts;
 use fetch_plan::Plan;
 use mirror_core::End;
+use neg_session::SessionFault;
 use offer_table::RelaySet;
 use std::alloc::{AllocError, Global};
+use std::fmt;
+
+/// How the session with a relay ended: how many ids are needed of it, or what failed.
+#[derive(Drop)]
+pub struct SessionLine {
+    pub relay: usize,
+    pub needed: Result<usize, SessionFault>,
+}
+
+impl fmt::Display for SessionLine {
+    fn fmt<W: fmt::Write>(&self, f: &mut fmt::Formatter<W>) -> fmt::Result {
+        let relay = self.relay;
+        match self.needed {
+            Ok(need) => write!(f, "relay {relay} need {need}"),
+            Err(fault) => {
+                let number = fault.number();
+                write!(f, "relay {relay} failed {number}")
+            }
+        }
+    }
+}
 
 /// How the session with a relay ended.
 fn put_end(alloc: Global, text: &mut String, relay: usize, end: &End) -> Result<(), AllocError> {
-    let line = match end {
-        End::Finished(outcome) => {
-            let need = outcome.need.len();
-            format!(in alloc; "relay {relay} need {need}\n")?
-        }
-        End::Failed(fault) => {
-            let number = fault.number();
-            format!(in alloc; "relay {relay} failed {number}\n")?
-        }
+    let needed = match end {
+        End::Finished(outcome) => Ok(outcome.need.len()),
+        End::Failed(fault) => Err(*fault),
     };
-    text.push_str(line.as_str())?;
-    Ok(())
+    let line = SessionLine { relay, needed };
+    text.push_str(format!(in alloc; "{line}\n")?.as_str())
 }
 
 /// How the sessions ended, a line each.

@@ -5,4 +5,4 @@ use Rattle.sync_run.proofs.links.linked_all.Goals as goal
 pub loop-relay-preserved : goal.loop-relay-preserved
 loop-relay-preserved g c =
     let small : c.in_ok-peer.peer.faults < 2 ^ 64 - 1 = omega (arith, c.in_ok-peer.ensures) in
-    rw c.in_ok-push.ensures.items (All-push (λ p. p.faults < 2 ^ 64 - 1) c.loop-relay.peers.items c.in_ok-peer.peer c.loop-relay.invariant small)
+    rw c.in_ok-push.ensures.items (All-push (λ p. p.peer.faults < 2 ^ 64 - 1) c.loop-relay.peers.items _ c.loop-relay.invariant small)

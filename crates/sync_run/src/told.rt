@@ -1,0 +1,97 @@
+//! Peers and sources of which it is told how far they are.
+
+ghost use Rattle.std.specs.Prelude.{◌≡◌, ◌+◌, ◌<◌, ◌^◌, ◌-◌, [], ◌∷◌, ◌++◌, IfOk, OnErr, Err};
+
+use crate::progress::Progress;
+use crate::text::SessionLine;
+use mirror_core::{Fetch, Source, SourceFault};
+use neg_codec::Id;
+use neg_initiator::Outcome;
+use neg_session::{Pair, Peer, PeerFault, SessionFault};
+use nostr_event::Event;
+use std::io::Write;
+use std::rt::Clock;
+use std::sync::{Arc, Wait};
+
+/// A relay, whose session is told as it ends.
+#[derive(Drop)]
+pub struct ToldPeer<'a, Q, R, P> {
+    pub peer: Q,
+    pub relay: usize,
+    pub rt: &'a R,
+    pub progress: &'a Progress<P>,
+}
+
+impl<Q: Peer, R: Wait, P: Write> Peer for ToldPeer<'_, Q, R, P> {
+    ghost log = { λ p. Q.log p.peer };
+
+    ghost faults = { λ p. Q.faults p.peer };
+
+    ghost becomes = { λ p q. Q.becomes p.peer q.peer };
+
+    ghost fails = { λ q. Q.fails q };
+
+    ghost stays = { λ p. Q.stays p.peer };
+
+    ghost goes_on = { λ p q r h k. Q.goes_on p.peer q.peer r.peer h k };
+
+    fn ask(&mut self, question: &[u8]) -> Result<Vec<u8>, PeerFault> {
+        self.peer.ask(question)
+    }
+
+    fn pairs(&self) -> &[Pair] {
+        self.peer.pairs()
+    }
+
+    fn failures(&self) -> u64 {
+        self.peer.failures()
+    }
+
+    fn ended(&self, end: Result<&Outcome, SessionFault>) {
+        self.peer.ended(end);
+        let line = SessionLine {
+            relay: self.relay,
+            needed: match end {
+                Ok(outcome) => Ok(outcome.need.len()),
+                Err(fault) => Err(fault),
+            },
+        };
+        self.progress.say(self.rt, line);
+    }
+}
+
+/// A relay that is fetched from, whose answers are counted.
+#[derive(Drop)]
+pub struct ToldSource<'a, S, R, P> {
+    pub source: S,
+    pub rt: &'a R,
+    pub progress: &'a Progress<P>,
+}
+
+impl<S: Source, R: Wait + Clock, P: Write> Source for ToldSource<'_, S, R, P> {
+    ghost log = { λ s. S.log s.source };
+
+    ghost faults = { λ s. S.faults s.source };
+
+    ghost becomes = { λ s t. S.becomes s.source t.source };
+
+    ghost stays = { λ s. S.stays s.source };
+
+    ghost goes_on = { λ s t u h k. S.goes_on s.source t.source u.source h k };
+
+    fn fetch(&mut self, ids: &[Id]) -> Result<Vec<Arc<Event>>, SourceFault> {
+        let fetched = self.source.fetch(ids);
+        if let Ok(events) = &fetched {
+            self.progress.fetched(self.rt, ids.len(), events.len());
+        }
+        fetched
+    }
+
+    fn fetches(&self) -> &[Fetch] {
+        self.source.fetches()
+    }
+
+    fn failures(&self) -> u64 {
+        self.source.failures()
+    }
+}
