@@ -9,7 +9,8 @@
 has, and one that a good end tells of.
 
 `serve`: a client puts ten events in, asks for them and opens a Negentropy session. Whatever becomes of it, a later client has to
-get what was acknowledged, and so has the file. Of `sync` and `serve` every so many allocations are taken: which is printed.
+get what was acknowledged, and so has the file. Of `sync` and `serve` every so many allocations are taken, which is printed:
+600 of each, or as many as the environment's RUNS says.
 
 It needs a C compiler, for the library that refuses (`bench/refuse.c`).
 """
@@ -26,7 +27,7 @@ from told import ROOT, event, program, settings, written
 from wire import Client, Gone
 
 # How many runs there are of `sync` and of `serve` at most.
-RUNS = 600
+RUNS = int(os.environ.get("RUNS", "600"))
 REFUSED = re.compile(r"refused: [^\n]+\n")
 
 
