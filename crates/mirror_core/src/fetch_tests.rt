@@ -7,7 +7,7 @@ ghost use Rattle.claim_board.specs.Views.{placed_at};
 use super::*;
 use crate::tests::is_set_in_time;
 use claim_board::{Board, Cell, Lane};
-use event_store::{Blank, Naming, Reader, open_store};
+use event_store::{Blank, Desk, InsertFault, Naming, Reader, open_small, open_store};
 use fetch_plan::plan;
 use neg_codec::Id;
 use nostr_event::{Draft, Event, Spelling, Tags, Text, id_of};
@@ -180,8 +180,8 @@ fn found<J: Naming>(
     ))
 }
 
-/// A relay lists so many events and is asked for them; it gives so many, the first of which are those, and fails after so many
-/// times.
+/// A relay lists so many events and is asked for them; it gives so many, each twice, the first of which are those, and fails after
+/// so many times.
 #[derive(Clone, Copy)]
 struct Case {
     listed: u64,
@@ -204,7 +204,8 @@ fn fetched<R: Threads + Wait + Clock + Sync, J: Naming + Send + Sync, D: Wait + 
     let mut reader = readers.pop()?;
     let desk = Mutex::new(desk);
     let listed = events(alloc, 0, case.listed)?;
-    let given = events(alloc, 0, case.given)?;
+    let mut given = events(alloc, 0, case.given)?;
+    given.append(&mut events(alloc, 0, case.given)?).ok()?;
     let (board, lanes) = board_of(alloc, &report(alloc, 0, &listed)?, &[0])?;
     let set = AtomicU64::new(1);
     let mut sources = [Giving::new(alloc, rt, &set, &set, &given, case.times)];
@@ -229,6 +230,57 @@ fn cells_end_by_what_is_given(rt: HostRuntime) -> Result<(), Fail> {
         let fetched = fetched::<_, Brand, _>(&rt, &rt, rt.alloc(), Blank::new(), case);
         assert_eq!(rt; fetched, Some(found));
     }
+    Ok(())
+}
+
+/// Whether the store says that it has the event of that time. Else it says that it is full.
+fn told<R: Wait, J: Naming, D: Wait + Drop>(
+    rt: &R,
+    alloc: Global,
+    desk: &Mutex<Desk<J, D>>,
+    time: u64,
+) -> Option<bool> {
+    match desk.lock(rt).insert(rt, event(alloc, time)?) {
+        Ok(placed) => (!placed.is_fresh()).then_some(true),
+        Err((InsertFault::Full(_), _event)) => Some(false),
+        Err(_) => None,
+    }
+}
+
+/// How many of a relay's two events are placed in a store that takes one, and how many cells are free; whether the worker stopped
+/// for that; whether the store then has one of them, and is full for the other.
+type Filled = (usize, usize, bool, bool);
+
+fn fills_up<
+    R: Threads + Wait + Clock + Sync,
+    J: Naming + Send + Sync,
+    D: Wait + Drop + Send + Sync,
+>(rt: &R, keep: D, alloc: Global, blank: Blank) -> Option<Filled>
+    requires book { blank ≡ J.book }
+    requires most { J.most ≡ 1 }
+{
+    let (desk, _readers) = open_small::<J, D>(keep, alloc, blank, 1, 1).ok()?;
+    let desk = Mutex::new(desk);
+    let both = events(alloc, 0, 2)?;
+    let (board, lanes) = board_of(alloc, &report(alloc, 0, &both)?, &[0])?;
+    let set = AtomicU64::new(1);
+    let mut sources = [Giving::new(alloc, rt, &set, &set, &both, 1)];
+    let report = fetch_all(rt, alloc, board, lanes, &mut sources, &desk).ok()?;
+    let cells = report.cells.as_slice();
+    let is_full = matches!(report.stops.first()?, Stop::Full(_));
+    let (first, second) = (told(rt, alloc, &desk, 0)?, told(rt, alloc, &desk, 1)?);
+    Some((
+        count(cells, Cell::Done),
+        count(cells, Cell::Free),
+        is_full,
+        first != second,
+    ))
+}
+
+#[test]
+fn a_store_fills_up(rt: HostRuntime) -> Result<(), Fail> {
+    let filled = fills_up::<_, Brand, _>(&rt, &rt, rt.alloc(), Blank::new());
+    assert_eq!(rt; filled, Some((1, 1, true, true)));
     Ok(())
 }
 

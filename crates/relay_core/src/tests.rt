@@ -3,7 +3,7 @@
 ghost use Rattle.std.specs.Prelude.{◌≡◌, ◌≤◌};
 
 use super::*;
-use event_store::{Blank, Desk, Naming, Reader, open_store};
+use event_store::{Blank, Desk, Naming, Reader, open_small, open_store};
 use item_roll::Roll;
 use neg_codec::{CodecFault, Id, Item, decode};
 use neg_responder::answer;
@@ -137,10 +137,36 @@ fn played<J: Naming, D: Wait + Drop, R: Wait>(
     requires most { J.most ≡ 1000000 }
 {
     let (mut desk, mut readers) = open_store::<J, D>(keep, alloc, blank, 1).ok()?;
-    let mut reader = readers.pop()?;
+    first_wrong(rt, alloc, &mut desk, &mut readers.pop()?, limits, script)
+}
+
+/// The same over a store that takes one event.
+fn played_in_one<J: Naming, D: Wait + Drop, R: Wait>(
+    rt: &R,
+    keep: D,
+    alloc: Global,
+    blank: Blank,
+    script: Script,
+) -> Option<usize>
+    requires book { blank ≡ J.book }
+    requires most { J.most ≡ 1 }
+{
+    let (mut desk, mut readers) = open_small::<J, D>(keep, alloc, blank, 1, 1).ok()?;
+    let limits = RelayLimits::default();
+    first_wrong(rt, alloc, &mut desk, &mut readers.pop()?, limits, script)
+}
+
+fn first_wrong<J: Naming, D: Wait + Drop, R: Wait>(
+    rt: &R,
+    alloc: Global,
+    desk: &mut Desk<J, D>,
+    reader: &mut Reader<J>,
+    limits: RelayLimits,
+    script: Script,
+) -> Option<usize> {
     let mut conn = Conn::new(alloc, limits);
     for (step, (what, expected)) in script.iter().enumerate() {
-        let out = happen(rt, alloc, &mut desk, &mut reader, &mut conn, what)?;
+        let out = happen(rt, alloc, desk, reader, &mut conn, what)?;
         if !are(alloc, out.as_slice(), expected)? {
             return Some(step);
         }
@@ -337,6 +363,14 @@ static NO_SESSION: [(Act, &[&str]); 1] = [(
     &[r##"["NEG-ERR","s","blocked: too many sessions"]"##],
 )];
 
+/// A store that takes one event.
+static FULL: [(Act, &[&str]); 4] = [
+    (Gives(1), &["true "]),
+    (Gives(2), &["false error: the store is full"]),
+    (Gives(1), &["true duplicate: already have this event"]),
+    (Says(r##"["REQ","a",{}]"##), &["a 1", EOSE]),
+];
+
 static LONG_TEXTS: [(Act, &[&str]); 2] = [
     (Says(r##"["CLOSE","ab"]"##), &[]),
     (
@@ -381,6 +415,13 @@ fn scripts(rt: HostRuntime) -> Result<(), Fail> {
         let steps = played::<Brand, _, _>(&rt, &rt, alloc, Blank::new(), limits, script);
         assert_eq!(rt; (name, steps), (name, Some(script.len())));
     }
+    Ok(())
+}
+
+#[test]
+fn a_store_that_is_full(rt: HostRuntime) -> Result<(), Fail> {
+    let steps = played_in_one::<Brand, _, _>(&rt, &rt, rt.alloc(), Blank::new(), &FULL);
+    assert_eq!(rt; steps, Some(FULL.len()));
     Ok(())
 }
 
