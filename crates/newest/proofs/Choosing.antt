@@ -1,5 +1,5 @@
 -- Which events a filter chooses, from those that stand newest first.
-use Rattle.std.proofs.Common.{◌≡◌, ℕ, zero, suc, ◌+◌, ◌<◌, ◌≤◌, ◌&&◌, ◌||◌, ◌==◌, Bool, true, false, cond, List, [], ◌∷◌, ◌++◌, length, map, take, Option, None, Some, get_or, drop, refl, sym, ap, ◌∙◌, arith, append_assoc}
+use Rattle.std.proofs.Common.{◌≡◌, ℕ, zero, suc, ◌+◌, ◌<◌, ◌≤◌, ◌&&◌, ◌||◌, ◌==◌, Bool, true, false, cond, List, [], ◌∷◌, ◌++◌, length, map, take, Option, None, Some, get_or, drop, refl, sym, ap, ◌∙◌, subst, arith, append_assoc, append-nil}
 use Rattle.std.specs.Prelude.{nat_le, nat_lt, IsTrue}
 use Rattle.std.specs.List.{AllByRecursion, filter, enumerate_from, list_any, list_all}
 use Rattle.std.specs.List.Sorted.{IsStrictlySortedBy}
@@ -22,8 +22,9 @@ use Rattle.nostr_filter.specs.Choice.{newest_first, rank_of, in_order, matching_
 use Rattle.nostr_filter.proofs.Orders.{one_list, in_order_sorted, any_in_order}
 use Rattle.nostr_filter.proofs.Ranks.{newest_first-total, newest_first-same}
 use Rattle.newest.specs.Newest.{rank, IsNewestFirst, AreOf, hits}
+use Rattle.newest.specs.declared.node.Child.{Child}
 use Rattle.newest.specs.declared.node.Node.{Node}
-use Rattle.newest.specs.Nodes.{entries_of, entries_in, first_of, last_of}
+use Rattle.newest.specs.Nodes.{linked, entries_of, entries_in, last_of}
 use Rattle.newest.proofs.Insertion.{last_again}
 use Rattle.newest.proofs.Layers.{drop_child}
 
@@ -88,13 +89,14 @@ none_if_early f s q [] since below all = refl
 none_if_early f s q (p ∷ ps) since below all =
     rw (too_early f s p since (omega (arith, below, no_earlier q (rank p) all.0))) (none_if_early f s q ps since below all.1)
 
-pub none_early : (f : Filter) (s : ℕ) (ps : List (ℕ × EventView)) (q : Rank) → IsNewestFirst ps → f.since ≡ Some s → first_of (map rank ps) ≡ Some q → q.time.0 < s → hits f ps ≡ []
+after_last : (ps qs : List (ℕ × EventView)) (q : Rank) → IsNewestFirst (ps ++ qs) → last_of (map rank ps) ≡ Some q → AllByRecursion (λ r. newest_first q r ≡ Less) (map rank qs)
 unfolding IsStrictlySortedBy
-none_early f s [] q up since is below = refl
-none_early f s (p ∷ ps) q up since is below =
-    let same : rank p ≡ q = cc in
-    let early : (rank p).time.0 < s = omega (arith, below, ap (λ (r : Rank). r.time.0) same) in
-    rw (too_early f s p since early) (none_if_early f s (rank p) ps since early up.0)
+after_last [] qs q up is = cc
+after_last (p ∷ []) qs q up is = let same : rank p ≡ q = cc in subst (λ (x : Rank). AllByRecursion (λ r. newest_first x r ≡ Less) (map rank qs)) same up.0
+after_last (p ∷ o ∷ ps) qs q up is = after_last (o ∷ ps) qs q up.1 (sym (last_again (last_of (map rank ps)) (rank p) (rank o)) ∙ is)
+
+pub none_behind : (f : Filter) (s : ℕ) (ps qs : List (ℕ × EventView)) (q : Rank) → IsNewestFirst (ps ++ qs) → f.since ≡ Some s → last_of (map rank ps) ≡ Some q → q.time.0 < s → hits f qs ≡ []
+none_behind f s ps qs q up since is below = none_if_early f s q qs since below (after_last ps qs q up is)
 
 -- ---- as many as are to be had
 
@@ -116,23 +118,31 @@ take_few (suc k) [] = omega arith
 take_few (suc k) (x ∷ xs) = omega (arith, take_few k xs)
 
 -- a child is passed over, or walked
-module _ (f : Filter) (n : ℕ) (cs : List (Arc Node Global)) (i : ℕ) (a : Arc Node Global) (node : Node) (found t : List Rank) (k : ℕ) (lt : i < length cs) (at : a ≡ get_or cs i a) (under : node ≡ arc_value a) where
-  hits_child : hits f (entries_in n (drop i (map arc_value cs))) ≡ hits f (entries_of n node) ++ hits f (entries_in n (drop (i + 1) (map arc_value cs)))
+module _ (f : Filter) (n : ℕ) (cs : List Child) (i : ℕ) (a : Child) (node : Node) (found t : List Rank) (k : ℕ) (lt : i < length cs) (at : a ≡ get_or cs i a) (under : node ≡ arc_value a.node) where
+  hits_child : hits f (entries_in n (drop i (map linked cs))) ≡ hits f (entries_of n node) ++ hits f (entries_in n (drop (i + 1) (map linked cs)))
   hits_child =
-      ap (hits f) (drop_child n cs i a lt at) ∙ hits_append f (entries_of n (arc_value a)) (entries_in n (drop (i + 1) (map arc_value cs)))
-      ∙ ap (λ x. hits f (entries_of n x) ++ hits f (entries_in n (drop (i + 1) (map arc_value cs)))) (sym under)
+      ap (hits f) (drop_child n cs i a lt at) ∙ hits_append f (entries_of n (arc_value a.node)) (entries_in n (drop (i + 1) (map linked cs)))
+      ∙ ap (λ x. hits f (entries_of n x) ++ hits f (entries_in n (drop (i + 1) (map linked cs)))) (sym under)
 
-  pub passed_over : hits f (entries_of n node) ≡ [] → take k (found ++ hits f (entries_in n (drop i (map arc_value cs)))) ≡ t
-      → take k (found ++ hits f (entries_in n (drop (i + 1) (map arc_value cs)))) ≡ t
+  pub passed_over : hits f (entries_of n node) ≡ [] → take k (found ++ hits f (entries_in n (drop i (map linked cs)))) ≡ t
+      → take k (found ++ hits f (entries_in n (drop (i + 1) (map linked cs)))) ≡ t
   passed_over none rest =
-      ap (λ xs. take k (found ++ xs)) (sym (hits_child ∙ ap (λ xs. xs ++ hits f (entries_in n (drop (i + 1) (map arc_value cs)))) none)) ∙ rest
+      ap (λ xs. take k (found ++ xs)) (sym (hits_child ∙ ap (λ xs. xs ++ hits f (entries_in n (drop (i + 1) (map linked cs)))) none)) ∙ rest
 
-  pub walked : (new : List Rank) → new ≡ take k (found ++ hits f (entries_of n node)) → take k (found ++ hits f (entries_in n (drop i (map arc_value cs)))) ≡ t
-      → take k (new ++ hits f (entries_in n (drop (i + 1) (map arc_value cs)))) ≡ t
+  pub walked : (new : List Rank) → new ≡ take k (found ++ hits f (entries_of n node)) → take k (found ++ hits f (entries_in n (drop i (map linked cs)))) ≡ t
+      → take k (new ++ hits f (entries_in n (drop (i + 1) (map linked cs)))) ≡ t
   walked new is rest =
-      ap (λ xs. take k (xs ++ hits f (entries_in n (drop (i + 1) (map arc_value cs))))) is
-      ∙ take_again k (found ++ hits f (entries_of n node)) (hits f (entries_in n (drop (i + 1) (map arc_value cs))))
-      ∙ ap (take k) (append_assoc found (hits f (entries_of n node)) (hits f (entries_in n (drop (i + 1) (map arc_value cs)))) ∙ ap (λ xs. found ++ xs) (sym hits_child))
+      ap (λ xs. take k (xs ++ hits f (entries_in n (drop (i + 1) (map linked cs))))) is
+      ∙ take_again k (found ++ hits f (entries_of n node)) (hits f (entries_in n (drop (i + 1) (map linked cs))))
+      ∙ ap (take k) (append_assoc found (hits f (entries_of n node)) (hits f (entries_in n (drop (i + 1) (map linked cs)))) ∙ ap (λ xs. found ++ xs) (sym hits_child))
+      ∙ rest
+
+  -- nothing is found behind it
+  pub walked_last : (new : List Rank) → new ≡ take k (found ++ hits f (entries_of n node)) → hits f (entries_in n (drop (i + 1) (map linked cs))) ≡ []
+      → take k (found ++ hits f (entries_in n (drop i (map linked cs)))) ≡ t → new ≡ t
+  walked_last new is none rest =
+      is
+      ∙ ap (λ xs. take k (found ++ xs)) (sym (hits_child ∙ ap (λ xs. hits f (entries_of n node) ++ xs) none ∙ append-nil (hits f (entries_of n node))))
       ∙ rest
 
 pub less_than : (a b : ℕ) → IsTrue (nat_lt a b) → a < b

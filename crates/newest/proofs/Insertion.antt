@@ -14,7 +14,7 @@ use Rattle.nostr_filter.specs.declared.choice.Rank.{Rank}
 use Rattle.nostr_filter.specs.Choice.{newest_first, rank_of}
 use Rattle.nostr_filter.proofs.Ranks.{newest_first-total, newest_first-same}
 use Rattle.newest.specs.Newest.{rank, comes_before, inserted, IsNewestFirst, AreOf, AreBelow}
-use Rattle.newest.specs.Nodes.{first_of, last_of}
+use Rattle.newest.specs.Nodes.{last_of}
 
 -- ---- first and last ones
 
@@ -25,10 +25,6 @@ option_or_none (Some x) = refl
 option_or_or : {X : Type 0} (o p q : Option X) → option_or (option_or o p) q ≡ option_or o (option_or p q)
 option_or_or None p q = refl
 option_or_or (Some x) p q = refl
-
-pub first_append : {X : Type 0} (xs ys : List X) → first_of (xs ++ ys) ≡ option_or (first_of xs) (first_of ys)
-first_append [] ys = refl
-first_append (x ∷ xs) ys = refl
 
 pub last_append : {X : Type 0} (xs ys : List X) → last_of (xs ++ ys) ≡ option_or (last_of ys) (last_of xs)
 last_append [] ys = sym (option_or_none (last_of ys))

@@ -1,43 +1,34 @@
 //! Which events filters choose.
-ghost use Rattle.std.specs.Prelude.{◌≡◌, ◌++◌, ◌≤◌, List, IsTrue, IfOk, OnOk, length, map, take, []};
+ghost use Rattle.std.specs.Prelude.{◌≡◌, ◌++◌, ◌≤◌, ℕ, List, Some, IsTrue, IfOk, OnOk, length, map, take, []};
 ghost use Rattle.std.specs.Arc.{arc_value};
 ghost use Rattle.std.specs.declared.alloc.Global.{Global as AGlobal};
 ghost use Rattle.std.specs.declared.sync.Arc.{Arc as AnArc};
 ghost use Rattle.nostr_event.specs.EventView.{EventView};
 ghost use Rattle.nostr_filter.specs.Choice.{chosen};
-ghost use Rattle.newest.specs.Newest.{IsNewestFirst, AreOf, hits};
-ghost use Rattle.newest.specs.Nodes.{seen, entries_of};
+ghost use Rattle.newest.specs.Newest.{rank, IsNewestFirst, AreOf, hits};
+ghost use Rattle.newest.specs.Nodes.{seen, last_of, entries_of, IsKept};
 
-use crate::ends::{first_rank, last_rank};
 use crate::node::{Entry, Node};
 use crate::order::Newest;
 use nostr_filter::{Filter, Rank, put_in_order};
 use std::alloc::{AllocError, Global};
 
-// Whether all beneath the node is later than the filter's latest time.
-fn is_too_late(filter: &Filter, node: &Node, layers: usize) -> bool
-    requires { IsNewestFirst (entries_of layers node.now) }
-    ensures { IsTrue result → hits filter.now (entries_of layers node.now) ≡ [] }
+// Whether all up to an entry is later than the filter's latest time.
+fn is_too_late(filter: &Filter, last: &Rank) -> bool
+    ensures { (ps : List (ℕ × EventView)) → IsNewestFirst ps → last_of (map rank ps) ≡ Some last.now → IsTrue result → hits filter.now ps ≡ [] }
 {
-    let Some(until) = filter.until else {
-        return false;
-    };
-    match last_rank(node, layers) {
-        Some(last) => until < last.time.0,
+    match filter.until {
+        Some(until) => until < last.time.0,
         None => false,
     }
 }
 
-// Whether all beneath the node is earlier than the filter's earliest time.
-fn is_too_early(filter: &Filter, node: &Node, layers: usize) -> bool
-    requires { IsNewestFirst (entries_of layers node.now) }
-    ensures { IsTrue result → hits filter.now (entries_of layers node.now) ≡ [] }
+// Whether all behind an entry is earlier than the filter's earliest time.
+fn is_at_end(filter: &Filter, last: &Rank) -> bool
+    ensures { (ps qs : List (ℕ × EventView)) → IsNewestFirst (ps ++ qs) → last_of (map rank ps) ≡ Some last.now → IsTrue result → hits filter.now qs ≡ [] }
 {
-    let Some(since) = filter.since else {
-        return false;
-    };
-    match first_rank(node, layers) {
-        Some(first) => first.time.0 < since,
+    match filter.since {
+        Some(since) => last.time.0 < since,
         None => false,
     }
 }
@@ -72,6 +63,7 @@ pub fn walk(
     found: &mut Vec<Rank>,
 ) -> Result<(), AllocError>
     requires newest { IsNewestFirst (entries_of layers node.now) }
+    requires kept { IsKept layers node.now }
     requires few { length found.old.items ≤ most }
     ensures { OnOk result (found.new.items ≡ take most (found.old.items ++ hits filter.now (entries_of layers node.now))) }
 {
@@ -86,13 +78,13 @@ pub fn walk(
                 if found.len() == most {
                     return Ok(());
                 }
-                if is_too_late(filter, child, layers - 1) {
+                if is_too_late(filter, &child.last) {
                     continue;
                 }
-                if is_too_early(filter, child, layers - 1) {
-                    continue;
+                walk(&child.node, layers - 1, filter, most, found)?;
+                if is_at_end(filter, &child.last) {
+                    return Ok(());
                 }
-                walk(child, layers - 1, filter, most, found)?;
             }
             Ok(())
         }

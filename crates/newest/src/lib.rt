@@ -2,7 +2,7 @@
 #![tactic(auto)]
 
 mod choice;
-mod ends;
+mod cutting;
 mod growth;
 mod node;
 mod noted;

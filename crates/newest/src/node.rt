@@ -1,16 +1,18 @@
 //! The nodes of an order.
-ghost use Rattle.std.specs.Prelude.{◌≡◌, ◌++◌, ℕ, IfOk, OnOk, map};
-ghost use Rattle.std.specs.Arc.{arc_value};
+ghost use Rattle.std.specs.Prelude.{◌≡◌, ◌++◌, OnOk, map};
 ghost use Rattle.newest.specs.Newest.{rank};
-ghost use Rattle.newest.specs.Nodes.{seen, entries_of, entries_in, entries_beneath};
+ghost use Rattle.newest.specs.Nodes.{seen, linked};
 
 use crate::noted::Noted;
 use nostr_filter::{Rank, rank_at};
-use std::alloc::{AllocError, Global};
+use std::alloc::AllocError;
 use std::sync::Arc;
 
-// A node with more entries or children than this is cut in two.
-const MOST: usize = 32;
+/// A leaf with more entries than this is cut in two.
+pub const MOST_ENTRIES: usize = 32;
+
+/// The same of a fork's children.
+pub const MOST_CHILDREN: usize = 32;
 
 /// An event, and its place among all events.
 #[derive(Drop)]
@@ -21,9 +23,18 @@ pub struct Entry {
 
 /// Some entries, or nodes with earlier and earlier ones.
 #[derive(Drop)]
+#[cycle(tree)]
 pub enum Node {
     Leaf(Vec<Entry>),
-    Fork(Vec<Arc<Node>>),
+    Fork(Vec<Child>),
+}
+
+/// A node beneath a fork, and beside it what orders its last entry, so that a search reads no more than the fork.
+#[derive(Drop)]
+#[cycle(tree)]
+pub struct Child {
+    pub last: Rank,
+    pub node: Arc<Node>,
 }
 
 impl Entry {
@@ -38,8 +49,8 @@ impl Entry {
 /// Whether a node has so much that it is cut in two.
 pub fn is_long(node: &Node) -> bool {
     match node {
-        Node::Leaf(entries) => entries.len() > MOST,
-        Node::Fork(children) => children.len() > MOST,
+        Node::Leaf(entries) => entries.len() > MOST_ENTRIES,
+        Node::Fork(children) => children.len() > MOST_CHILDREN,
     }
 }
 
@@ -57,54 +68,16 @@ pub fn share_entries(all: &mut Vec<Entry>, entries: &[Entry]) -> Result<(), Allo
     Ok(())
 }
 
-/// Puts the nodes behind the others, shared.
-pub fn share_nodes(all: &mut Vec<Arc<Node>>, nodes: &[Arc<Node>]) -> Result<(), AllocError>
-    ensures { OnOk result (map arc_value all.new.items ≡ map arc_value all.old.items ++ map arc_value nodes.now) }
+/// Puts the children behind the others, shared.
+pub fn share_children(all: &mut Vec<Child>, children: &[Child]) -> Result<(), AllocError>
+    ensures { OnOk result (map linked all.new.items ≡ map linked all.old.items ++ map linked children.now) }
 {
-    for node in nodes {
-        all.push(Arc::try_clone(node)?)?;
+    for child in children {
+        let node = Arc::try_clone(&child.node)?;
+        all.push(Child {
+            last: child.last,
+            node,
+        })?;
     }
     Ok(())
-}
-
-// The entries in a leaf, or cut in two.
-fn leaves(alloc: Global, entries: Vec<Entry>) -> Result<Vec<Arc<Node>>, AllocError>
-    ensures { IfOk result (λ v. (n : ℕ) → entries_in n (map arc_value v.items) ≡ map seen entries.items) }
-{
-    let mut entries = entries;
-    let mut leaves = Vec::with_capacity(alloc, 2)?;
-    if entries.len() <= MOST {
-        leaves.push(Arc::new(alloc, Node::Leaf(entries))?)?;
-        return Ok(leaves);
-    }
-    let rest = entries.split_off(entries.len() / 2)?;
-    leaves.push(Arc::new(alloc, Node::Leaf(entries))?)?;
-    leaves.push(Arc::new(alloc, Node::Leaf(rest))?)?;
-    Ok(leaves)
-}
-
-// The nodes beneath a fork, or beneath two.
-fn forks(alloc: Global, children: Vec<Arc<Node>>) -> Result<Vec<Arc<Node>>, AllocError>
-    ensures { IfOk result (λ v. (n : ℕ) → entries_in n (map arc_value v.items) ≡ entries_beneath n children.items) }
-{
-    let mut children = children;
-    let mut forks = Vec::with_capacity(alloc, 2)?;
-    if children.len() <= MOST {
-        forks.push(Arc::new(alloc, Node::Fork(children))?)?;
-        return Ok(forks);
-    }
-    let rest = children.split_off(children.len() / 2)?;
-    forks.push(Arc::new(alloc, Node::Fork(children))?)?;
-    forks.push(Arc::new(alloc, Node::Fork(rest))?)?;
-    Ok(forks)
-}
-
-/// The node, or two in its place where it has too much.
-pub fn parts(alloc: Global, node: Node) -> Result<Vec<Arc<Node>>, AllocError>
-    ensures { IfOk result (λ v. (n : ℕ) → entries_in n (map arc_value v.items) ≡ entries_of n node) }
-{
-    match node {
-        Node::Leaf(entries) => leaves(alloc, entries),
-        Node::Fork(children) => forks(alloc, children),
-    }
 }

@@ -8,8 +8,9 @@ ghost use Rattle.nostr_filter.specs.Choice.{picked};
 ghost use Rattle.newest.specs.Newest.{AreOf, inserted};
 
 use crate::choice::walk;
+use crate::cutting::parts;
 use crate::growth::grown;
-use crate::node::{Entry, Node, is_long, parts};
+use crate::node::{Entry, Node, is_long};
 use crate::noted::Noted;
 use nostr_event::Event;
 use nostr_filter::{Filter, Rank, cut};
@@ -37,11 +38,11 @@ impl Model for Newest {
     ghost Value = { List (ℕ × EventView) };
 
     ghost use Rattle.newest.specs.Newest.{IsNewestFirst, AreBelow};
-    ghost use Rattle.newest.specs.Nodes.{entries_of};
+    ghost use Rattle.newest.specs.Nodes.{entries_of, IsKept};
 
     ghost view = { λ n. entries_of n.layers (arc_value n.root) };
 
-    ghost invariant = { λ n. IsNewestFirst (entries_of n.layers (arc_value n.root))
+    ghost invariant = { λ n. IsKept n.layers (arc_value n.root) × IsNewestFirst (entries_of n.layers (arc_value n.root))
         × AreBelow (length (entries_of n.layers (arc_value n.root))) (entries_of n.layers (arc_value n.root)) × (n.layers ≤ 64) };
 }
 

@@ -2,7 +2,7 @@ use Rattle.std.proofs.Common.{◌≡◌, ◌∙◌, ◌-◌, ◌+◌, Some, leng
 use Rattle.newest.specs.Newest.{rank}
 use Rattle.newest.specs.Nodes.{seen}
 use Rattle.newest.proofs.Layers.{last_seen}
-use Rattle.newest.proofs.ends.last_in.Goals as goal
+use Rattle.newest.proofs.cutting.last_in.Goals as goal
 
 pub returns : goal.returns
 returns c =
