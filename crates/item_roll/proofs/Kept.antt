@@ -5,11 +5,12 @@ use Rattle.std.proofs.Math.Seq.{take-length}
 use Rattle.std.proofs.lemmas.Bool.{cases_lt}
 use Rattle.std.proofs.lemmas.List.Concat.{get_or-flat_map}
 use Rattle.neg_codec.specs.declared.Item.{Item}
-use Rattle.neg_codec.specs.Keys.{place}
+use Rattle.neg_codec.specs.Keys.{place, item_of}
 use Rattle.neg_print.specs.Total.{total_of}
 use Rattle.item_roll.specs.declared.entries.Entry.{Entry}
 use Rattle.item_roll.specs.Parts.{Ascending, count_below}
-use Rattle.item_roll.specs.Chunks.{items_at, joined, starts, IsChunk, Tells, IsAt, Ends, HasRoom}
+use Rattle.item_roll.specs.Halves.{IsPart}
+use Rattle.item_roll.specs.Chunks.{items_at, joined, starts, Tells, IsAt, Ends, HasRoom}
 use Rattle.item_roll.proofs.Lists.{at_any}
 use Rattle.item_roll.specs.Sums.{sum_at}
 use Rattle.item_roll.proofs.Places.{low_item, high_item, count_most}
@@ -21,81 +22,81 @@ use Rattle.std.specs.Prelude.{slice_get, Some}
 use Rattle.std.proofs.lemmas.Option.{slice_get-get_or}
 use Rattle.std.proofs.Math.ListN.{get_or-append}
 
-pub told_before : (es : List Entry) (i n t : ℕ) (d : Entry) → Tells n t es → i < length es → (get_or es i d).before ≡ n + starts es i
-told_before [] i n t d k lt = absurd (omega arith)
-told_before (e ∷ es) zero n t d k lt = omega (arith, k.0)
-told_before (e ∷ es) (suc i) n t d k lt =
-    omega (arith, told_before es i (n + length (items_at e)) _ d k.3 (omega arith), length-append (items_at e) (joined (take i es)))
+pub told_before : {V : Type 0} → (its : V → List Item) (top : ℕ) (es : List (Entry V)) (i n t : ℕ) (d : Entry V) → Tells its top n t es → i < length es → (get_or es i d).before ≡ n + starts its es i
+told_before {V} its top [] i n t d k lt = absurd (omega arith)
+told_before {V} its top (e ∷ es) zero n t d k lt = omega (arith, k.0)
+told_before {V} its top (e ∷ es) (suc i) n t d k lt =
+    omega (arith, told_before its top es i (n + length (items_at its e)) _ d k.3 (omega arith), length-append (items_at its e) (joined its (take i es)))
 
-pub told_chunk : (es : List Entry) (i n t : ℕ) (d : Entry) → Tells n t es → i < length es → IsChunk (items_at (get_or es i d))
-told_chunk [] i n t d k lt = absurd (omega arith)
-told_chunk (e ∷ es) zero n t d k lt = k.2
-told_chunk (e ∷ es) (suc i) n t d k lt = told_chunk es i _ _ d k.3 (omega arith)
+pub told_chunk : {V : Type 0} → (its : V → List Item) (top : ℕ) (es : List (Entry V)) (i n t : ℕ) (d : Entry V) → Tells its top n t es → i < length es → IsPart top (items_at its (get_or es i d))
+told_chunk {V} its top [] i n t d k lt = absurd (omega arith)
+told_chunk {V} its top (e ∷ es) zero n t d k lt = k.2
+told_chunk {V} its top (e ∷ es) (suc i) n t d k lt = told_chunk its top es i _ _ d k.3 (omega arith)
 
-pub told_all : (es : List Entry) (n t : ℕ) → Tells n t es → All (λ e. IsChunk (items_at e)) es
-told_all es n t k = λ i d lt. told_chunk es i n t d k lt
+pub told_all : {V : Type 0} → (its : V → List Item) (top : ℕ) (es : List (Entry V)) (n t : ℕ) → Tells its top n t es → All (λ e. IsPart top (items_at its e)) es
+told_all {V} its top es n t k = λ i d lt. told_chunk its top es i n t d k lt
 
 -- there are no more chunks than items, and at most 512 items in each
-pub told_many : (es : List Entry) (n t : ℕ) → Tells n t es → (length es ≤ length (joined es)) × (length (joined es) ≤ length es * 512)
-told_many [] n t k = (omega arith, omega arith)
-told_many (e ∷ es) n t k =
-    let rest = told_many es _ _ k.3 in
-    let all = length-append (items_at e) (joined es) in (
+pub told_many : {V : Type 0} → (its : V → List Item) (top : ℕ) (es : List (Entry V)) (n t : ℕ) → Tells its top n t es → (length es ≤ length (joined its es)) × (length (joined its es) ≤ length es * top)
+told_many {V} its top [] n t k = (omega arith, omega arith)
+told_many {V} its top (e ∷ es) n t k =
+    let rest = told_many its top es _ _ k.3 in
+    let all = length-append (items_at its e) (joined its es) in (
       omega (arith, rest.0, all, k.2.some),
       omega (arith, rest.1, all, k.2.few),
     )
 
-pub starts_next : (es : List Entry) (i : ℕ) (d : Entry) → i < length es → starts es (i + 1) ≡ starts es i + length (items_at (get_or es i d))
-starts_next [] i d lt = absurd (omega arith)
-starts_next (e ∷ es) zero d lt = omega (arith, length-append (items_at e) [])
-starts_next (e ∷ es) (suc i) d lt =
-    let ih : starts es (suc i) ≡ starts es i + length (items_at (get_or es i d)) = rw (add-one i) at (starts_next es i d (omega arith)) in
-    rw (add-one (suc i)) (omega (arith, ih, length-append (items_at e) (joined (take (suc i) es)), length-append (items_at e) (joined (take i es))))
+pub starts_next : {V : Type 0} → (its : V → List Item) (es : List (Entry V)) (i : ℕ) (d : Entry V) → i < length es → starts its es (i + 1) ≡ starts its es i + length (items_at its (get_or es i d))
+starts_next {V} its [] i d lt = absurd (omega arith)
+starts_next {V} its (e ∷ es) zero d lt = omega (arith, length-append (items_at its e) [])
+starts_next {V} its (e ∷ es) (suc i) d lt =
+    let ih : starts its es (suc i) ≡ starts its es i + length (items_at its (get_or es i d)) = rw (add-one i) at (starts_next its es i d (omega arith)) in
+    rw (add-one (suc i)) (omega (arith, ih, length-append (items_at its e) (joined its (take (suc i) es)), length-append (items_at its e) (joined its (take i es))))
 
-pub starts_all : (es : List Entry) → starts es (length es) ≡ length (joined es)
-starts_all es = ap (λ (xs : List Entry). length (joined xs)) (take-length es)
+pub starts_all : {V : Type 0} → (its : V → List Item) (es : List (Entry V)) → starts its es (length es) ≡ length (joined its es)
+starts_all {V} its es = ap (λ (xs : List (Entry V)). length (joined its xs)) (take-length es)
 
-pub starts_most : (es : List Entry) (i : ℕ) → starts es i ≤ length (joined es)
-starts_most [] zero = omega arith
-starts_most [] (suc i) = omega arith
-starts_most (e ∷ es) zero = omega arith
-starts_most (e ∷ es) (suc i) = omega (arith, starts_most es i, length-append (items_at e) (joined (take i es)), length-append (items_at e) (joined es))
+pub starts_most : {V : Type 0} → (its : V → List Item) (es : List (Entry V)) (i : ℕ) → starts its es i ≤ length (joined its es)
+starts_most {V} its [] zero = omega arith
+starts_most {V} its [] (suc i) = omega arith
+starts_most {V} its (e ∷ es) zero = omega arith
+starts_most {V} its (e ∷ es) (suc i) = omega (arith, starts_most its es i, length-append (items_at its e) (joined its (take i es)), length-append (items_at its e) (joined its es))
 
-pub item_in : (es : List Entry) (i j : ℕ) (d : Entry) (x : Item) → i < length es → j < length (items_at (get_or es i d)) → get_or (joined es) (starts es i + j) x ≡ get_or (items_at (get_or es i d)) j x
-item_in es i j d x lt l = get_or-flat_map items_at es i j d x lt l
+pub item_in : {V : Type 0} → (its : V → List Item) (es : List (Entry V)) (i j : ℕ) (d : Entry V) (x : Item) → i < length es → j < length (items_at its (get_or es i d)) → get_or (joined its es) (starts its es i + j) x ≡ get_or (items_at its (get_or es i d)) j x
+item_in {V} its es i j d x lt l = get_or-flat_map (items_at its) es i j d x lt l
 
 -- ---- an entry that was read from the list
 
-pub before_is : (es : List Entry) (i : ℕ) (e : Entry) → Tells 0 0 es → i < length es → e ≡ get_or es i e → e.before ≡ starts es i
-before_is es i e k lt is = omega (arith, ap (λ (x : Entry). x.before) is, told_before es i 0 0 e k lt)
+pub before_is : {V : Type 0} → (its : V → List Item) (top : ℕ) (es : List (Entry V)) (i : ℕ) (e : Entry V) → Tells its top 0 0 es → i < length es → e ≡ get_or es i e → e.before ≡ starts its es i
+before_is {V} its top es i e k lt is = omega (arith, ap (λ (x : Entry V). x.before) is, told_before its top es i 0 0 e k lt)
 
-pub chunk_is : (es : List Entry) (i : ℕ) (e : Entry) → Tells 0 0 es → i < length es → e ≡ get_or es i e → IsChunk (items_at e)
-chunk_is es i e k lt is = subst (λ (x : Entry). IsChunk (items_at x)) (sym is) (told_chunk es i 0 0 e k lt)
+pub chunk_is : {V : Type 0} → (its : V → List Item) (top : ℕ) (es : List (Entry V)) (i : ℕ) (e : Entry V) → Tells its top 0 0 es → i < length es → e ≡ get_or es i e → IsPart top (items_at its e)
+chunk_is {V} its top es i e k lt is = subst (λ (x : Entry V). IsPart top (items_at its x)) (sym is) (told_chunk its top es i 0 0 e k lt)
 
-pub next_is : (es : List Entry) (i : ℕ) (e : Entry) → i < length es → e ≡ get_or es i e → starts es (i + 1) ≡ starts es i + length (items_at e)
-next_is es i e lt is = starts_next es i e lt ∙ ap (λ (x : Entry). starts es i + length (items_at x)) (sym is)
+pub next_is : {V : Type 0} → (its : V → List Item) (es : List (Entry V)) (i : ℕ) (e : Entry V) → i < length es → e ≡ get_or es i e → starts its es (i + 1) ≡ starts its es i + length (items_at its e)
+next_is {V} its es i e lt is = starts_next its es i e lt ∙ ap (λ (x : Entry V). starts its es i + length (items_at its x)) (sym is)
 
-pub item_is : (es : List Entry) (i j : ℕ) (e : Entry) (x : Item) → i < length es → e ≡ get_or es i e → j < length (items_at e) → get_or (joined es) (starts es i + j) x ≡ get_or (items_at e) j x
-item_is es i j e x lt is l =
-    let l2 : j < length (items_at (get_or es i e)) = subst (λ (y : Entry). j < length (items_at y)) is l in
-    item_in es i j e x lt l2 ∙ ap (λ (y : Entry). get_or (items_at y) j x) (sym is)
+pub item_is : {V : Type 0} → (its : V → List Item) (es : List (Entry V)) (i j : ℕ) (e : Entry V) (x : Item) → i < length es → e ≡ get_or es i e → j < length (items_at its e) → get_or (joined its es) (starts its es i + j) x ≡ get_or (items_at its e) j x
+item_is {V} its es i j e x lt is l =
+    let l2 : j < length (items_at its (get_or es i e)) = subst (λ (y : Entry V). j < length (items_at its y)) is l in
+    item_in its es i j e x lt l2 ∙ ap (λ (y : Entry V). get_or (items_at its y) j x) (sym is)
 
-pub record Read (es : List Entry) (place : ℕ) (e : Entry) (x : Item) : Type 0 where
+pub record Read {V : Type 0} (its : V → List Item) (es : List (Entry V)) (place : ℕ) (e : Entry V) : Type 0 where
   pub from : e.before ≤ place
-  pub within : place - e.before < length (items_at e)
-  pub value : slice_get (joined es) place ≡ Some (get_or (items_at e) (place - e.before) x)
+  pub within : place - e.before < length (items_at its e)
+  pub value : slice_get (joined its es) place ≡ slice_get (items_at its e) (place - e.before)
 
-pub read : (es : List Entry) (i p : ℕ) (e : Entry) (x : Item) → Tells 0 0 es → IsAt es p i → e ≡ get_or es i e → Read es p e x
-read es i p e x k at is =
-    let b = before_is es i e k at.within is in
-    let n = next_is es i e at.within is in
+pub read : {V : Type 0} → (its : V → List Item) (top : ℕ) (es : List (Entry V)) (i p : ℕ) (e : Entry V) → Tells its top 0 0 es → IsAt its es p i → e ≡ get_or es i e → Read its es p e
+read {V} its top es i p e k at is =
+    let b = before_is its top es i e k at.within is in
+    let n = next_is its es i e at.within is in
     let le : e.before ≤ p = omega (arith, b, at.from) in
-    let lt : p - e.before < length (items_at e) = omega (arith, b, n, at.below, at.from) in
-    let sum : starts es i + (p - e.before) ≡ p = omega (arith, b, at.from) in
-    let all : p < length (joined es) = omega (arith, at.below, starts_most es (i + 1)) in
-    let same : get_or (joined es) p x ≡ get_or (items_at e) (p - e.before) x =
-    ap (λ (q : ℕ). get_or (joined es) q x) (sym sum) ∙ item_is es i (p - e.before) e x at.within is lt in
-    record { from = le; within = lt; value = slice_get-get_or (joined es) p x all ∙ ap (λ (y : Item). Some y) same }
+    let lt : p - e.before < length (items_at its e) = omega (arith, b, n, at.below, at.from) in
+    let sum : starts its es i + (p - e.before) ≡ p = omega (arith, b, at.from) in
+    let all : p < length (joined its es) = omega (arith, at.below, starts_most its es (i + 1)) in
+    let same : get_or (joined its es) p (item_of 0 []) ≡ get_or (items_at its e) (p - e.before) (item_of 0 []) =
+    ap (λ (q : ℕ). get_or (joined its es) q (item_of 0 [])) (sym sum) ∙ item_is its es i (p - e.before) e (item_of 0 []) at.within is lt in
+    record { from = le; within = lt; value = slice_get-get_or (joined its es) p (item_of 0 []) all ∙ ap (λ (y : Item). Some y) same ∙ sym (slice_get-get_or (items_at its e) (p - e.before) (item_of 0 []) lt) }
 
 -- ---- order within a chunk
 
@@ -110,153 +111,165 @@ ascending_back : (xs ys : List Item) → Ascending (xs ++ ys) → Ascending ys
 ascending_back [] ys up = up
 ascending_back (x ∷ xs) ys up = ascending_back xs ys up.1
 
-ascending_at : (es : List Entry) (i : ℕ) (d : Entry) → Ascending (joined es) → i < length es → Ascending (items_at (get_or es i d))
-ascending_at [] i d up lt = absurd (omega arith)
-ascending_at (e ∷ es) zero d up lt = ascending_front (items_at e) (joined es) up
-ascending_at (e ∷ es) (suc i) d up lt = ascending_at es i d (ascending_back (items_at e) (joined es) up) (omega arith)
+ascending_at : {V : Type 0} → (its : V → List Item) (es : List (Entry V)) (i : ℕ) (d : Entry V) → Ascending (joined its es) → i < length es → Ascending (items_at its (get_or es i d))
+ascending_at {V} its [] i d up lt = absurd (omega arith)
+ascending_at {V} its (e ∷ es) zero d up lt = ascending_front (items_at its e) (joined its es) up
+ascending_at {V} its (e ∷ es) (suc i) d up lt = ascending_at its es i d (ascending_back (items_at its e) (joined its es) up) (omega arith)
 
-pub ascending_is : (es : List Entry) (i : ℕ) (e : Entry) → Ascending (joined es) → i < length es → e ≡ get_or es i e → Ascending (items_at e)
-ascending_is es i e up lt is = subst (λ (x : Entry). Ascending (items_at x)) (sym is) (ascending_at es i e up lt)
+pub ascending_is : {V : Type 0} → (its : V → List Item) (es : List (Entry V)) (i : ℕ) (e : Entry V) → Ascending (joined its es) → i < length es → e ≡ get_or es i e → Ascending (items_at its e)
+ascending_is {V} its es i e up lt is = subst (λ (x : Entry V). Ascending (items_at its x)) (sym is) (ascending_at its es i e up lt)
 
 -- the count below a bound, from where a chunk begins
-pub found : (es : List Entry) (i : ℕ) (e : Entry) (b : Item) → Tells 0 0 es → Ascending (joined es) → Ends es (count_below (joined es) b) i → e ≡ get_or es i e
-    → e.before + count_below (items_at e) b ≡ count_below (joined es) b
-found es i e b k up at is = omega (arith, first, most (count_below (items_at e) b) refl, least)
+pub found : {V : Type 0} → (its : V → List Item) (top : ℕ) (es : List (Entry V)) (i : ℕ) (e : Entry V) (b : Item) → Tells its top 0 0 es → Ascending (joined its es) → Ends its es (count_below (joined its es) b) i → e ≡ get_or es i e
+    → e.before + count_below (items_at its e) b ≡ count_below (joined its es) b
+found {V} its top es i e b k up at is = omega (arith, first, most (count_below (items_at its e) b) refl, least)
   where
-    asc : Ascending (items_at e)
-    asc = ascending_is es i e up at.within is
+    asc : Ascending (items_at its e)
+    asc = ascending_is its es i e up at.within is
 
-    first : e.before ≡ starts es i
-    first = before_is es i e k at.within is
+    first : e.before ≡ starts its es i
+    first = before_is its top es i e k at.within is
 
-    next : starts es (i + 1) ≡ starts es i + length (items_at e)
-    next = next_is es i e at.within is
+    next : starts its es (i + 1) ≡ starts its es i + length (items_at its e)
+    next = next_is its es i e at.within is
 
-    below_all : starts es (i + 1) ≤ length (joined es)
-    below_all = starts_most es (i + 1)
+    below_all : starts its es (i + 1) ≤ length (joined its es)
+    below_all = starts_most its es (i + 1)
 
-    most : (m : ℕ) → m ≡ count_below (items_at e) b → starts es i + m ≤ count_below (joined es) b
+    most : (m : ℕ) → m ≡ count_below (items_at its e) b → starts its es i + m ≤ count_below (joined its es) b
     most zero me = omega (arith, at.from)
     most (suc m) me =
-        let lt : m < length (items_at e) = omega (arith, me, count_most (items_at e) b) in
-        let x = get_or (items_at e) m b in
-        let low : place (get_or (items_at e) m b) < place b = elim (cases_lt (place (get_or (items_at e) m b)) (place b)) [
+        let lt : m < length (items_at its e) = omega (arith, me, count_most (items_at its e) b) in
+        let x = get_or (items_at its e) m b in
+        let low : place (get_or (items_at its e) m b) < place b = elim (cases_lt (place (get_or (items_at its e) m b)) (place b)) [
           | inl h ↦ h
-          | inr h ↦ absurd (omega (arith, high_item (items_at e) m b b asc lt h, me))
+          | inr h ↦ absurd (omega (arith, high_item (items_at its e) m b b asc lt h, me))
         ] in
-        let same = item_is es i m e b at.within is lt in
-        let in_all : place (get_or (joined es) (starts es i + m) b) < place b = subst (λ (y : Item). place y < place b) (sym same) low in
-        omega (arith, low_item (joined es) (starts es i + m) b b up (omega (arith, next, below_all, lt)) in_all)
+        let same = item_is its es i m e b at.within is lt in
+        let in_all : place (get_or (joined its es) (starts its es i + m) b) < place b = subst (λ (y : Item). place y < place b) (sym same) low in
+        omega (arith, low_item (joined its es) (starts its es i + m) b b up (omega (arith, next, below_all, lt)) in_all)
 
-    least : count_below (joined es) b ≤ starts es i + count_below (items_at e) b
-    least = elim (cases_lt (count_below (items_at e) b) (length (items_at e))) [
+    least : count_below (joined its es) b ≤ starts its es i + count_below (items_at its e) b
+    least = elim (cases_lt (count_below (items_at its e) b) (length (items_at its e))) [
       | inl lt ↦
-          let m = count_below (items_at e) b in
-          let same = item_is es i (count_below (items_at e) b) e b at.within is lt in
-          elim (cases_lt (place (get_or (items_at e) (count_below (items_at e) b) b)) (place b)) [
-            | inl h ↦ absurd (omega (arith, low_item (items_at e) (count_below (items_at e) b) b b asc lt h))
+          let m = count_below (items_at its e) b in
+          let same = item_is its es i (count_below (items_at its e) b) e b at.within is lt in
+          elim (cases_lt (place (get_or (items_at its e) (count_below (items_at its e) b) b)) (place b)) [
+            | inl h ↦ absurd (omega (arith, low_item (items_at its e) (count_below (items_at its e) b) b b asc lt h))
             | inr h ↦
-                let in_all : place b ≤ place (get_or (joined es) (starts es i + count_below (items_at e) b) b) = subst (λ (y : Item). place b ≤ place y) (sym same) h in
-                high_item (joined es) (starts es i + count_below (items_at e) b) b b up (omega (arith, next, below_all, lt)) in_all
+                let in_all : place b ≤ place (get_or (joined its es) (starts its es i + count_below (items_at its e) b) b) = subst (λ (y : Item). place b ≤ place y) (sym same) h in
+                high_item (joined its es) (starts its es i + count_below (items_at its e) b) b b up (omega (arith, next, below_all, lt)) in_all
           ]
       | inr ge ↦ omega (arith, at.upto, next, ge)
     ]
 
-pub none_in : (es : List Entry) (b : Item) → length es ≡ 0 → 0 ≡ count_below (joined es) b
+pub none_in : {V : Type 0} → (its : V → List Item) (es : List (Entry V)) (b : Item) → length es ≡ 0 → 0 ≡ count_below (joined its es) b
 unfolding count_below
-none_in [] b e = refl
-none_in (x ∷ es) b e = absurd (omega arith)
+none_in {V} its [] b e = refl
+none_in {V} its (x ∷ es) b e = absurd (omega arith)
 
--- the first item of a chunk
-pub low_first : (es : List Entry) (i : ℕ) (e : Entry) (b x : Item) → Tells 0 0 es → Ascending (joined es) → i < length es → e ≡ get_or es i e
-    → place (get_or (items_at e) 0 x) < place b → starts es i < count_below (joined es) b
-low_first es i e b x k up lt is low =
-    let c = chunk_is es i e k lt is in
-    let n = next_is es i e lt is in
-    let same = item_is es i 0 e x lt is c.some in
-    omega (arith, low_item (joined es) (starts es i + 0) b x up (omega (arith, n, starts_most es (i + 1), c.some)) (subst (λ (y : Item). place y < place b) (sym same) low))
+-- ---- the first item of a part
 
-pub high_first : (es : List Entry) (i : ℕ) (e : Entry) (b x : Item) → Tells 0 0 es → Ascending (joined es) → i < length es → e ≡ get_or es i e
-    → place b ≤ place (get_or (items_at e) 0 x) → count_below (joined es) b ≤ starts es i
-high_first es i e b x k up lt is high =
-    let c = chunk_is es i e k lt is in
-    let n = next_is es i e lt is in
-    let same = item_is es i 0 e x lt is c.some in
-    omega (arith, high_item (joined es) (starts es i + 0) b x up (omega (arith, n, starts_most es (i + 1), c.some)) (subst (λ (y : Item). place b ≤ place y) (sym same) high))
+first_read : (xs : List Item) (x d : Item) → 0 < length xs → slice_get xs 0 ≡ Some x → get_or xs 0 d ≡ x
+first_read [] x d lt e = absurd (omega arith)
+first_read (y ∷ xs) x d lt e = cc
 
-pub told_sum : (es : List Entry) (i n t : ℕ) (d : Entry) → t < 2 ^ 256 → Tells n t es → i < length es → total_of (get_or es i d).sum_before ≡ (t + sum_at (joined (take i es))) % 2 ^ 256
-told_sum [] i n t d small k lt = absurd (omega arith)
-told_sum (e ∷ es) zero n t d small k lt = omega (arith, k.1, sum_none, small)
-told_sum (e ∷ es) (suc i) n t d small k lt =
-    let ih = told_sum es i (n + length (items_at e)) ((t + sum_at (items_at e)) % 2 ^ 256) d (omega arith) k.3 (omega arith) in
-    let a = sum_append (items_at e) (joined (take i es)) in
+pub low_first : {V : Type 0} → (its : V → List Item) (top : ℕ) (es : List (Entry V)) (i : ℕ) (e : Entry V) (b x : Item) → Tells its top 0 0 es → Ascending (joined its es) → i < length es → e ≡ get_or es i e → slice_get (items_at its e) 0 ≡ Some x
+    → place x < place b → starts its es i < count_below (joined its es) b
+low_first {V} its top es i e b x k up lt is first low =
+    let c = chunk_is its top es i e k lt is in
+    let n = next_is its es i e lt is in
+    let same = item_is its es i 0 e x lt is c.some ∙ first_read (items_at its e) x x c.some first in
+    omega (arith, low_item (joined its es) (starts its es i + 0) b x up (omega (arith, n, starts_most its es (i + 1), c.some)) (subst (λ (y : Item). place y < place b) (sym same) low))
+
+pub high_first : {V : Type 0} → (its : V → List Item) (top : ℕ) (es : List (Entry V)) (i : ℕ) (e : Entry V) (b x : Item) → Tells its top 0 0 es → Ascending (joined its es) → i < length es → e ≡ get_or es i e → slice_get (items_at its e) 0 ≡ Some x
+    → place b ≤ place x → count_below (joined its es) b ≤ starts its es i
+high_first {V} its top es i e b x k up lt is first high =
+    let c = chunk_is its top es i e k lt is in
+    let n = next_is its es i e lt is in
+    let same = item_is its es i 0 e x lt is c.some ∙ first_read (items_at its e) x x c.some first in
+    omega (arith, high_item (joined its es) (starts its es i + 0) b x up (omega (arith, n, starts_most its es (i + 1), c.some)) (subst (λ (y : Item). place b ≤ place y) (sym same) high))
+
+pub told_sum : {V : Type 0} → (its : V → List Item) (top : ℕ) (es : List (Entry V)) (i n t : ℕ) (d : Entry V) → t < 2 ^ 256 → Tells its top n t es → i < length es → total_of (get_or es i d).sum_before ≡ (t + sum_at (joined its (take i es))) % 2 ^ 256
+told_sum {V} its top [] i n t d small k lt = absurd (omega arith)
+told_sum {V} its top (e ∷ es) zero n t d small k lt = omega (arith, k.1, sum_none, small)
+told_sum {V} its top (e ∷ es) (suc i) n t d small k lt =
+    let ih = told_sum its top es i (n + length (items_at its e)) ((t + sum_at (items_at its e)) % 2 ^ 256) d (omega arith) k.3 (omega arith) in
+    let a = sum_append (items_at its e) (joined its (take i es)) in
     omega (arith, ih, a)
 
-pub take_in : (es : List Entry) (i j : ℕ) (d : Entry) → i < length es → j ≤ length (items_at (get_or es i d)) → take (starts es i + j) (joined es) ≡ joined (take i es) ++ take j (items_at (get_or es i d))
-take_in [] i j d lt le = absurd (omega arith)
-take_in (e ∷ es) zero j d lt le =
+pub take_in : {V : Type 0} → (its : V → List Item) (es : List (Entry V)) (i j : ℕ) (d : Entry V) → i < length es → j ≤ length (items_at its (get_or es i d)) → take (starts its es i + j) (joined its es) ≡ joined its (take i es) ++ take j (items_at its (get_or es i d))
+take_in {V} its [] i j d lt le = absurd (omega arith)
+take_in {V} its (e ∷ es) zero j d lt le =
     let z : 0 + j ≡ j = omega arith in
-    rw z (take-append-le j (items_at e) (joined es) le)
-take_in (e ∷ es) (suc i) j d lt le =
-    let n : starts (e ∷ es) (suc i) + j ≡ length (items_at e) + (starts es i + j) = omega (arith, length-append (items_at e) (joined (take i es))) in
-    ap (λ (m : ℕ). take m (items_at e ++ joined es)) n ∙ take-append-add (items_at e) (joined es) (starts es i + j)
-    ∙ ap (λ (ys : List Item). items_at e ++ ys) (take_in es i j d (omega arith) le) ∙ sym (append_assoc (items_at e) (joined (take i es)) (take j (items_at (get_or es i d))))
+    rw z (take-append-le j (items_at its e) (joined its es) le)
+take_in {V} its (e ∷ es) (suc i) j d lt le =
+    let n : starts its (e ∷ es) (suc i) + j ≡ length (items_at its e) + (starts its es i + j) = omega (arith, length-append (items_at its e) (joined its (take i es))) in
+    ap (λ (m : ℕ). take m (items_at its e ++ joined its es)) n ∙ take-append-add (items_at its e) (joined its es) (starts its es i + j)
+    ∙ ap (λ (ys : List Item). items_at its e ++ ys) (take_in its es i j d (omega arith) le) ∙ sym (append_assoc (items_at its e) (joined its (take i es)) (take j (items_at its (get_or es i d))))
 
-pub small_sum : (es : List Entry) (i : ℕ) (e : Entry) → Tells 0 0 es → i < length es → e ≡ get_or es i e → total_of e.sum_before < 2 ^ 256
-small_sum es i e k lt is = omega (arith, told_sum es i 0 0 e (omega arith) k lt, ap (λ (x : Entry). total_of x.sum_before) is)
+pub small_sum : {V : Type 0} → (its : V → List Item) (top : ℕ) (es : List (Entry V)) (i : ℕ) (e : Entry V) → Tells its top 0 0 es → i < length es → e ≡ get_or es i e → total_of e.sum_before < 2 ^ 256
+small_sum {V} its top es i e k lt is = omega (arith, told_sum its top es i 0 0 e (omega arith) k lt, ap (λ (x : Entry V). total_of x.sum_before) is)
 
 -- the sum of what stands before a place, from where its chunk begins
-pub sum_to : (es : List Entry) (i p : ℕ) (e : Entry) → Tells 0 0 es → IsAt es p i → e ≡ get_or es i e
-    → (total_of e.sum_before + sum_at (take (p - e.before) (items_at e))) % 2 ^ 256 ≡ sum_at (take p (joined es))
-sum_to es i p e k at is =
-    let b = before_is es i e k at.within is in
-    let n = next_is es i e at.within is in
-    let t = told_sum es i 0 0 e (omega arith) k at.within in
-    let s = ap (λ (x : Entry). total_of x.sum_before) is in
-    let le : p - e.before ≤ length (items_at (get_or es i e)) = omega (arith, b, n, at.below, at.from, ap (λ (x : Entry). length (items_at x)) is) in
-    let cut = take_in es i (p - e.before) e at.within le in
-    let q : starts es i + (p - e.before) ≡ p = omega (arith, b, at.from) in
-    let all : take p (joined es) ≡ joined (take i es) ++ take (p - e.before) (items_at e) =
-    ap (λ (m : ℕ). take m (joined es)) (sym q) ∙ cut ∙ ap (λ (x : Entry). joined (take i es) ++ take (p - e.before) (items_at x)) (sym is) in
-    let whole = ap (λ (xs : List Item). sum_at xs) all ∙ sum_append (joined (take i es)) (take (p - e.before) (items_at e)) in
+pub sum_to : {V : Type 0} → (its : V → List Item) (top : ℕ) (es : List (Entry V)) (i p : ℕ) (e : Entry V) → Tells its top 0 0 es → IsAt its es p i → e ≡ get_or es i e
+    → (total_of e.sum_before + sum_at (take (p - e.before) (items_at its e))) % 2 ^ 256 ≡ sum_at (take p (joined its es))
+sum_to {V} its top es i p e k at is =
+    let b = before_is its top es i e k at.within is in
+    let n = next_is its es i e at.within is in
+    let t = told_sum its top es i 0 0 e (omega arith) k at.within in
+    let s = ap (λ (x : Entry V). total_of x.sum_before) is in
+    let le : p - e.before ≤ length (items_at its (get_or es i e)) = omega (arith, b, n, at.below, at.from, ap (λ (x : Entry V). length (items_at its x)) is) in
+    let cut = take_in its es i (p - e.before) e at.within le in
+    let q : starts its es i + (p - e.before) ≡ p = omega (arith, b, at.from) in
+    let all : take p (joined its es) ≡ joined its (take i es) ++ take (p - e.before) (items_at its e) =
+    ap (λ (m : ℕ). take m (joined its es)) (sym q) ∙ cut ∙ ap (λ (x : Entry V). joined its (take i es) ++ take (p - e.before) (items_at its x)) (sym is) in
+    let whole = ap (λ (xs : List Item). sum_at xs) all ∙ sum_append (joined its (take i es)) (take (p - e.before) (items_at its e)) in
     omega (arith, t, s, whole)
 
 -- ---- where an item is put
 
--- the chunk at that index takes an item at that place
-pub record PutAt (es : List Entry) (place i : ℕ) (e : Entry) : Type 0 where
+-- the part at that index takes an item at that place
+pub record PutAt {V : Type 0} (its : V → List Item) (top : ℕ) (es : List (Entry V)) (place i : ℕ) (e : Entry V) : Type 0 where
   pub within : i < length es
   pub from : e.before ≤ place
-  pub inside : place - e.before ≤ length (items_at e)
-  pub most : place - e.before ≤ 512
-  pub there : starts es i + (place - e.before) ≡ place
-  pub chunk : IsChunk (items_at e)
+  pub inside : place - e.before ≤ length (items_at its e)
+  pub there : starts its es i + (place - e.before) ≡ place
+  pub part : IsPart top (items_at its e)
+  pub few : length (items_at its e) ≤ length (joined its es)
 
-pub placed : (es read : List Entry) (i p q : ℕ) (e : Entry) → read ≡ es → q ≡ p - 1 → Tells 0 0 es → IsAt read q i → e ≡ get_or es i e → PutAt es p i e
-placed es read i p q e same before k found is =
-    let there : IsAt es (p - 1) i = rw (same, before) at found in
-    let b = before_is es i e k there.within is in
-    let n = next_is es i e there.within is in
-    let chunk = chunk_is es i e k there.within is in
+pub placed : {V : Type 0} → (its : V → List Item) (top : ℕ) (es got : List (Entry V)) (i p q : ℕ) (e : Entry V) → got ≡ es → q ≡ p - 1 → Tells its top 0 0 es → IsAt its got q i → e ≡ get_or es i e → PutAt its top es p i e
+placed {V} its top es got i p q e same before k at is =
+    let there : IsAt its es (p - 1) i = rw (same, before) at at in
+    let b = before_is its top es i e k there.within is in
+    let n = next_is its es i e there.within is in
     record {
       within = there.within;
       from = omega (arith, b, there.from);
       inside = omega (arith, b, n, there.below);
-      most = omega (arith, b, n, there.below, chunk.few);
       there = omega (arith, b, there.from);
-      chunk = chunk;
+      part = chunk_is its top es i e k there.within is;
+      few = omega (arith, n, starts_most its es (i + 1));
     }
 
-items_same : (es : List Entry) (i : ℕ) (e d : Entry) → i < length es → e ≡ get_or es i e → items_at (get_or es i d) ≡ items_at e
-items_same es i e d lt is = ap items_at (at_any es i d e lt ∙ sym is)
+items_same : {V : Type 0} → (its : V → List Item) (es : List (Entry V)) (i : ℕ) (e d : Entry V) → i < length es → e ≡ get_or es i e → items_at its (get_or es i d) ≡ items_at its e
+items_same {V} its es i e d lt is = ap (items_at its) (at_any es i d e lt ∙ sym is)
 
-pub room_in : (es : List Entry) (i p : ℕ) (e : Entry) (items : List Item) → PutAt es p i e → e ≡ get_or es i e → items ≡ items_at e → length items < 512 → HasRoom es p i (p - e.before)
-room_in es i p e items put is same room = record {
+pub room_in : {V : Type 0} → (its : V → List Item) (top : ℕ) (es : List (Entry V)) (i p : ℕ) (e : Entry V) → PutAt its top es p i e → e ≡ get_or es i e → length (items_at its e) < top → HasRoom its top es p i (p - e.before)
+room_in {V} its top es i p e put is room = record {
   within = put.within;
   there = put.there;
-  inside = λ d. omega (arith, put.inside, ap length (items_same es i e d put.within is));
-  room = λ d. omega (arith, room, ap length same, ap length (items_same es i e d put.within is));
+  inside = λ d. omega (arith, put.inside, ap length (items_same its es i e d put.within is));
+  room = λ d. omega (arith, room, ap length (items_same its es i e d put.within is));
 }
 
-pub filled : (es : List Entry) (i p : ℕ) (e : Entry) (items : List Item) → PutAt es p i e → e ≡ get_or es i e → items ≡ items_at e → 512 ≤ length items → (d : Entry) → length (items_at (get_or es i d)) ≡ 512
-filled es i p e items put is same full d = omega (arith, full, put.chunk.few, ap length same, ap length (items_same es i e d put.within is))
+-- what is known of the items of an entry that was read
+pub at_entry : {V : Type 0} → (its : V → List Item) (P : List Item → Type 0) (es : List (Entry V)) (i : ℕ) (e : Entry V) → i < length es → e ≡ get_or es i e → P (items_at its e) → (d : Entry V) → P (items_at its (get_or es i d))
+at_entry {V} its P es i e lt is h d = subst P (sym (items_same its es i e d lt is)) h
+
+-- the part at an index has some items, and no more than all
+pub at_some : {V : Type 0} → (its : V → List Item) (top : ℕ) (es : List (Entry V)) (i : ℕ) (d : Entry V) → Tells its top 0 0 es → i < length es → 0 < length (items_at its (get_or es i d))
+at_some {V} its top es i d k lt = (told_chunk its top es i 0 0 d k lt).some
+
+pub at_less : {V : Type 0} → (its : V → List Item) (es : List (Entry V)) (i : ℕ) (d : Entry V) → i < length es → length (items_at its (get_or es i d)) ≤ length (joined its es)
+at_less {V} its es i d lt = omega (arith, starts_next its es i d lt, starts_most its es (i + 1))

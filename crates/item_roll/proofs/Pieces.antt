@@ -16,26 +16,26 @@ drop_front xs ys zero le = refl
 drop_front [] ys (suc j) le = absurd (omega arith)
 drop_front (x ∷ xs) ys (suc j) le = drop_front xs ys j (omega arith)
 
-in_chunk : (es : List Entry) (i j k : ℕ) (d : Entry) → i < length es → j + k ≤ length (items_at (get_or es i d)) → take k (drop (starts es i + j) (joined es)) ≡ take k (drop j (items_at (get_or es i d)))
-in_chunk [] i j k d lt le = absurd (omega arith)
-in_chunk (e ∷ es) zero j k d lt le =
-    let front : drop (0 + j) (items_at e ++ joined es) ≡ drop j (items_at e) ++ joined es = let z : 0 + j ≡ j = omega arith in rw z (drop_front (items_at e) (joined es) j (omega arith)) in
-    ap (λ (xs : List Item). take k xs) front ∙ take-append-le k (drop j (items_at e)) (joined es) (omega (arith, le, length-drop j (items_at e)))
-in_chunk (e ∷ es) (suc i) j k d lt le =
-    let n : starts (e ∷ es) (suc i) + j ≡ length (items_at e) + (starts es i + j) = omega (arith, length-append (items_at e) (joined (take i es))) in
-    ap (λ (m : ℕ). take k (drop m (items_at e ++ joined es))) n ∙ ap (λ (xs : List Item). take k xs) (drop-append-add (items_at e) (joined es) (starts es i + j))
-    ∙ in_chunk es i j k d (omega arith) le
+in_chunk : {V : Type 0} → (its : V → List Item) (es : List (Entry V)) (i j k : ℕ) (d : Entry V) → i < length es → j + k ≤ length (items_at its (get_or es i d)) → take k (drop (starts its es i + j) (joined its es)) ≡ take k (drop j (items_at its (get_or es i d)))
+in_chunk {V} its [] i j k d lt le = absurd (omega arith)
+in_chunk {V} its (e ∷ es) zero j k d lt le =
+    let front : drop (0 + j) (items_at its e ++ joined its es) ≡ drop j (items_at its e) ++ joined its es = let z : 0 + j ≡ j = omega arith in rw z (drop_front (items_at its e) (joined its es) j (omega arith)) in
+    ap (λ (xs : List Item). take k xs) front ∙ take-append-le k (drop j (items_at its e)) (joined its es) (omega (arith, le, length-drop j (items_at its e)))
+in_chunk {V} its (e ∷ es) (suc i) j k d lt le =
+    let n : starts its (e ∷ es) (suc i) + j ≡ length (items_at its e) + (starts its es i + j) = omega (arith, length-append (items_at its e) (joined its (take i es))) in
+    ap (λ (m : ℕ). take k (drop m (items_at its e ++ joined its es))) n ∙ ap (λ (xs : List Item). take k xs) (drop-append-add (items_at its e) (joined its es) (starts its es i + j))
+    ∙ in_chunk its es i j k d (omega arith) le
 
 -- the items of one chunk from a place on
-pub piece_at : (es : List Entry) (i p k : ℕ) (e : Entry) → Tells 0 0 es → IsAt es p i → e ≡ get_or es i e → p - e.before + k ≤ length (items_at e)
-    → take k (drop (p - e.before) (items_at e)) ≡ slice_range (joined es) p (p + k)
-piece_at es i p k e tells there is le =
-    let b = before_is es i e tells there.within is in
-    let from : starts es i + (p - e.before) ≡ p = omega (arith, b, there.from) in
+piece_at : {V : Type 0} → (its : V → List Item) (top : ℕ) (es : List (Entry V)) (i p k : ℕ) (e : Entry V) → Tells its top 0 0 es → IsAt its es p i → e ≡ get_or es i e → p - e.before + k ≤ length (items_at its e)
+    → take k (drop (p - e.before) (items_at its e)) ≡ slice_range (joined its es) p (p + k)
+piece_at {V} its top es i p k e tells there is le =
+    let b = before_is its top es i e tells there.within is in
+    let from : starts its es i + (p - e.before) ≡ p = omega (arith, b, there.from) in
     let k_is : p + k - p ≡ k = omega arith in
-    let same = in_chunk es i (p - e.before) k e there.within (omega (arith, le, ap (λ (x : Entry). length (items_at x)) is)) in
-    ap (λ (x : Entry). take k (drop (p - e.before) (items_at x))) is ∙ sym same ∙ ap (λ (m : ℕ). take k (drop m (joined es))) from
-    ∙ ap (λ (m : ℕ). take m (drop p (joined es))) (sym k_is)
+    let same = in_chunk its es i (p - e.before) k e there.within (omega (arith, le, ap (λ (x : Entry V). length (items_at its x)) is)) in
+    ap (λ (x : Entry V). take k (drop (p - e.before) (items_at its x))) is ∙ sym same ∙ ap (λ (m : ℕ). take k (drop m (joined its es))) from
+    ∙ ap (λ (m : ℕ). take m (drop p (joined its es))) (sym k_is)
 
 drop_twice : (xs : List Item) (a b : ℕ) → drop b (drop a xs) ≡ drop (a + b) xs
 drop_twice xs zero b = let z : 0 + b ≡ b = omega arith in rw z refl
@@ -46,12 +46,11 @@ drop_twice [] (suc a) b = none b ∙ sym (none (suc a + b))
     none (suc n) = refl
 drop_twice (x ∷ xs) (suc a) b = let n : suc a + b ≡ suc (a + b) = omega arith in rw n (drop_twice xs a b)
 
-pub piece_from : (es : List Entry) (i p k : ℕ) (e : Entry) (result : List Item) → Tells 0 0 es → IsAt es p i → e ≡ get_or es i e → k ≤ length (drop (p - e.before) (items_at e))
-    → result ≡ take k (drop (p - e.before) (items_at e)) → (length result ≡ k) × (result ≡ slice_range (joined es) p (p + length result))
-piece_from es i p k e result tells there is le cut =
-    let len : length result ≡ k = ap length cut ∙ omega (arith, length-take k (drop (p - e.before) (items_at e)), le) in
-    let within : p - e.before ≤ length (items_at e) = omega (arith, before_is es i e tells there.within is, next_is es i e there.within is, there.below) in
-    (len, cut ∙ piece_at es i p k e tells there is (omega (arith, le, within, length-drop (p - e.before) (items_at e))) ∙ ap (λ (n : ℕ). slice_range (joined es) p (p + n)) (sym len))
+pub piece_from : {V : Type 0} → (its : V → List Item) (top : ℕ) (es : List (Entry V)) (i p : ℕ) (e : Entry V) (result : List Item) → Tells its top 0 0 es → IsAt its es p i → e ≡ get_or es i e → p - e.before + length result ≤ length (items_at its e)
+    → result ≡ slice_range (items_at its e) (p - e.before) (p - e.before + length result) → result ≡ slice_range (joined its es) p (p + length result)
+piece_from {V} its top es i p e result tells there is le cut =
+    let k_is : p - e.before + length result - (p - e.before) ≡ length result = omega arith in
+    cut ∙ ap (λ (m : ℕ). take m (drop (p - e.before) (items_at its e))) k_is ∙ piece_at its top es i p (length result) e tells there is le
 
 -- two pieces that lie side by side
 pub pieces_join : (xs : List Item) (lo mid hi : ℕ) → lo ≤ mid → mid ≤ hi → slice_range xs lo mid ++ slice_range xs mid hi ≡ slice_range xs lo hi
@@ -72,9 +71,8 @@ sum_less xs lo hi high low le h l =
     let s = ap sum_at all ∙ sum_append (take lo xs) (slice_range xs lo hi) in
     omega (arith, h, l, s, sum_small (take lo xs), sum_small (slice_range xs lo hi))
 
--- the sum up to a place in a chunk, by the items behind it
-pub sum_without : (items : List Item) (before whole k back : ℕ) → whole ≡ sum_at items → back ≡ sum_at (drop k items)
-    → ((before + whole) % 2 ^ 256 + (2 ^ 256 - back)) % 2 ^ 256 ≡ (before + sum_at (take k items)) % 2 ^ 256
-sum_without items before whole k back w b =
+-- the sum up to a place, by the items behind it
+pub sum_rest : (items : List Item) (whole k back : ℕ) → whole ≡ sum_at items → back ≡ sum_at (drop k items) → (whole + (2 ^ 256 - back)) % 2 ^ 256 ≡ sum_at (take k items)
+sum_rest items whole k back w b =
     let s = ap sum_at (sym (take-append-drop k items)) ∙ sum_append (take k items) (drop k items) in
     omega (arith, w, b, s, sum_small (drop k items), sum_small (take k items))

@@ -1,19 +1,24 @@
 //! Chunks of items.
 
-ghost use Rattle.std.specs.Prelude.{◌≡◌, ◌≤◌, length, IfOk, OnOk, OnErr};
+ghost use Rattle.std.specs.Prelude.{◌≡◌, ◌+◌, ◌<◌, ◌≤◌, length, take, slice_get, slice_range, Some, IfOk, OnOk, OnErr, MatchOption};
 ghost use Rattle.std.specs.List.{insert};
-ghost use Rattle.std.specs.Arc.{arc_value};
 ghost use Rattle.neg_print.specs.Total.{total_of};
+ghost use Rattle.item_roll.specs.Halves.{IsPart, IsHalved};
+ghost use Rattle.item_roll.specs.Parts.{Ascending, count_below};
 ghost use Rattle.item_roll.specs.Sums.{sum_at};
 
+use crate::order::is_before;
+use crate::part::Part;
 use neg_codec::Item;
 use neg_print::Sum;
 use std::alloc::{AllocError, Global};
 use std::marker::Model;
-use std::sync::Arc;
 
 /// A chunk has no more items.
 pub const CHUNK_ITEMS: usize = 512;
+
+/// How many items of a full chunk go into its first half.
+const HALF: usize = CHUNK_ITEMS / 2;
 
 /// Some items, and the sum of their ids.
 #[derive(Debug, Drop)]
@@ -46,6 +51,15 @@ pub fn sum_of_items(items: &[Item]) -> Sum
     sum
 }
 
+/// How many items of a list in order stand below another.
+fn items_below(items: &[Item], edge: &Item) -> usize
+    requires { Ascending items.now }
+    ensures value { result ≡ count_below items.now edge.now }
+    ensures within { result ≤ length items.now }
+{
+    items.partition_point(|item| is_before(item, edge))
+}
+
 impl Chunk {
     /// The items, in the roll's order.
     pub fn items(&self) -> &[Item]
@@ -61,13 +75,8 @@ impl Chunk {
         self.sum
     }
 
-    /// A chunk of these items, whose sum is given, with room for as many.
-    pub(crate) fn of(
-        alloc: Global,
-        items: &[Item],
-        sum: Sum,
-        room: usize,
-    ) -> Result<Chunk, AllocError>
+    /// A chunk of these items, whose sum is given, with room for so many.
+    fn with_room(alloc: Global, items: &[Item], sum: Sum, room: usize) -> Result<Chunk, AllocError>
         requires { total_of sum ≡ sum_at items.now }
         ensures { IfOk result (λ c. c ≡ items.now) }
     {
@@ -75,51 +84,72 @@ impl Chunk {
         own.extend_from_slice(items)?;
         Ok(Chunk { items: own, sum })
     }
+}
 
-    /// Puts an item before the one at that place.
-    fn insert(&mut self, at: usize, item: Item) -> Result<(), AllocError>
-        requires { at ≤ length self.old }
-        ensures ok { OnOk result (self.new ≡ insert self.old at item) }
-        ensures err { OnErr result (self.new ≡ self.old) }
-    {
+impl Part for Chunk {
+    ghost use Rattle.std.specs.Prelude.{List};
+    ghost use Rattle.neg_codec.specs.declared.Item.{Item};
+
+    ghost items = { λ (c : List Item). c };
+
+    ghost most = { 512 };
+
+    fn full_len() -> usize {
+        CHUNK_ITEMS
+    }
+
+    fn of(alloc: Global, list: &[Item]) -> Result<Chunk, AllocError> {
+        Chunk::with_room(alloc, list, sum_of_items(list), list.len())
+    }
+
+    fn copied(&self, alloc: Global) -> Result<Chunk, AllocError> {
+        Chunk::with_room(alloc, self.items(), self.sum, CHUNK_ITEMS)
+    }
+
+    fn halves(&self, alloc: Global) -> Result<Option<(Chunk, Chunk)>, AllocError> {
+        if self.items.len() < CHUNK_ITEMS {
+            return Ok(None);
+        }
+        let (first, second) = self.items().split_at(HALF);
+        let left = Chunk::with_room(alloc, first, sum_of_items(first), CHUNK_ITEMS)?;
+        let right = Chunk::with_room(alloc, second, sum_of_items(second), CHUNK_ITEMS)?;
+        Ok(Some((left, right)))
+    }
+
+    fn insert(&mut self, _alloc: Global, at: usize, item: Item) -> Result<(), AllocError> {
         if self.items.insert(at, item).is_err() {
             return Err(AllocError);
         }
         self.sum = self.sum.add(Sum::of(&item.id));
         Ok(())
     }
-}
 
-/// Puts an item into a copy of a chunk, which takes the chunk's place.
-fn put_in_copy(
-    chunk: &mut Arc<Chunk, Global>,
-    alloc: Global,
-    at: usize,
-    item: Item,
-) -> Result<(), AllocError>
-    requires { at ≤ length (arc_value chunk.old) }
-    ensures ok { OnOk result (arc_value chunk.new ≡ insert (arc_value chunk.old) at item) }
-    ensures err { OnErr result (chunk.new ≡ chunk.old) }
-{
-    let mut copy = Chunk::of(alloc, chunk.items(), chunk.sum(), CHUNK_ITEMS)?;
-    copy.insert(at, item)?;
-    *chunk = Arc::new(alloc, copy)?;
-    Ok(())
-}
+    fn len(&self) -> usize {
+        self.items.len()
+    }
 
-/// Puts an item into a chunk, or where that is shared into a copy.
-pub fn put_in(
-    chunk: &mut Arc<Chunk, Global>,
-    alloc: Global,
-    at: usize,
-    item: Item,
-) -> Result<(), AllocError>
-    requires { at ≤ length (arc_value chunk.old) }
-    ensures ok { OnOk result (arc_value chunk.new ≡ insert (arc_value chunk.old) at item) }
-    ensures err { OnErr result (chunk.new ≡ chunk.old) }
-{
-    match Arc::get_mut(chunk) {
-        Some(own) => own.insert(at, item),
-        None => put_in_copy(chunk, alloc, at, item),
+    fn sum(&self) -> Sum {
+        self.sum
+    }
+
+    fn get(&self, i: usize) -> Item {
+        self.items()[i]
+    }
+
+    fn below(&self, edge: &Item) -> usize {
+        items_below(self.items(), edge)
+    }
+
+    fn piece(&self, lo: usize, hi: usize) -> &[Item] {
+        &self.items()[lo..hi]
+    }
+
+    fn sum_before(&self, place: usize) -> Sum {
+        let (front, back) = self.items().split_at(place);
+        if front.len() <= back.len() {
+            sum_of_items(front)
+        } else {
+            self.sum.sub(sum_of_items(back))
+        }
     }
 }

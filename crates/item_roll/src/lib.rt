@@ -5,12 +5,14 @@ mod bound;
 mod chunk;
 mod entries;
 mod order;
+mod part;
 mod roll;
+mod run;
 mod sorting;
 mod split;
 
 pub use bound::minimal_bound;
 pub use chunk::Chunk;
 pub use entries::Entry;
-pub use roll::{Roll, RollFault};
+pub use roll::{Group, Roll, RollFault};
 pub use split::LISTED_BELOW;

@@ -1,4 +1,4 @@
-use item_roll::{Chunk, Roll, RollFault, minimal_bound};
+use item_roll::{Chunk, Group, Roll, RollFault, minimal_bound};
 use neg_codec::{Bound, Id, Item, Key, Payload, Range};
 use neg_print::Sum;
 use std::process::Abort;
@@ -253,17 +253,39 @@ fn is_chunk_at(chunk: &Chunk, items: &[Item], from: usize) -> bool {
     own == there && chunk.sum() == sum_of(own)
 }
 
+/// How many items of a list, from a place on, the chunks of a group have; none where they are others.
+fn group_len(group: &Group, items: &[Item], from: usize) -> Option<usize> {
+    let mut len = 0;
+    for entry in group.parts() {
+        let at = from.saturating_add(len);
+        if !is_chunk_at(entry.part(), items, at) {
+            return None;
+        }
+        len = len.saturating_add(entry.part().items().len());
+    }
+    Some(len)
+}
+
 /// Whether a roll has these items, one by one and in its chunks.
 fn has_items(roll: &Roll, items: &[Item]) -> bool {
-    if roll.len() != items.len() || roll.chunks() != roll.entries().len() {
+    if roll.len() != items.len() {
         return false;
     }
     let mut from = 0;
-    for entry in roll.entries() {
-        if !is_chunk_at(entry.chunk(), items, from) {
+    let mut chunks = 0;
+    for entry in roll.groups() {
+        let group = entry.part();
+        let Some(len) = group_len(group, items, from) else {
+            return false;
+        };
+        from = from.saturating_add(len);
+        chunks += group.parts().len();
+        if group.parts().len() > 64 {
             return false;
         }
-        from = from.saturating_add(entry.chunk().items().len());
+    }
+    if chunks != roll.chunks() {
+        return false;
     }
     for at in 0..items.len() {
         if at >= roll.len() || roll.get(at) != items[at] {

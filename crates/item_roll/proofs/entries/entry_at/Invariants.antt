@@ -3,7 +3,7 @@ use Rattle.item_roll.proofs.Searches.{Between}
 use Rattle.item_roll.proofs.entries.entry_at.Given as goal
 
 abbrev pub invariant-search : goal.invariant-search
-invariant-search l = Between l.entries l.low l.high l.place
+invariant-search g l = Between g.P.Part.items l.entries l.low l.high l.place
 
 abbrev pub decreases-search : goal.decreases-search
-decreases-search l = l.high - l.low
+decreases-search g l = l.high - l.low

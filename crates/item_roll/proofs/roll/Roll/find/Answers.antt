@@ -7,7 +7,7 @@ use Rattle.item_roll.proofs.Cuts.{part_is}
 use Rattle.item_roll.proofs.roll.Roll.find.Goals as goal
 
 value : (c : goal.After-below) → c.below.result ≡ count_below c.args.self.now (edge_of c.args.bound.now)
-value c = c.below.ensures.value ∙ ap (λ (b : Item). count_below c.args.self.now b) c.edge.ensures.value
+value c = (rw c.self.view_is at c.below.ensures.value) ∙ ap (λ (b : Item). count_below c.args.self.now b) c.edge.ensures.value
 
 pub returns-clause-part : goal.returns-clause-part
 returns-clause-part c = λ lower le. part_is c.args.self.now lower (edge_of c.args.bound.now) c.items_rise.ensures.ascending le

@@ -44,9 +44,12 @@ returns-then-len-gt-MOST_ITEMS-clause-full c =
     let len = sorted_len c.args.items.now c.in_ok-sorted.sorted.items c.deref.result.now _ c.len.result c.in_ok-sorted.ensures.all c.deref.ensures.value c.deref.ensures.len c.len.ensures in
     (λ e. (λ f. cc, finite c.args.items.now keys, none, omega (arith, len, c.if-len-gt-MOST_ITEMS.true)), λ h. refl)
 
-pub of_sorted-requires-clause-roll : goal.of_sorted-requires-clause-roll
-of_sorted-requires-clause-roll c = rw c.deref-2.ensures.value
-    (sorted_roll c.args.items.now c.in_ok-sorted.sorted.items c.deref.result.now (c.if-not-all_finite.ensures.finite refl) c.in_ok-sorted.ensures.all c.deref.ensures.value (c.if-has_repeat.ensures.distinct refl))
+pub invariant_of-result : goal.invariant_of-result
+invariant_of-result c = rw c.in_ok-groups.ensures (
+  rw c.deref-2.ensures.value
+      (sorted_roll c.args.items.now c.in_ok-sorted.sorted.items c.deref.result.now (c.if-not-all_finite.ensures.finite refl) c.in_ok-sorted.ensures.all c.deref.ensures.value (c.if-has_repeat.ensures.distinct refl)),
+  omega (arith, c.deref-2.ensures.len, c.len.ensures, c.if-len-gt-MOST_ITEMS.false),
+)
 
 pub returns-clause-present : goal.returns-clause-present
 returns-clause-present c =

@@ -1,0 +1,18 @@
+-- The items of a part of a roll, and how it is cut in two.
+use Rattle.std.specs.Prelude.{◌≡◌, ℕ, ◌<◌, ◌≤◌, ◌++◌, List, length}
+use Rattle.neg_codec.specs.declared.Item.{Item}
+
+-- some items, and no more than so many
+pub record IsPart (most : ℕ) (items : List Item) : Type 0 where
+  pub some : 0 < length items
+  pub few : length items ≤ most
+
+-- 1 to 512 items
+abbrev pub IsChunk : List Item → Type 0
+IsChunk items = IsPart 512 items
+
+-- some items and some others are all
+pub record IsHalved (items first second : List Item) : Type 0 where
+  pub whole : first ++ second ≡ items
+  pub some_first : 0 < length first
+  pub some_second : 0 < length second
