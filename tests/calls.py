@@ -1,5 +1,5 @@
 #!/usr/bin/env python3
-"""Refuses each allocation, and each start of a thread, in each public call that can answer want of memory.
+"""Refuses each allocation in calls that can answer want of memory, each call by itself.
 
     tests/calls.py [PATH]      (PATH of `memory_sweep`; else the proved build)
 
@@ -7,7 +7,6 @@
 at last with none, it has to print one of these:
 
 - `memory`: the call answered want of memory, and the state is as it has to be;
-- `allowed`: another answer that the call may give then, as that a reader's view is gone;
 - `ample`: the call's answer with all memory, as what was refused wasn't needed;
 - `outside`: what was refused was asked for before the call, or behind it.
 
@@ -21,17 +20,14 @@ import tempfile
 from sweep import counted, in_turn, library_in, need, run
 from told import program
 
-# The calls that take no memory for what they are given here.
-NEEDS_NONE = {"pin all"}
-
 
 def told(name, status, out, errors):
     """What a run of that call came to."""
-    if status == 1 and not out and errors.startswith("Error"):
+    if status == 1 and not out and errors == "Error: Kind(OutOfMemory)\n":
         return "outside"  # Its words weren't read.
     need(status == 0 and not errors, status, out, errors)
     word = out.removeprefix(name + ": ")
-    need(word in ("ample\n", "memory\n", "allowed\n", "outside\n"), status, out, errors)
+    need(word in ("ample\n", "memory\n", "outside\n"), status, out, errors)
     return word.strip()
 
 
@@ -41,7 +37,7 @@ def sweep(library, pool, path, name):
     if told(name, status, out, rest) != "ample":
         raise SystemExit("%s: %s" % (name, out))
     ends = in_turn(pool, name, range(1, total + 2), lambda at: told(name, *run(library, [path, name], at)))
-    if not ends["memory"] and name not in NEEDS_NONE:
+    if not ends["memory"]:
         raise SystemExit("%s never answered want of memory" % name)
 
 

@@ -7,8 +7,6 @@ pub enum Said {
     Ample,
     /// Want of memory, and the state is as it was.
     Memory,
-    /// Another answer that it may give then.
-    Allowed,
     /// An answer or a state that isn't right.
     Wrong(&'static str),
 }
@@ -27,15 +25,6 @@ impl Said {
     pub fn memory(is_kept: bool) -> Option<Said> {
         Some(if is_kept {
             Said::Memory
-        } else {
-            Said::Wrong("the state after it")
-        })
-    }
-
-    /// Another answer that may be given then, if the state is as it has to be.
-    pub fn allowed(is_kept: bool) -> Option<Said> {
-        Some(if is_kept {
-            Said::Allowed
         } else {
             Said::Wrong("the state after it")
         })
