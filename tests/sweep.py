@@ -251,11 +251,17 @@ def serve(library, pool, folder):
     need(ends["ample"], "no good end")
 
 
+def library_in(folder):
+    """The library that refuses, which is made in that folder."""
+    library = os.path.join(folder, "refuse.so")
+    source = os.path.join(ROOT, "bench", "refuse.c")
+    subprocess.run([os.environ.get("CC", "cc"), "-O1", "-shared", "-fPIC", "-o", library, source], check=True)
+    return library
+
+
 def main():
     with tempfile.TemporaryDirectory() as folder, concurrent.futures.ThreadPoolExecutor(os.cpu_count()) as pool:
-        library = os.path.join(folder, "refuse.so")
-        source = os.path.join(ROOT, "bench", "refuse.c")
-        subprocess.run([os.environ.get("CC", "cc"), "-O1", "-shared", "-fPIC", "-o", library, source], check=True)
+        library = library_in(folder)
         for part in (jobs, sync, serve):
             part(library, pool, folder)
 

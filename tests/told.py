@@ -9,10 +9,10 @@ ROOT = os.path.dirname(os.path.dirname(os.path.abspath(__file__)))
 sys.path.insert(0, os.path.join(ROOT, "bench"))
 
 
-def program(words=None):
-    """The path that the first word names, else the proved build."""
+def program(words=None, name="mirror_app"):
+    """The path that the first word names, else the proved build of the program of that name."""
     given = (sys.argv[1:] if words is None else words)[:1]
-    return os.path.abspath(given[0] if given else os.path.join(ROOT, "crates/mirror_app/out/mirror_app"))
+    return os.path.abspath(given[0] if given else os.path.join(ROOT, "crates", name, "out", name))
 
 
 def event(time, content):
