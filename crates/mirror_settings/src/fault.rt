@@ -17,7 +17,6 @@ pub enum SettingsKey {
     Bases,
     Rounds,
     PushMs,
-    TimeoutMs,
 }
 
 impl SettingsKey {
@@ -37,7 +36,6 @@ impl SettingsKey {
             SettingsKey::Bases => "bases",
             SettingsKey::Rounds => "rounds",
             SettingsKey::PushMs => "push_ms",
-            SettingsKey::TimeoutMs => "timeout_ms",
         }
     }
 }

@@ -93,8 +93,7 @@ pub fn open_hall<K: Drop, R: Net<Listener = TcpListener, Stream = TcpStream>, W:
     };
     let listener = listen(rt, alloc, address, writer)?;
     let push = settings.push_ms.map(Duration::from_millis);
-    let timeout = settings.timeout();
-    Ok(Hall::new(listener, conns, push, timeout, desk))
+    Ok(Hall::new(listener, conns, push, desk))
 }
 
 /// Writes the events file, and tells how many connections and events there were.
