@@ -279,10 +279,11 @@ fn has_items(roll: &Roll, items: &[Item]) -> bool {
             return false;
         };
         from = from.saturating_add(len);
-        chunks += group.parts().len();
-        if group.parts().len() > 64 {
+        let parts = group.parts().len();
+        if parts > 64 {
             return false;
         }
+        chunks = chunks.saturating_add(parts);
     }
     if chunks != roll.chunks() {
         return false;
