@@ -272,7 +272,7 @@ fn has_items(roll: &Roll, items: &[Item]) -> bool {
         return false;
     }
     let mut from = 0;
-    let mut chunks = 0;
+    let mut chunks: usize = 0;
     for entry in roll.groups() {
         let group = entry.part();
         let Some(len) = group_len(group, items, from) else {
