@@ -2,7 +2,7 @@
 
 ghost use Rattle.std.specs.Prelude.{◌≡◌, length, IfOk};
 
-use crate::fetching::{Counts, counts_of, fetched, grow, sources_of};
+use crate::fetching::{Counts, counts_of, fetched, sources_of};
 use crate::links::{finish_all, linked_all};
 use crate::progress::Progress;
 use crate::text::{counts_text, put_ends, put_plan, put_round};
@@ -10,7 +10,7 @@ use claim_board::Cell;
 use event_file::NewFile;
 use event_store::{Blank, Desk, Naming, Reader, open_store};
 use fetch_plan::Plan;
-use mirror_core::{End, SyncFault, Synced, next_plan, sync_plan};
+use mirror_core::{End, SyncFault, Synced, grown, next_plan, sync_plan};
 use mirror_settings::{Settings, SettingsKey, read_settings};
 use neg_session::SessionLimits;
 use offer_table::Bases;
@@ -60,13 +60,7 @@ where
 {
     let snapshot = reader.pin(alloc, &settings.filter)?;
     progress.tell(rt, snapshot.events().len(), "events are compared");
-    let mut peers = linked_all(
-        rt,
-        alloc,
-        settings.relays.as_slice(),
-        &settings.filter,
-        progress,
-    )?;
+    let mut peers = linked_all(rt, alloc, settings, progress)?;
     progress.tell(rt, peers.len(), "relays are asked");
     let bases = bases_of(settings.bases.as_slice());
     let limits = SessionLimits::default();
@@ -155,7 +149,7 @@ where
     for round in 1..settings.rounds {
         let cells = fetch_round(rt, alloc, settings, ends.as_slice(), &plan, desk, progress)?;
         all = all.with(&counts_of(cells.as_slice()));
-        grow(&mut bases, &plan, cells.as_slice());
+        bases = grown(&bases, &plan, cells.as_slice());
         plan = next_plan(alloc, &mut table, &plan, cells.as_slice(), &bases)?;
         if plan.len() == 0 {
             return Ok(all);
