@@ -6,8 +6,8 @@ use nostr_event::Text;
 use nostr_filter::Filter;
 use std::time::Duration;
 
-/// What `timeout_ms` is where it is left out: five minutes.
-const TIMEOUT_MS: u64 = 300_000;
+/// What `timeout_ms` is where it is left out: a minute.
+const TIMEOUT_MS: u64 = 60_000;
 
 /// The settings of a run that serves, or of one that synchronises and may serve beside.
 #[derive(Debug, Drop)]

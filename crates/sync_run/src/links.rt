@@ -5,14 +5,11 @@ ghost use Rattle.std.specs.Prelude.{◌≡◌, ◌<◌, ◌^◌, ◌-◌, All, I
 use crate::progress::Progress;
 use crate::told::ToldPeer;
 use mirror_settings::{Address, Settings};
-use serve_run::{Duty, Refusal, run_workers};
+use serve_run::Refusal;
 use std::alloc::Global;
 use std::io::{Read, Write};
-use std::marker::Model;
 use std::net::{Net, OpenStream, ToSocketAddrs};
 use std::random::RandomSource;
-use std::sync::Wait;
-use std::thread::Threads;
 use std::time::Duration;
 use tungstenite::RandomKeys;
 use ws_link::{LinkFault, WsPeer, WsSource};
@@ -50,68 +47,22 @@ fn linked<'a, R: Net + RandomSource>(
     }
 }
 
-/// A place for a relay's peer, of which no question has failed.
-#[derive(Drop)]
-struct PeerPlace<S, K> {
-    relay: usize,
-    peer: Result<WsPeer<S, K>, Refusal>,
-}
-
-impl<S, K> Model for PeerPlace<S, K> {
-    ghost use Rattle.std.specs.Prelude.{◌≡◌, ℕ, IfOk};
-
-    ghost Value = { ℕ };
-
-    ghost view = { λ p. p.relay };
-
-    ghost invariant = { λ p. IfOk p.peer (λ q. q.faults ≡ 0) };
-}
-
-/// Connects to the relays of the settings.
-#[derive(Clone, Copy)]
-struct Connecting<'a, 's, R> {
-    rt: &'a R,
-    settings: &'s Settings,
-}
-
-impl<'a, 's, R: Net + RandomSource> Duty<PeerPlace<R::Stream, RandomKeys<&'a R>>>
-    for Connecting<'a, 's, R> {
-    fn work<W: Wait>(
-        &self,
-        _waits: &W,
-        alloc: Global,
-        place: &mut PeerPlace<R::Stream, RandomKeys<&'a R>>,
-    ) {
-        if let Some(address) = self.settings.relays.as_slice().get(place.relay) {
-            place.peer = linked(self.rt, alloc, address, self.settings);
-        }
-    }
-}
-
-/// A peer for each relay, in their order, whose session is told as it ends. The relays are connected to side by side.
-pub fn linked_all<'a, R: Net + RandomSource + Threads + Wait + Sync, P>(
+/// A peer for each relay, in their order, whose session is told as it ends.
+pub fn linked_all<'a, R: Net + RandomSource, P>(
     rt: &'a R,
     alloc: Global,
     settings: &Settings,
     progress: &'a Progress<P>,
 ) -> Result<Vec<ToldPeer<'a, WsPeer<R::Stream, RandomKeys<&'a R>>, R, P>>, Refusal>
-where
-    R::Stream: Send,
     ensures { IfOk result (λ peers. All (λ told. told.peer.faults < 2 ^ 64 - 1) peers.items) }
 {
-    let mut places = Vec::new(alloc);
-    for relay in 0..settings.relays.as_slice().len() {
-        let peer = Ok(WsPeer::unreachable(alloc));
-        places.push(PeerPlace { relay, peer })?;
-    }
-    let connecting = Connecting { rt, settings };
-    run_workers(rt, alloc, &connecting, places.as_mut_slice());
     let mut peers = Vec::new(alloc);
-    for place in places {
-        let PeerPlace { relay, peer } = place;
+    for relay in settings.relays.as_slice() {
+        let peer = linked(rt, alloc, relay, settings)?;
+        let number = peers.len();
         peers.push(ToldPeer {
-            peer: peer?,
-            relay,
+            peer,
+            relay: number,
             rt,
             progress,
         })?;
@@ -120,7 +71,7 @@ where
 }
 
 /// A source that is the relay at this address, if it can be reached.
-fn source_at<'a, R: Net + RandomSource>(
+pub fn source_at<'a, R: Net + RandomSource>(
     rt: &'a R,
     alloc: Global,
     address: &Address,
@@ -137,76 +88,6 @@ fn source_at<'a, R: Net + RandomSource>(
         Err(LinkFault::Memory) => Err(Refusal::Memory),
         Err(_) => Ok(None),
     }
-}
-
-/// A place for a source at a relay, of which no fetch has failed.
-#[derive(Drop)]
-pub struct SourcePlace<S, K> {
-    relay: u16,
-    source: Result<Option<WsSource<S, K>>, Refusal>,
-}
-
-impl<S, K> Model for SourcePlace<S, K> {
-    ghost use Rattle.std.specs.Prelude.{◌≡◌, ℕ, IfOk, IfSome};
-
-    ghost Value = { ℕ };
-
-    ghost view = { λ p. p.relay };
-
-    ghost invariant = { λ p. IfOk p.source (λ o. IfSome o (λ s. s.faults ≡ 0)) };
-}
-
-impl<S, K> SourcePlace<S, K> {
-    /// A place without a source.
-    pub fn new(relay: u16) -> SourcePlace<S, K> {
-        SourcePlace {
-            relay,
-            source: Ok(None),
-        }
-    }
-
-    /// The relay, and the source if it could be reached.
-    pub fn into_parts(self) -> Result<(u16, Option<WsSource<S, K>>), Refusal>
-        ensures { IfOk result (λ p. IfSome p.1 (λ source. source.faults ≡ 0)) }
-    {
-        let SourcePlace { relay, source } = self;
-        match source {
-            Ok(found) => Ok((relay, found)),
-            Err(refusal) => Err(refusal),
-        }
-    }
-}
-
-impl<'a, 's, R: Net + RandomSource> Duty<SourcePlace<R::Stream, RandomKeys<&'a R>>>
-    for Connecting<'a, 's, R> {
-    fn work<W: Wait>(
-        &self,
-        _waits: &W,
-        alloc: Global,
-        place: &mut SourcePlace<R::Stream, RandomKeys<&'a R>>,
-    ) {
-        if let Some(address) = self
-            .settings
-            .relays
-            .as_slice()
-            .get(usize::from(place.relay))
-        {
-            place.source = source_at(self.rt, alloc, address, self.settings.timeout());
-        }
-    }
-}
-
-/// Connects to the relay of each place, side by side.
-pub fn connect_all<'a, R: Net + RandomSource + Threads + Wait + Sync>(
-    rt: &'a R,
-    alloc: Global,
-    settings: &Settings,
-    places: &mut [SourcePlace<R::Stream, RandomKeys<&'a R>>],
-)
-where
-    R::Stream: Send,
-{
-    run_workers(rt, alloc, &Connecting { rt, settings }, places);
 }
 
 /// Ends the sessions, as far as that can be said to the relays.
