@@ -5,17 +5,24 @@ ghost use Rattle.std.specs.Prelude.{◌≡◌, ◌<◌, ◌^◌, ◌-◌, All, I
 use crate::progress::Progress;
 use crate::told::ToldPeer;
 use mirror_settings::{Address, Settings};
-use serve_run::Refusal;
+use serve_run::{Duty, Refusal, run_workers};
 use std::alloc::Global;
 use std::io::{Read, Write};
-use std::net::{Net, OpenStream, ToSocketAddrs};
+use std::marker::Model;
+use std::net::{Net, TcpListener, TcpStream, ToSocketAddrs};
 use std::random::RandomSource;
+use std::sync::Wait;
+use std::thread::Threads;
 use std::time::Duration;
 use tungstenite::RandomKeys;
 use ws_link::{LinkFault, WsPeer, WsSource};
 
 /// A connection with a relay, if it can be made in time. No later read or write of it waits longer.
-fn connected<R: Net>(rt: &R, host: &str, timeout: Duration) -> Option<R::Stream> {
+fn connected<R: Net<Listener = TcpListener, Stream = TcpStream>>(
+    rt: &R,
+    host: &str,
+    timeout: Duration,
+) -> Option<TcpStream> {
     for address in host.to_socket_addrs(rt).ok()? {
         if let Ok(stream) = rt.connect_timeout(address, timeout) {
             let _ = stream.set_nodelay(true);
@@ -28,12 +35,12 @@ fn connected<R: Net>(rt: &R, host: &str, timeout: Duration) -> Option<R::Stream>
 }
 
 /// A peer that is the relay at this address, or one that can't be reached.
-fn linked<'a, R: Net + RandomSource>(
+fn linked<'a, R: Net<Listener = TcpListener, Stream = TcpStream> + RandomSource>(
     rt: &'a R,
     alloc: Global,
     address: &Address,
     settings: &Settings,
-) -> Result<WsPeer<R::Stream, RandomKeys<&'a R>>, Refusal>
+) -> Result<WsPeer<TcpStream, RandomKeys<&'a R>>, Refusal>
     ensures { IfOk result (λ peer. peer.faults ≡ 0) }
 {
     let host = format!(in alloc; "{address}")?;
@@ -47,22 +54,71 @@ fn linked<'a, R: Net + RandomSource>(
     }
 }
 
-/// A peer for each relay, in their order, whose session is told as it ends.
-pub fn linked_all<'a, R: Net + RandomSource, P>(
+/// A place for a relay's peer, of which no question has failed.
+#[derive(Drop)]
+struct PeerPlace<S, K> {
+    relay: usize,
+    peer: Result<WsPeer<S, K>, Refusal>,
+}
+
+impl<S, K> Model for PeerPlace<S, K> {
+    ghost use Rattle.std.specs.Prelude.{◌≡◌, ℕ, IfOk};
+
+    ghost Value = { ℕ };
+
+    ghost view = { λ p. p.relay };
+
+    ghost invariant = { λ p. IfOk p.peer (λ q. q.faults ≡ 0) };
+}
+
+/// Connects to the relays of the settings.
+#[derive(Clone, Copy)]
+struct Connecting<'a, 's, R> {
+    rt: &'a R,
+    settings: &'s Settings,
+}
+
+impl<'a, 's, R: Net<Listener = TcpListener, Stream = TcpStream> + RandomSource> Duty<
+    PeerPlace<TcpStream, RandomKeys<&'a R>>,
+> for Connecting<'a, 's, R> {
+    fn work<W: Wait>(
+        &self,
+        _waits: &W,
+        alloc: Global,
+        place: &mut PeerPlace<TcpStream, RandomKeys<&'a R>>,
+    ) {
+        if let Some(address) = self.settings.relays.as_slice().get(place.relay) {
+            place.peer = linked(self.rt, alloc, address, self.settings);
+        }
+    }
+}
+
+/// A peer for each relay, in their order, whose session is told as it ends. The relays are connected to side by side.
+pub fn linked_all<
+    'a,
+    R: Net<Listener = TcpListener, Stream = TcpStream> + RandomSource + Threads + Wait + Sync,
+    P,
+>(
     rt: &'a R,
     alloc: Global,
     settings: &Settings,
     progress: &'a Progress<P>,
-) -> Result<Vec<ToldPeer<'a, WsPeer<R::Stream, RandomKeys<&'a R>>, R, P>>, Refusal>
+) -> Result<Vec<ToldPeer<'a, WsPeer<TcpStream, RandomKeys<&'a R>>, R, P>>, Refusal>
     ensures { IfOk result (λ peers. All (λ told. told.peer.faults < 2 ^ 64 - 1) peers.items) }
 {
+    let mut places = Vec::new(alloc);
+    for relay in 0..settings.relays.as_slice().len() {
+        let peer = Ok(WsPeer::unreachable(alloc));
+        places.push(PeerPlace { relay, peer })?;
+    }
+    let connecting = Connecting { rt, settings };
+    run_workers(rt, alloc, &connecting, places.as_mut_slice());
     let mut peers = Vec::new(alloc);
-    for relay in settings.relays.as_slice() {
-        let peer = linked(rt, alloc, relay, settings)?;
-        let number = peers.len();
+    for place in places {
+        let PeerPlace { relay, peer } = place;
         peers.push(ToldPeer {
-            peer,
-            relay: number,
+            peer: peer?,
+            relay,
             rt,
             progress,
         })?;
@@ -71,12 +127,12 @@ pub fn linked_all<'a, R: Net + RandomSource, P>(
 }
 
 /// A source that is the relay at this address, if it can be reached.
-pub fn source_at<'a, R: Net + RandomSource>(
+fn source_at<'a, R: Net<Listener = TcpListener, Stream = TcpStream> + RandomSource>(
     rt: &'a R,
     alloc: Global,
     address: &Address,
     timeout: Duration,
-) -> Result<Option<WsSource<R::Stream, RandomKeys<&'a R>>>, Refusal>
+) -> Result<Option<WsSource<TcpStream, RandomKeys<&'a R>>>, Refusal>
     ensures { IfOk result (λ o. IfSome o (λ source. source.faults ≡ 0)) }
 {
     let host = format!(in alloc; "{address}")?;
@@ -88,6 +144,77 @@ pub fn source_at<'a, R: Net + RandomSource>(
         Err(LinkFault::Memory) => Err(Refusal::Memory),
         Err(_) => Ok(None),
     }
+}
+
+/// A place for a source at a relay, of which no fetch has failed.
+#[derive(Drop)]
+pub struct SourcePlace<S, K> {
+    relay: u16,
+    source: Result<Option<WsSource<S, K>>, Refusal>,
+}
+
+impl<S, K> Model for SourcePlace<S, K> {
+    ghost use Rattle.std.specs.Prelude.{◌≡◌, ℕ, IfOk, IfSome};
+
+    ghost Value = { ℕ };
+
+    ghost view = { λ p. p.relay };
+
+    ghost invariant = { λ p. IfOk p.source (λ o. IfSome o (λ s. s.faults ≡ 0)) };
+}
+
+impl<S, K> SourcePlace<S, K> {
+    /// A place without a source.
+    pub fn new(relay: u16) -> SourcePlace<S, K> {
+        SourcePlace {
+            relay,
+            source: Ok(None),
+        }
+    }
+
+    /// The relay, and the source if it could be reached.
+    pub fn into_parts(self) -> Result<(u16, Option<WsSource<S, K>>), Refusal>
+        ensures { IfOk result (λ p. IfSome p.1 (λ source. source.faults ≡ 0)) }
+    {
+        let SourcePlace { relay, source } = self;
+        match source {
+            Ok(found) => Ok((relay, found)),
+            Err(refusal) => Err(refusal),
+        }
+    }
+}
+
+impl<'a, 's, R: Net<Listener = TcpListener, Stream = TcpStream> + RandomSource> Duty<
+    SourcePlace<TcpStream, RandomKeys<&'a R>>,
+> for Connecting<'a, 's, R> {
+    fn work<W: Wait>(
+        &self,
+        _waits: &W,
+        alloc: Global,
+        place: &mut SourcePlace<TcpStream, RandomKeys<&'a R>>,
+    ) {
+        if let Some(address) = self
+            .settings
+            .relays
+            .as_slice()
+            .get(usize::from(place.relay))
+        {
+            place.source = source_at(self.rt, alloc, address, self.settings.timeout());
+        }
+    }
+}
+
+/// Connects to the relay of each place, side by side.
+pub fn connect_all<
+    'a,
+    R: Net<Listener = TcpListener, Stream = TcpStream> + RandomSource + Threads + Wait + Sync,
+>(
+    rt: &'a R,
+    alloc: Global,
+    settings: &Settings,
+    places: &mut [SourcePlace<TcpStream, RandomKeys<&'a R>>],
+) {
+    run_workers(rt, alloc, &Connecting { rt, settings }, places);
 }
 
 /// Ends the sessions, as far as that can be said to the relays.

@@ -48,16 +48,17 @@ fn refusal_of(fault: SyncFault) -> Refusal {
 }
 
 /// Sessions with the relays over the events that the filter matches, and the plan made of what they found.
-fn synced<J: Naming, R: Net + RandomSource + Threads + Wait + Sync, P: Write + Send>(
+fn synced<
+    J: Naming,
+    R: Net<Listener = TcpListener, Stream = TcpStream> + RandomSource + Threads + Wait + Sync,
+    P: Write + Send,
+>(
     rt: &R,
     alloc: Global,
     settings: &Settings,
     reader: &mut Reader<J>,
     progress: &Progress<P>,
-) -> Result<Synced, Refusal>
-where
-    R::Stream: Send,
-{
+) -> Result<Synced, Refusal> {
     let snapshot = reader.pin(alloc, &settings.filter)?;
     progress.tell(rt, snapshot.events().len(), "events are compared");
     let mut peers = linked_all(rt, alloc, settings, progress)?;
@@ -76,7 +77,12 @@ where
 fn fetch_round<
     J: Naming + Send + Sync,
     D: Wait + Drop + Send + Sync,
-    R: Net + RandomSource + Threads + Wait + Clock + Sync,
+    R: Net<Listener = TcpListener, Stream = TcpStream>
+        + RandomSource
+        + Threads
+        + Wait
+        + Clock
+        + Sync,
     P: Write + Send,
 >(
     rt: &R,
@@ -87,8 +93,6 @@ fn fetch_round<
     desk: &Mutex<Desk<J, D>>,
     progress: &Progress<P>,
 ) -> Result<Vec<Cell>, Refusal>
-where
-    R::Stream: Send,
     ensures { IfOk result (λ v. length v.items ≡ length plan.now.gives) }
 {
     progress.tell(rt, plan.len(), "ids are planned");
@@ -124,7 +128,12 @@ fn say_round<W: Write>(
 fn fetch_rounds<
     J: Naming + Send + Sync,
     D: Wait + Drop + Send + Sync,
-    R: Net + RandomSource + Threads + Wait + Clock + Sync,
+    R: Net<Listener = TcpListener, Stream = TcpStream>
+        + RandomSource
+        + Threads
+        + Wait
+        + Clock
+        + Sync,
     W: Write,
     P: Write + Send,
 >(
@@ -135,10 +144,7 @@ fn fetch_rounds<
     desk: &Mutex<Desk<J, D>>,
     writer: &mut W,
     progress: &Progress<P>,
-) -> Result<Counts, Refusal>
-where
-    R::Stream: Send,
-{
+) -> Result<Counts, Refusal> {
     let Synced {
         ends,
         mut table,
@@ -164,7 +170,12 @@ where
 fn run_all<
     J: Naming + Send + Sync,
     D: Wait + Drop + Send + Sync,
-    R: Net + RandomSource + Threads + Wait + Clock + Sync,
+    R: Net<Listener = TcpListener, Stream = TcpStream>
+        + RandomSource
+        + Threads
+        + Wait
+        + Clock
+        + Sync,
     W: Write,
     P: Write + Send,
 >(
@@ -175,10 +186,7 @@ fn run_all<
     desk: &Mutex<Desk<J, D>>,
     writer: &mut W,
     progress: &Progress<P>,
-) -> Result<(), Refusal>
-where
-    R::Stream: Send,
-{
+) -> Result<(), Refusal> {
     let done = synced(rt, alloc, settings, reader, progress)?;
     let mut text = String::new(alloc);
     put_ends(alloc, &mut text, done.ends.as_slice())?;
@@ -192,7 +200,13 @@ where
 fn run_alone<
     J: Naming + Send + Sync,
     D: Wait + Drop + Send + Sync,
-    R: Net + RandomSource + Threads + Wait + Files + Clock + Sync,
+    R: Net<Listener = TcpListener, Stream = TcpStream>
+        + RandomSource
+        + Threads
+        + Wait
+        + Files
+        + Clock
+        + Sync,
     W: Write,
     P: Write + Send,
 >(
@@ -204,10 +218,7 @@ fn run_alone<
     file: NewFile<R::File>,
     writer: &mut W,
     progress: &Progress<P>,
-) -> Result<(), Refusal>
-where
-    R::Stream: Send,
-{
+) -> Result<(), Refusal> {
     let desk = Mutex::new(desk);
     match run_all(rt, alloc, settings, reader, &desk, writer, progress) {
         Ok(()) => {
@@ -225,7 +236,12 @@ where
 fn run_in_hall<
     J: Naming + Send + Sync,
     D: Wait + Drop + Send + Sync,
-    R: Net + RandomSource + Threads + Wait + Clock + Sync,
+    R: Net<Listener = TcpListener, Stream = TcpStream>
+        + RandomSource
+        + Threads
+        + Wait
+        + Clock
+        + Sync,
     W: Write,
     P: Write + Send,
 >(
@@ -237,10 +253,7 @@ fn run_in_hall<
     reader: &mut Reader<J>,
     writer: &mut W,
     progress: &Progress<P>,
-) -> Result<(), Refusal>
-where
-    R::Stream: Send,
-{
+) -> Result<(), Refusal> {
     let done = run_all(rt, alloc, settings, reader, hall.desk(), writer, progress);
     if done.is_err() {
         hall.close(rt, waiting);
