@@ -71,6 +71,19 @@ impl<S, K> Model for PeerPlace<S, K> {
     ghost invariant = { λ p. IfOk p.peer (λ q. q.faults ≡ 0) };
 }
 
+impl<S, K> PeerPlace<S, K> {
+    /// The relay, and its peer.
+    fn into_parts(self) -> Result<(usize, WsPeer<S, K>), Refusal>
+        ensures { IfOk result (λ p. p.1.faults ≡ 0) }
+    {
+        let PeerPlace { relay, peer } = self;
+        match peer {
+            Ok(found) => Ok((relay, found)),
+            Err(refusal) => Err(refusal),
+        }
+    }
+}
+
 /// Connects to the relays of the settings.
 #[derive(Clone, Copy)]
 struct Connecting<'a, 's, R> {
@@ -115,9 +128,9 @@ pub fn linked_all<
     run_workers(rt, alloc, &connecting, places.as_mut_slice());
     let mut peers = Vec::new(alloc);
     for place in places {
-        let PeerPlace { relay, peer } = place;
+        let (relay, peer) = place.into_parts()?;
         peers.push(ToldPeer {
-            peer: peer?,
+            peer,
             relay,
             rt,
             progress,
