@@ -9,10 +9,10 @@ use std::alloc::AllocError;
 use std::sync::Arc;
 
 /// A leaf with more entries than this is cut in two.
-pub const MOST_ENTRIES: usize = 32;
+pub const MOST_ENTRIES: usize = 16;
 
 /// The same of a fork's children.
-pub const MOST_CHILDREN: usize = 32;
+pub const MOST_CHILDREN: usize = 16;
 
 /// An event, and its place among all events.
 #[derive(Drop)]

@@ -55,7 +55,7 @@ impl Newest {
         Ok(Newest { root, layers: 0 })
     }
 
-    /// The order with the event that is published next. It copies the nodes on the way to the event, of at most 33 entries or
+    /// The order with the event that is published next. It copies the nodes on the way to the event, of at most 17 entries or
     /// children each.
     pub fn insert(
         &self,
