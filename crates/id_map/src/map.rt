@@ -33,7 +33,7 @@ impl IdMap {
     }
 
     /// The map in which the id has this place, and each other id the place that it has here. It copies the
-    /// nodes that `get` passes, of at most 16 entries or children each.
+    /// nodes that `get` passes, of at most 64 entries or 16 children each.
     pub fn insert(&self, alloc: Global, id: Id, place: usize) -> Result<IdMap, AllocError>
         ensures { IfOk result (λ m. SetsPlace id place self.now m) }
     {
