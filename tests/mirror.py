@@ -5,8 +5,9 @@
 
 A relay serves 300 events. A mirror with `listen` compares and fetches them, with `--progress`, while a client of the mirror puts
 an event in and is sent what comes. Then a mirror whose reader leaves is refused while it serves: it has to end at once, with
-the client's event in its file. A client takes a second over its handshake with a relay whose `push_ms` is 1. Last, `--progress`
-tells how far a mirror of two relays is while the answers of one of them are held back.
+the client's event in its file. A client takes a second over its handshake with a relay whose `push_ms` is 1. Relays that say
+nothing have failed after `timeout_ms`, and a client that reads nothing is let go. Last, `--progress` tells how far a mirror of two
+relays is while the answers of one of them are held back.
 """
 import json
 import os
@@ -16,7 +17,7 @@ import tempfile
 import threading
 import time
 
-from told import begin, by_id, event, program, read, same, settings, start, written
+from told import begin, by_id, done, event, program, read, same, settings, start, written
 from wire import Client
 
 
@@ -93,6 +94,28 @@ def waits_for_handshakes(path, folder):
     same(relay.communicate(timeout=60)[0], "served 1\nevents 0\n")
 
 
+def gives_up_on_silence(path, folder):
+    theirs = [event(1000 + n, "theirs") for n in range(20)]
+    written(os.path.join(folder, "relay.jsonl"), theirs)
+    relay, port = run(path, folder, "serve", "relay", conns=2)
+    with socket.create_server(("127.0.0.1", 0)) as silent:
+        ports = [silent.getsockname()[1]] * 8 + [port]
+        ended = done(path, "sync", settings(folder, "mirror", timeout_ms=500, relays=["127.0.0.1:%d" % it for it in ports]))
+    told = ["relay %d failed 1" % it for it in range(8)] + ["relay 8 need 20", "least 20", "group 8", "given 20", "missed 0", "left 0"]
+    same(ended, (0, "".join(line + "\n" for line in told), ""))
+    same(relay.communicate(timeout=60)[0], "served 2\nevents 20\n")
+
+
+def lets_go_who_reads_nothing(path, folder):
+    written(os.path.join(folder, "full.jsonl"), [event(1000 + n, "x" * 10_000) for n in range(300)])
+    relay, port = run(path, folder, "serve", "full", conns=1, timeout_ms=500)
+    client = Client(port)
+    # Far more than the system holds for it.
+    client.send(*[b'["REQ","all",{}]'] * 40)
+    same(relay.communicate(timeout=60)[0], "served 1\nevents 300\n")
+    client.close()
+
+
 def pass_on(source, sink, door):
     """Passes on what comes, and what comes behind the head of a handshake once the door is open."""
     passed = b""
@@ -156,7 +179,8 @@ def tells_progress(path, folder):
 
 def main():
     path = program()
-    for part in (serves_meanwhile, ends_when_refused, waits_for_handshakes, tells_progress):
+    for part in (serves_meanwhile, ends_when_refused, waits_for_handshakes, gives_up_on_silence, lets_go_who_reads_nothing,
+                 tells_progress):
         with tempfile.TemporaryDirectory() as folder:
             part(path, folder)
         print(part.__name__.replace("_", " "))

@@ -1,5 +1,5 @@
 -- What a next round's plan is made of.
-use Rattle.std.specs.Prelude.{◌≡◌, ℕ, ◌<◌, true, false, List, length, slice_index_or}
+use Rattle.std.specs.Prelude.{◌≡◌, ℕ, zero, suc, ◌+◌, ◌<◌, ◌==◌, ◌&&◌, Bool, true, false, if◌then◌else◌, List, length, slice_index_or}
 use Rattle.neg_codec.specs.declared.Id.{Id}
 use Rattle.sharing.specs.Bases.{base_of}
 use Rattle.sharing.specs.Sharing.{is_among, NoneSmaller}
@@ -7,7 +7,7 @@ use Rattle.sharing.specs.Offers.{relays_of, StandsFor}
 use Rattle.fetch_plan.specs.Plan.{Planned, IsPlanOf}
 use Rattle.fetch_plan.specs.LeftOut.{no_give, leaves_out, gone_beside, first_of}
 use Rattle.fetch_plan.specs.declared.cell.Cell.{Cell}
-use Rattle.fetch_plan.specs.declared.cell.Cell.TheVariants.{Free}
+use Rattle.fetch_plan.specs.declared.cell.Cell.TheVariants.{Free, Done, Missed}
 
 -- relay r offered the id, and no cell leaves that out
 pub record IsLeft (offers : List (Id × List ℕ)) (gives : List (Id × ℕ)) (cells : List Cell) (r : ℕ) (i : Id) : Type 0 where
@@ -28,3 +28,15 @@ pub record IsLess (old : List (Id × List ℕ)) (gives : List (Id × ℕ)) (cell
 -- what the cells with these gives strike
 abbrev pub struck_of : List (Id × List ℕ) → List (Id × ℕ) → List Cell → List (Id × List ℕ)
 struck_of offers gives cells = first_of (λ k. ((slice_index_or gives k no_give).0, gone_beside offers (slice_index_or cells k Free) (slice_index_or gives k no_give))) (length gives)
+
+-- the cell's relay was asked for its id, and gave it or didn't
+abbrev pub is_asked : Cell → Bool
+is_asked Done = true
+is_asked Missed = true
+is_asked c = false
+
+-- how many of the first n ids of a plan relay r was asked for
+abbrev pub asked_of : List (Id × ℕ) → List Cell → ℕ → ℕ → ℕ
+asked_of gives cells r zero = 0
+asked_of gives cells r (suc n) =
+    asked_of gives cells r n + (if is_asked (slice_index_or cells n Free) && (r == (slice_index_or gives n no_give).1) then 1 else 0)

@@ -1,14 +1,16 @@
 //! The plan of a next round.
 
-ghost use Rattle.std.specs.Prelude.{◌≡◌, ◌<◌, length, map, IfOk, OnErr};
-ghost use Rattle.sharing.specs.declared.TheConstants.{RELAYS};
+ghost use Rattle.std.specs.Prelude.{◌≡◌, ℕ, ◌<◌, ◌+◌, ◌==◌, if◌then◌else◌, ◌≤◌, length, map, IfOk, OnErr};
+ghost use Rattle.sharing.specs.declared.TheConstants.{RELAYS, MOST_BASE};
+ghost use Rattle.sharing.specs.Bases.{base_of};
 ghost use Rattle.sharing.specs.Offers.{Ascend};
 ghost use Rattle.fetch_plan.specs.LeftOut.{gone_beside};
-ghost use Rattle.mirror_core.specs.Next.{struck_of, IsLess, IsNextPlan};
+ghost use Rattle.mirror_core.specs.Next.{asked_of, is_asked, struck_of, IsLess, IsNextPlan};
 
 use fetch_plan::{Cell, Plan, plan};
 use neg_codec::Id;
 use offer_table::{Bases, OfferTable, RelaySet};
+use sharing::MOST_BASE;
 use std::alloc::{AllocError, Global};
 
 /// The relays whose offers of its id a cell strikes: all where it is done, its own where it is missed.
@@ -60,4 +62,39 @@ pub fn next_plan(
     let gone = struck(alloc, table, last, cells)?;
     table.leave_out(&gone)?;
     plan(alloc, table, bases)
+}
+
+/// Lets a relay's load begin with one more, up to the most.
+fn raise(bases: &mut Bases, relay: u16)
+    requires { relay < RELAYS }
+    ensures { (r : ℕ) → base_of bases.old r + (if r == relay then 1 else 0) ≤ MOST_BASE → base_of bases.new r ≡ base_of bases.old r + (if r == relay then 1 else 0) }
+{
+    let load = bases.of(relay);
+    if load < MOST_BASE {
+        let _ = bases.set(relay, load + 1);
+    }
+}
+
+/// Whether the cell's relay was asked for its id, and gave it or didn't.
+fn is_asked(cell: Cell) -> bool
+    ensures { result ≡ is_asked cell }
+{
+    matches!(cell, Cell::Done | Cell::Missed)
+}
+
+/// What the loads begin with in a next round: each relay's base and the ids that it was asked for, up to
+/// [`sharing::MOST_BASE`].
+pub fn grown(bases: &Bases, last: &Plan, cells: &[Cell]) -> Bases
+    requires { length cells.now ≡ length last.now.gives }
+    ensures { (r : ℕ) → base_of bases.now r + asked_of last.now.gives cells.now r (length cells.now) ≤ MOST_BASE
+        → base_of result r ≡ base_of bases.now r + asked_of last.now.gives cells.now r (length cells.now) }
+{
+    let mut grown = *bases;
+    for at in 0..last.len() {
+        if is_asked(cells[at]) {
+            let (_id, relay) = last.cell(at);
+            raise(&mut grown, relay);
+        }
+    }
+    grown
 }

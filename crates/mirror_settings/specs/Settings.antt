@@ -10,7 +10,7 @@ use Rattle.nostr_filter.specs.FilterJson.{Reads}
 use Rattle.mirror_settings.specs.declared.address.Address.{Address}
 use Rattle.mirror_settings.specs.declared.settings.Settings.{Settings}
 use Rattle.mirror_settings.specs.declared.fault.SettingsKey.{SettingsKey}
-use Rattle.mirror_settings.specs.declared.fault.SettingsKey.TheVariants.{Events, Listen, Conns, Relays, Filter, Workers, Bases, Rounds, PushMs}
+use Rattle.mirror_settings.specs.declared.fault.SettingsKey.TheVariants.{Events, Listen, Conns, Relays, Filter, Workers, Bases, Rounds, PushMs, TimeoutMs}
 use Rattle.mirror_settings.specs.declared.fault.SettingsFault.{SettingsFault}
 use Rattle.mirror_settings.specs.declared.fault.SettingsFault.TheVariants.{Text, Key, Memory}
 use Rattle.mirror_settings.specs.Addresses.{IsAddress, spelled}
@@ -107,6 +107,9 @@ HasRounds false t n = n ≡ 1
 abbrev pub HasPushMs : Members → Option ℕ → Type 0
 HasPushMs t v = Holds (IsWhole 1 60000) (at PushMs t) v
 
+abbrev pub HasTimeoutMs : Members → Option ℕ → Type 0
+HasTimeoutMs t v = Holds (IsWhole 1 3600000) (at TimeoutMs t) v
+
 -- the table tells the settings
 pub record Tells (sync : Bool) (t : Members) (s : Settings) : Type 0 where
   pub events : HasEvents t s.events
@@ -118,6 +121,7 @@ pub record Tells (sync : Bool) (t : Members) (s : Settings) : Type 0 where
   pub bases : HasBases sync t (length s.relays) s.bases
   pub rounds : HasRounds sync t s.rounds
   pub push_ms : HasPushMs t s.push_ms
+  pub timeout_ms : HasTimeoutMs t s.timeout_ms
 
 -- ---- what a refusal says
 
@@ -132,6 +136,7 @@ IsGood sync t Workers = (v : ℕ) × HasWorkers sync t v
 IsGood sync t Bases = (relays : List Address) × (v : List ℕ) × HasRelays sync t relays × HasBases sync t (length relays) v
 IsGood sync t Rounds = (v : ℕ) × HasRounds sync t v
 IsGood sync t PushMs = (v : Option ℕ) × HasPushMs t v
+IsGood sync t TimeoutMs = (v : Option ℕ) × HasTimeoutMs t v
 
 -- the keys before a place are good
 abbrev pub AreGoodBelow : Bool → Members → ℕ → Type 0

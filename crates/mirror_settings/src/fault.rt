@@ -17,6 +17,7 @@ pub enum SettingsKey {
     Bases,
     Rounds,
     PushMs,
+    TimeoutMs,
 }
 
 impl SettingsKey {
@@ -36,6 +37,7 @@ impl SettingsKey {
             SettingsKey::Bases => "bases",
             SettingsKey::Rounds => "rounds",
             SettingsKey::PushMs => "push_ms",
+            SettingsKey::TimeoutMs => "timeout_ms",
         }
     }
 }

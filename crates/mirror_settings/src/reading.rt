@@ -4,7 +4,7 @@ ghost use Rattle.std.specs.Prelude.{◌≡◌, ℕ, Bool, List, IfOk, IfErr};
 ghost use Rattle.toml.specs.Data.{Members};
 ghost use Rattle.toml.specs.Parse.{parse_document};
 ghost use Rattle.toml.specs.View.{table_view};
-ghost use Rattle.mirror_settings.specs.Settings.{Fails, HasEvents, HasListen, HasConns, HasRelays, HasFilter, HasWorkers, HasBases, HasRounds, HasPushMs, Tells, Refuses, RefusesTable, Stops};
+ghost use Rattle.mirror_settings.specs.Settings.{Fails, HasEvents, HasListen, HasConns, HasRelays, HasFilter, HasWorkers, HasBases, HasRounds, HasPushMs, HasTimeoutMs, Tells, Refuses, RefusesTable, Stops};
 
 use crate::address::Address;
 use crate::fault::{SettingsFault, SettingsKey};
@@ -147,6 +147,7 @@ fn settings_of(alloc: Global, table: &Table, sync: bool) -> Result<Settings, Set
     let bases = bases_at(alloc, table, sync, count)?;
     let rounds = rounds_at(table, sync)?;
     let push_ms = whole_at(table, SettingsKey::PushMs, 1, 60_000)?;
+    let timeout_ms = whole_at(table, SettingsKey::TimeoutMs, 1, 3_600_000)?;
     Ok(Settings {
         events,
         listen,
@@ -157,6 +158,7 @@ fn settings_of(alloc: Global, table: &Table, sync: bool) -> Result<Settings, Set
         bases,
         rounds,
         push_ms,
+        timeout_ms,
     })
 }
 

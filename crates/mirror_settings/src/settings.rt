@@ -4,6 +4,10 @@ use crate::address::Address;
 use crate::lists::{Addresses, Loads};
 use nostr_event::Text;
 use nostr_filter::Filter;
+use std::time::Duration;
+
+/// What `timeout_ms` is where it is left out: a minute.
+const TIMEOUT_MS: u64 = 60_000;
 
 /// The settings of a run that serves, or of one that synchronises and may serve beside.
 #[derive(Debug, Drop)]
@@ -26,4 +30,13 @@ pub struct Settings {
     pub rounds: u64,
     /// After how many milliseconds at most a waiting connection is looked at for new events, 1 to 60,000.
     pub push_ms: Option<u64>,
+    /// For how many milliseconds the other side of a connection may keep this one waiting, 1 to 3,600,000.
+    pub timeout_ms: Option<u64>,
+}
+
+impl Settings {
+    /// For how long the other side of a connection may keep this one waiting.
+    pub fn timeout(&self) -> Duration {
+        Duration::from_millis(self.timeout_ms.unwrap_or(TIMEOUT_MS))
+    }
 }

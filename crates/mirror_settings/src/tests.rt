@@ -21,9 +21,10 @@ fn told(alloc: Global, settings: &Settings) -> Result<String, AllocError> {
     let workers = settings.workers;
     let rounds = settings.rounds;
     let push_ms = settings.push_ms.unwrap_or(0);
+    let timeout_ms = settings.timeout_ms.unwrap_or(0);
     let kinds = settings.filter.kinds.is_some();
     let rest = format!(in alloc;
-        " conns {conns} workers {workers} rounds {rounds} push {push_ms} kinds {kinds}"
+        " conns {conns} workers {workers} rounds {rounds} push {push_ms} timeout {timeout_ms} kinds {kinds}"
     )?;
     text.push_str(rest.as_str())?;
     Ok(text)
@@ -34,32 +35,32 @@ static TOLD: [(bool, &str, &str); 6] = [
     (
         false,
         "events = 'e'\nlisten = '127.0.0.1:0'\nconns = 1\nrelays = 7\nworkers = 9\n",
-        "e at 127.0.0.1:0 conns 1 workers 1 rounds 1 push 0 kinds false",
+        "e at 127.0.0.1:0 conns 1 workers 1 rounds 1 push 0 timeout 0 kinds false",
     ),
     (
         false,
         "push_ms = 60000\nconns = 1000000\nlisten = 'relay.example:65535'\nevents = 'a b'\n",
-        "a b at relay.example:65535 conns 1000000 workers 1 rounds 1 push 60000 kinds false",
+        "a b at relay.example:65535 conns 1000000 workers 1 rounds 1 push 60000 timeout 0 kinds false",
     ),
     (
         true,
         "events = 'e'\nrelays = ['localhost:7000']\n",
-        "e localhost:7000 0 conns 0 workers 1 rounds 1 push 0 kinds false",
+        "e localhost:7000 0 conns 0 workers 1 rounds 1 push 0 timeout 0 kinds false",
     ),
     (
         true,
-        "events = 'e'\nlisten = '[::1]:80'\nconns = 5\nrelays = ['a:1', 'b:2']\nfilter = '{\"kinds\":[1]}'\nworkers = 4\nbases = [0, 1000000000]\nrounds = 16\npush_ms = 1\n",
-        "e at [::1]:80 a:1 b:2 0 1000000000 conns 5 workers 4 rounds 16 push 1 kinds true",
+        "events = 'e'\nlisten = '[::1]:80'\nconns = 5\nrelays = ['a:1', 'b:2']\nfilter = '{\"kinds\":[1]}'\nworkers = 4\nbases = [0, 1000000000]\nrounds = 16\npush_ms = 1\ntimeout_ms = 3600000\n",
+        "e at [::1]:80 a:1 b:2 0 1000000000 conns 5 workers 4 rounds 16 push 1 timeout 3600000 kinds true",
     ),
     (
         true,
         "events = ''\nconns = 3\nrelays = ['a:0']\nfilter = '{}'\n",
-        " a:0 0 conns 3 workers 1 rounds 1 push 0 kinds false",
+        " a:0 0 conns 3 workers 1 rounds 1 push 0 timeout 0 kinds false",
     ),
     (
         true,
         "# none\nother = [1, { a = 2 }]\nevents = 'e'\nrelays = ['a:1']\nworkers = 2\n",
-        "e a:1 0 conns 0 workers 2 rounds 1 push 0 kinds false",
+        "e a:1 0 conns 0 workers 2 rounds 1 push 0 timeout 0 kinds false",
     ),
 ];
 
@@ -76,7 +77,7 @@ fn settings_are_told(rt: HostRuntime) -> Result<(), Fail> {
 const FRONT: &str = "events = 'e'\nrelays = ['a:1', 'b:2']\n";
 
 /// The key that is told of the front and a line, where the run synchronises.
-static WRONG: [(&str, SettingsKey); 33] = [
+static WRONG: [(&str, SettingsKey); 36] = [
     ("listen = 'a'", SettingsKey::Listen),
     ("listen = ':1'", SettingsKey::Listen),
     ("listen = 'a:'", SettingsKey::Listen),
@@ -108,6 +109,9 @@ static WRONG: [(&str, SettingsKey); 33] = [
     ("rounds = 17", SettingsKey::Rounds),
     ("push_ms = 0", SettingsKey::PushMs),
     ("push_ms = 60001", SettingsKey::PushMs),
+    ("timeout_ms = 0", SettingsKey::TimeoutMs),
+    ("timeout_ms = 3600001", SettingsKey::TimeoutMs),
+    ("timeout_ms = '1'\npush_ms = 0", SettingsKey::PushMs),
     ("push_ms = 0\nbases = []\nworkers = 9", SettingsKey::Workers),
     ("push_ms = 0\nrounds = 0\nbases = []", SettingsKey::Bases),
 ];

@@ -18,9 +18,11 @@ pub struct Client {
 }
 
 impl Client {
-    /// A client whose reads wait so long after the handshake, or for ever, as those of its handshake then do too.
-    pub fn new(stream: TcpStream, push: Option<Duration>) -> Client {
+    /// A client whose reads wait so long after the handshake, or for ever, as those of its handshake then do too. It has to
+    /// take what is sent within `timeout`.
+    pub fn new(stream: TcpStream, push: Option<Duration>, timeout: Duration) -> Client {
         let _ = stream.set_nodelay(true);
+        let _ = stream.set_write_timeout(Some(timeout));
         if push.is_some() {
             let _ = stream.set_read_timeout(Some(Duration::from_millis(HANDSHAKE_READ)));
         }

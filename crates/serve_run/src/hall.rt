@@ -23,18 +23,26 @@ pub struct Hall<K> {
     // How many connections workers went for.
     begun: AtomicU64,
     push: Option<Duration>,
+    timeout: Duration,
     desk: Mutex<K>,
 }
 
 impl<K> Hall<K> {
     /// A hall for so many connections. With `push`, a connection on which nothing comes in for that long is looked at for new
-    /// events.
-    pub fn new(listener: TcpListener, conns: u64, push: Option<Duration>, desk: K) -> Hall<K> {
+    /// events. One on which nothing is taken for as long as `timeout`, though something is sent, ends.
+    pub fn new(
+        listener: TcpListener,
+        conns: u64,
+        push: Option<Duration>,
+        timeout: Duration,
+        desk: K,
+    ) -> Hall<K> {
         Hall {
             listener,
             conns,
             begun: AtomicU64::new(0),
             push,
+            timeout,
             desk: Mutex::new(desk),
         }
     }
@@ -52,7 +60,7 @@ impl<K> Hall<K> {
     // Waits for a connection, if one can be had.
     fn accepted(&self) -> Option<Client> {
         let (stream, _from) = self.listener.accept().ok()?;
-        Some(Client::new(stream, self.push))
+        Some(Client::new(stream, self.push, self.timeout))
     }
 
     /// Takes no further connections. Workers that wait for one, at most so many, are woken by connections that end at once.

@@ -12,3 +12,4 @@ pub use hall::{Hall, serve_all, serve_beside};
 pub use refusal::{Refusal, read_refusal, write_refusal};
 pub use run::{fill, open_hall, readers_for, run_serve, say};
 pub use saving::save;
+pub use workers::{Duty, run_workers};

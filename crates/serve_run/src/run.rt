@@ -93,7 +93,8 @@ pub fn open_hall<K: Drop, R: Net<Listener = TcpListener, Stream = TcpStream>, W:
     };
     let listener = listen(rt, alloc, address, writer)?;
     let push = settings.push_ms.map(Duration::from_millis);
-    Ok(Hall::new(listener, conns, push, desk))
+    let timeout = settings.timeout();
+    Ok(Hall::new(listener, conns, push, timeout, desk))
 }
 
 /// Writes the events file, and tells how many connections and events there were.

@@ -1,19 +1,18 @@
 //! Fetching what a plan gives.
 
-ghost use Rattle.std.specs.Prelude.{◌≡◌, ◌<◌, ◌^◌, ◌-◌, All, IfOk, length};
+ghost use Rattle.std.specs.Prelude.{◌≡◌, ◌<◌, ◌^◌, ◌-◌, All, IfOk, IfSome, length};
 
-use crate::links::source_at;
+use crate::links::{SourcePlace, connect_all};
 use crate::progress::Progress;
 use crate::told::ToldSource;
 use claim_board::{Board, BoardFault, Cell};
 use event_store::{Desk, Naming};
 use fetch_plan::Plan;
 use mirror_core::{End, FetchFault, Source, fetch_all};
-use mirror_settings::{Address, Settings};
-use offer_table::Bases;
+use mirror_settings::Settings;
 use serve_run::Refusal;
 use std::alloc::{AllocError, Global};
-use std::net::Net;
+use std::net::{Net, TcpListener, TcpStream};
 use std::random::RandomSource;
 use std::sync::{Mutex, Wait};
 use std::thread::Threads;
@@ -54,93 +53,31 @@ pub fn counts_of(cells: &[Cell]) -> Counts {
 }
 
 /// A source over a connection.
-type Fetcher<'a, R, P> = ToldSource<'a, WsSource<<R as Net>::Stream, RandomKeys<&'a R>>, R, P>;
+type Fetcher<'a, R, P> = ToldSource<'a, WsSource<TcpStream, RandomKeys<&'a R>>, R, P>;
 
-/// Connects to a relay, and keeps a source for the connection, with the relay's number beside, if it can be made.
-fn add_source<'a, R: Net + RandomSource, P>(
-    rt: &'a R,
+/// Places for sources at the relays whose sessions finished, for each as many as there are workers.
+fn places_of<S: Drop, K: Drop>(
     alloc: Global,
-    address: &Address,
-    relay: u16,
-    progress: &'a Progress<P>,
-    sources: &mut Vec<Fetcher<'a, R, P>>,
-    relays: &mut Vec<u16>,
-) -> Result<(), Refusal>
-    requires { All (λ s. s.source.faults < 2 ^ 64 - 1) sources.old.items }
-    ensures { IfOk result (λ _. All (λ s. s.source.faults < 2 ^ 64 - 1) sources.new.items) }
-{
-    let found = source_at(rt, alloc, address)?;
-    match found {
-        Some(source) => {
-            relays.push(relay)?;
-            sources.push(ToldSource {
-                source,
-                rt,
-                progress,
-            })?;
-            Ok(())
-        }
-        None => Ok(()),
-    }
-}
-
-/// Connects to a relay so many times.
-fn add_sources<'a, R: Net + RandomSource, P>(
-    rt: &'a R,
-    alloc: Global,
-    address: &Address,
-    relay: u16,
     workers: u64,
-    progress: &'a Progress<P>,
-    sources: &mut Vec<Fetcher<'a, R, P>>,
-    relays: &mut Vec<u16>,
-) -> Result<(), Refusal>
-    requires { All (λ s. s.source.faults < 2 ^ 64 - 1) sources.old.items }
-    ensures { IfOk result (λ _. All (λ s. s.source.faults < 2 ^ 64 - 1) sources.new.items) }
-{
-    for _worker in 0..workers {
-        add_source(rt, alloc, address, relay, progress, sources, relays)?;
-    }
-    Ok(())
-}
-
-/// Connects as many times as the settings say to a relay whose session finished.
-fn add_relay<'a, R: Net + RandomSource, P>(
-    rt: &'a R,
-    alloc: Global,
-    settings: &Settings,
-    relay: usize,
-    end: &End,
-    progress: &'a Progress<P>,
-    sources: &mut Vec<Fetcher<'a, R, P>>,
-    relays: &mut Vec<u16>,
-) -> Result<(), Refusal>
-    requires { All (λ s. s.source.faults < 2 ^ 64 - 1) sources.old.items }
-    ensures { IfOk result (λ _. All (λ s. s.source.faults < 2 ^ 64 - 1) sources.new.items) }
-{
-    if relay > 255 || !matches!(end, End::Finished(_)) {
-        return Ok(());
-    }
-    match settings.relays.as_slice().get(relay) {
-        Some(address) => {
-            let number = relay as u16;
-            add_sources(
-                rt,
-                alloc,
-                address,
-                number,
-                settings.workers,
-                progress,
-                sources,
-                relays,
-            )
+    ends: &[End],
+) -> Result<Vec<SourcePlace<S, K>>, AllocError> {
+    let mut places = Vec::new(alloc);
+    for relay in 0..ends.len() {
+        if relay < 256 && matches!(&ends[relay], End::Finished(_)) {
+            for _worker in 0..workers {
+                places.push(SourcePlace::new(relay as u16))?;
+            }
         }
-        None => Ok(()),
     }
+    Ok(places)
 }
 
-/// Sources at the relays whose sessions finished, and the relay of each.
-pub fn sources_of<'a, R: Net + RandomSource, P>(
+/// Sources at the relays whose sessions finished, which are connected to side by side, and the relay of each.
+pub fn sources_of<
+    'a,
+    R: Net<Listener = TcpListener, Stream = TcpStream> + RandomSource + Threads + Wait + Sync,
+    P,
+>(
     rt: &'a R,
     alloc: Global,
     settings: &Settings,
@@ -149,19 +86,20 @@ pub fn sources_of<'a, R: Net + RandomSource, P>(
 ) -> Result<(Vec<Fetcher<'a, R, P>>, Vec<u16>), Refusal>
     ensures { IfOk result (λ r. All (λ s. s.source.faults < 2 ^ 64 - 1) r.0.items) }
 {
+    let mut places = places_of(alloc, settings.workers, ends)?;
+    connect_all(rt, alloc, settings, places.as_mut_slice());
     let mut sources = Vec::new(alloc);
     let mut relays = Vec::new(alloc);
-    for relay in 0..ends.len() {
-        add_relay(
-            rt,
-            alloc,
-            settings,
-            relay,
-            &ends[relay],
-            progress,
-            &mut sources,
-            &mut relays,
-        )?;
+    for place in places {
+        let (relay, found) = place.into_parts()?;
+        if let Some(source) = found {
+            relays.push(relay)?;
+            sources.push(ToldSource {
+                source,
+                rt,
+                progress,
+            })?;
+        }
     }
     Ok((sources, relays))
 }
@@ -202,17 +140,5 @@ pub fn fetched<
         Ok(report) => Ok(report.cells),
         Err(FetchFault::Lanes) => Ok(free_cells(alloc, plan.len())?),
         Err(FetchFault::Memory) => Err(Refusal::Memory),
-    }
-}
-
-/// Adds to each relay's load what it was asked for.
-pub fn grow(bases: &mut Bases, plan: &Plan, cells: &[Cell])
-    requires { length cells.now ≡ length plan.now.gives }
-{
-    for at in 0..plan.len() {
-        if matches!(cells[at], Cell::Done | Cell::Missed) {
-            let (_id, relay) = plan.cell(at);
-            let _ = bases.set(relay, bases.of(relay).saturating_add(1));
-        }
     }
 }

@@ -4,60 +4,134 @@ ghost use Rattle.std.specs.Prelude.{◌≡◌, ◌<◌, ◌^◌, ◌-◌, All, I
 
 use crate::progress::Progress;
 use crate::told::ToldPeer;
-use mirror_settings::Address;
-use nostr_filter::Filter;
-use serve_run::Refusal;
+use mirror_settings::{Address, Settings};
+use serve_run::{Duty, Refusal, run_workers};
 use std::alloc::Global;
 use std::io::{Read, Write};
-use std::net::{Net, OpenStream, TcpStream};
+use std::marker::Model;
+use std::net::{Net, TcpListener, TcpStream, ToSocketAddrs};
 use std::random::RandomSource;
+use std::sync::Wait;
+use std::thread::Threads;
+use std::time::Duration;
 use tungstenite::RandomKeys;
 use ws_link::{LinkFault, WsPeer, WsSource};
 
-/// A connection with a relay, if it can be made.
-fn connected<R: Net>(rt: &R, host: &str) -> Option<R::Stream> {
-    let stream = TcpStream::connect(rt, host).ok()?;
-    let _ = stream.set_nodelay(true);
-    Some(stream)
+/// A connection with a relay, if it can be made in time. No later read or write of it waits longer.
+fn connected<R: Net<Listener = TcpListener, Stream = TcpStream>>(
+    rt: &R,
+    host: &str,
+    timeout: Duration,
+) -> Option<TcpStream> {
+    for address in host.to_socket_addrs(rt).ok()? {
+        if let Ok(stream) = rt.connect_timeout(address, timeout) {
+            let _ = stream.set_nodelay(true);
+            let _ = stream.set_read_timeout(Some(timeout));
+            let _ = stream.set_write_timeout(Some(timeout));
+            return Some(stream);
+        }
+    }
+    None
 }
 
 /// A peer that is the relay at this address, or one that can't be reached.
-fn linked<'a, R: Net + RandomSource>(
+fn linked<'a, R: Net<Listener = TcpListener, Stream = TcpStream> + RandomSource>(
     rt: &'a R,
     alloc: Global,
     address: &Address,
-    filter: &Filter,
-) -> Result<WsPeer<R::Stream, RandomKeys<&'a R>>, Refusal>
+    settings: &Settings,
+) -> Result<WsPeer<TcpStream, RandomKeys<&'a R>>, Refusal>
     ensures { IfOk result (λ peer. peer.faults ≡ 0) }
 {
     let host = format!(in alloc; "{address}")?;
-    let Some(stream) = connected(rt, host.as_str()) else {
+    let Some(stream) = connected(rt, host.as_str(), settings.timeout()) else {
         return Ok(WsPeer::unreachable(alloc));
     };
-    match WsPeer::start(alloc, rt, stream, host.as_str(), filter) {
+    match WsPeer::start(alloc, rt, stream, host.as_str(), &settings.filter) {
         Ok(peer) => Ok(peer),
         Err(LinkFault::Memory) => Err(Refusal::Memory),
         Err(_) => Ok(WsPeer::unreachable(alloc)),
     }
 }
 
-/// A peer for each relay, in their order, whose session is told as it ends.
-pub fn linked_all<'a, R: Net + RandomSource, P>(
+/// A place for a relay's peer, of which no question has failed.
+#[derive(Drop)]
+struct PeerPlace<S, K> {
+    relay: usize,
+    peer: Result<WsPeer<S, K>, Refusal>,
+}
+
+impl<S, K> Model for PeerPlace<S, K> {
+    ghost use Rattle.std.specs.Prelude.{◌≡◌, ℕ, IfOk};
+
+    ghost Value = { ℕ };
+
+    ghost view = { λ p. p.relay };
+
+    ghost invariant = { λ p. IfOk p.peer (λ q. q.faults ≡ 0) };
+}
+
+impl<S, K> PeerPlace<S, K> {
+    /// The relay, and its peer.
+    fn into_parts(self) -> Result<(usize, WsPeer<S, K>), Refusal>
+        ensures { IfOk result (λ p. p.1.faults ≡ 0) }
+    {
+        let PeerPlace { relay, peer } = self;
+        match peer {
+            Ok(found) => Ok((relay, found)),
+            Err(refusal) => Err(refusal),
+        }
+    }
+}
+
+/// Connects to the relays of the settings.
+#[derive(Clone, Copy)]
+struct Connecting<'a, 's, R> {
+    rt: &'a R,
+    settings: &'s Settings,
+}
+
+impl<'a, 's, R: Net<Listener = TcpListener, Stream = TcpStream> + RandomSource> Duty<
+    PeerPlace<TcpStream, RandomKeys<&'a R>>,
+> for Connecting<'a, 's, R> {
+    fn work<W: Wait>(
+        &self,
+        _waits: &W,
+        alloc: Global,
+        place: &mut PeerPlace<TcpStream, RandomKeys<&'a R>>,
+    ) {
+        if let Some(address) = self.settings.relays.as_slice().get(place.relay) {
+            place.peer = linked(self.rt, alloc, address, self.settings);
+        }
+    }
+}
+
+/// A peer for each relay, in their order, whose session is told as it ends. The relays are connected to side by side.
+pub fn linked_all<
+    'a,
+    R: Net<Listener = TcpListener, Stream = TcpStream> + RandomSource + Threads + Wait + Sync,
+    P,
+>(
     rt: &'a R,
     alloc: Global,
-    relays: &[Address],
-    filter: &Filter,
+    settings: &Settings,
     progress: &'a Progress<P>,
-) -> Result<Vec<ToldPeer<'a, WsPeer<R::Stream, RandomKeys<&'a R>>, R, P>>, Refusal>
+) -> Result<Vec<ToldPeer<'a, WsPeer<TcpStream, RandomKeys<&'a R>>, R, P>>, Refusal>
     ensures { IfOk result (λ peers. All (λ told. told.peer.faults < 2 ^ 64 - 1) peers.items) }
 {
+    let mut places = Vec::new(alloc);
+    for relay in 0..settings.relays.as_slice().len() {
+        let peer = Ok(WsPeer::unreachable(alloc));
+        places.push(PeerPlace { relay, peer })?;
+    }
+    let connecting = Connecting { rt, settings };
+    run_workers(rt, alloc, &connecting, places.as_mut_slice());
     let mut peers = Vec::new(alloc);
-    for relay in relays {
-        let peer = linked(rt, alloc, relay, filter)?;
-        let number = peers.len();
+    for place in places {
+        let (relay, peer) = place.into_parts()?;
         peers.push(ToldPeer {
             peer,
-            relay: number,
+            relay,
             rt,
             progress,
         })?;
@@ -66,15 +140,16 @@ pub fn linked_all<'a, R: Net + RandomSource, P>(
 }
 
 /// A source that is the relay at this address, if it can be reached.
-pub fn source_at<'a, R: Net + RandomSource>(
+fn source_at<'a, R: Net<Listener = TcpListener, Stream = TcpStream> + RandomSource>(
     rt: &'a R,
     alloc: Global,
     address: &Address,
-) -> Result<Option<WsSource<R::Stream, RandomKeys<&'a R>>>, Refusal>
+    timeout: Duration,
+) -> Result<Option<WsSource<TcpStream, RandomKeys<&'a R>>>, Refusal>
     ensures { IfOk result (λ o. IfSome o (λ source. source.faults ≡ 0)) }
 {
     let host = format!(in alloc; "{address}")?;
-    let Some(stream) = connected(rt, host.as_str()) else {
+    let Some(stream) = connected(rt, host.as_str(), timeout) else {
         return Ok(None);
     };
     match WsSource::start(alloc, rt, stream, host.as_str()) {
@@ -82,6 +157,77 @@ pub fn source_at<'a, R: Net + RandomSource>(
         Err(LinkFault::Memory) => Err(Refusal::Memory),
         Err(_) => Ok(None),
     }
+}
+
+/// A place for a source at a relay, of which no fetch has failed.
+#[derive(Drop)]
+pub struct SourcePlace<S, K> {
+    relay: u16,
+    source: Result<Option<WsSource<S, K>>, Refusal>,
+}
+
+impl<S, K> Model for SourcePlace<S, K> {
+    ghost use Rattle.std.specs.Prelude.{◌≡◌, ℕ, IfOk, IfSome};
+
+    ghost Value = { ℕ };
+
+    ghost view = { λ p. p.relay };
+
+    ghost invariant = { λ p. IfOk p.source (λ o. IfSome o (λ s. s.faults ≡ 0)) };
+}
+
+impl<S, K> SourcePlace<S, K> {
+    /// A place without a source.
+    pub fn new(relay: u16) -> SourcePlace<S, K> {
+        SourcePlace {
+            relay,
+            source: Ok(None),
+        }
+    }
+
+    /// The relay, and the source if it could be reached.
+    pub fn into_parts(self) -> Result<(u16, Option<WsSource<S, K>>), Refusal>
+        ensures { IfOk result (λ p. IfSome p.1 (λ source. source.faults ≡ 0)) }
+    {
+        let SourcePlace { relay, source } = self;
+        match source {
+            Ok(found) => Ok((relay, found)),
+            Err(refusal) => Err(refusal),
+        }
+    }
+}
+
+impl<'a, 's, R: Net<Listener = TcpListener, Stream = TcpStream> + RandomSource> Duty<
+    SourcePlace<TcpStream, RandomKeys<&'a R>>,
+> for Connecting<'a, 's, R> {
+    fn work<W: Wait>(
+        &self,
+        _waits: &W,
+        alloc: Global,
+        place: &mut SourcePlace<TcpStream, RandomKeys<&'a R>>,
+    ) {
+        if let Some(address) = self
+            .settings
+            .relays
+            .as_slice()
+            .get(usize::from(place.relay))
+        {
+            place.source = source_at(self.rt, alloc, address, self.settings.timeout());
+        }
+    }
+}
+
+/// Connects to the relay of each place, side by side.
+pub fn connect_all<
+    'a,
+    R: Net<Listener = TcpListener, Stream = TcpStream> + RandomSource + Threads + Wait + Sync,
+>(
+    rt: &'a R,
+    alloc: Global,
+    settings: &Settings,
+    places: &mut [SourcePlace<TcpStream, RandomKeys<&'a R>>],
+) {
+    run_workers(rt, alloc, &Connecting { rt, settings }, places);
 }
 
 /// Ends the sessions, as far as that can be said to the relays.

@@ -2,7 +2,7 @@
 
 ghost use Rattle.std.specs.Prelude.{◌≡◌, length, IfOk};
 
-use crate::fetching::{Counts, counts_of, fetched, grow, sources_of};
+use crate::fetching::{Counts, counts_of, fetched, sources_of};
 use crate::links::{finish_all, linked_all};
 use crate::progress::Progress;
 use crate::text::{counts_text, put_ends, put_plan, put_round};
@@ -10,7 +10,7 @@ use claim_board::Cell;
 use event_file::NewFile;
 use event_store::{Blank, Desk, Naming, Reader, open_store};
 use fetch_plan::Plan;
-use mirror_core::{End, SyncFault, Synced, next_plan, sync_plan};
+use mirror_core::{End, SyncFault, Synced, grown, next_plan, sync_plan};
 use mirror_settings::{Settings, SettingsKey, read_settings};
 use neg_session::SessionLimits;
 use offer_table::Bases;
@@ -48,25 +48,20 @@ fn refusal_of(fault: SyncFault) -> Refusal {
 }
 
 /// Sessions with the relays over the events that the filter matches, and the plan made of what they found.
-fn synced<J: Naming, R: Net + RandomSource + Threads + Wait + Sync, P: Write + Send>(
+fn synced<
+    J: Naming,
+    R: Net<Listener = TcpListener, Stream = TcpStream> + RandomSource + Threads + Wait + Sync,
+    P: Write + Send,
+>(
     rt: &R,
     alloc: Global,
     settings: &Settings,
     reader: &mut Reader<J>,
     progress: &Progress<P>,
-) -> Result<Synced, Refusal>
-where
-    R::Stream: Send,
-{
+) -> Result<Synced, Refusal> {
     let snapshot = reader.pin(alloc, &settings.filter)?;
     progress.tell(rt, snapshot.events().len(), "events are compared");
-    let mut peers = linked_all(
-        rt,
-        alloc,
-        settings.relays.as_slice(),
-        &settings.filter,
-        progress,
-    )?;
+    let mut peers = linked_all(rt, alloc, settings, progress)?;
     progress.tell(rt, peers.len(), "relays are asked");
     let bases = bases_of(settings.bases.as_slice());
     let limits = SessionLimits::default();
@@ -82,7 +77,12 @@ where
 fn fetch_round<
     J: Naming + Send + Sync,
     D: Wait + Drop + Send + Sync,
-    R: Net + RandomSource + Threads + Wait + Clock + Sync,
+    R: Net<Listener = TcpListener, Stream = TcpStream>
+        + RandomSource
+        + Threads
+        + Wait
+        + Clock
+        + Sync,
     P: Write + Send,
 >(
     rt: &R,
@@ -93,8 +93,6 @@ fn fetch_round<
     desk: &Mutex<Desk<J, D>>,
     progress: &Progress<P>,
 ) -> Result<Vec<Cell>, Refusal>
-where
-    R::Stream: Send,
     ensures { IfOk result (λ v. length v.items ≡ length plan.now.gives) }
 {
     progress.tell(rt, plan.len(), "ids are planned");
@@ -130,7 +128,12 @@ fn say_round<W: Write>(
 fn fetch_rounds<
     J: Naming + Send + Sync,
     D: Wait + Drop + Send + Sync,
-    R: Net + RandomSource + Threads + Wait + Clock + Sync,
+    R: Net<Listener = TcpListener, Stream = TcpStream>
+        + RandomSource
+        + Threads
+        + Wait
+        + Clock
+        + Sync,
     W: Write,
     P: Write + Send,
 >(
@@ -141,10 +144,7 @@ fn fetch_rounds<
     desk: &Mutex<Desk<J, D>>,
     writer: &mut W,
     progress: &Progress<P>,
-) -> Result<Counts, Refusal>
-where
-    R::Stream: Send,
-{
+) -> Result<Counts, Refusal> {
     let Synced {
         ends,
         mut table,
@@ -155,7 +155,7 @@ where
     for round in 1..settings.rounds {
         let cells = fetch_round(rt, alloc, settings, ends.as_slice(), &plan, desk, progress)?;
         all = all.with(&counts_of(cells.as_slice()));
-        grow(&mut bases, &plan, cells.as_slice());
+        bases = grown(&bases, &plan, cells.as_slice());
         plan = next_plan(alloc, &mut table, &plan, cells.as_slice(), &bases)?;
         if plan.len() == 0 {
             return Ok(all);
@@ -170,7 +170,12 @@ where
 fn run_all<
     J: Naming + Send + Sync,
     D: Wait + Drop + Send + Sync,
-    R: Net + RandomSource + Threads + Wait + Clock + Sync,
+    R: Net<Listener = TcpListener, Stream = TcpStream>
+        + RandomSource
+        + Threads
+        + Wait
+        + Clock
+        + Sync,
     W: Write,
     P: Write + Send,
 >(
@@ -181,10 +186,7 @@ fn run_all<
     desk: &Mutex<Desk<J, D>>,
     writer: &mut W,
     progress: &Progress<P>,
-) -> Result<(), Refusal>
-where
-    R::Stream: Send,
-{
+) -> Result<(), Refusal> {
     let done = synced(rt, alloc, settings, reader, progress)?;
     let mut text = String::new(alloc);
     put_ends(alloc, &mut text, done.ends.as_slice())?;
@@ -198,7 +200,13 @@ where
 fn run_alone<
     J: Naming + Send + Sync,
     D: Wait + Drop + Send + Sync,
-    R: Net + RandomSource + Threads + Wait + Files + Clock + Sync,
+    R: Net<Listener = TcpListener, Stream = TcpStream>
+        + RandomSource
+        + Threads
+        + Wait
+        + Files
+        + Clock
+        + Sync,
     W: Write,
     P: Write + Send,
 >(
@@ -210,10 +218,7 @@ fn run_alone<
     file: NewFile<R::File>,
     writer: &mut W,
     progress: &Progress<P>,
-) -> Result<(), Refusal>
-where
-    R::Stream: Send,
-{
+) -> Result<(), Refusal> {
     let desk = Mutex::new(desk);
     match run_all(rt, alloc, settings, reader, &desk, writer, progress) {
         Ok(()) => {
@@ -231,7 +236,12 @@ where
 fn run_in_hall<
     J: Naming + Send + Sync,
     D: Wait + Drop + Send + Sync,
-    R: Net + RandomSource + Threads + Wait + Clock + Sync,
+    R: Net<Listener = TcpListener, Stream = TcpStream>
+        + RandomSource
+        + Threads
+        + Wait
+        + Clock
+        + Sync,
     W: Write,
     P: Write + Send,
 >(
@@ -243,10 +253,7 @@ fn run_in_hall<
     reader: &mut Reader<J>,
     writer: &mut W,
     progress: &Progress<P>,
-) -> Result<(), Refusal>
-where
-    R::Stream: Send,
-{
+) -> Result<(), Refusal> {
     let done = run_all(rt, alloc, settings, reader, hall.desk(), writer, progress);
     if done.is_err() {
         hall.close(rt, waiting);

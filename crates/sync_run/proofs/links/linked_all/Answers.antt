@@ -2,7 +2,7 @@ use Rattle.std.proofs.Common.{◌<◌, ◌^◌, ◌-◌, arith}
 use Rattle.std.proofs.lemmas.List.Elements.{All-push}
 use Rattle.sync_run.proofs.links.linked_all.Goals as goal
 
-pub loop-relay-preserved : goal.loop-relay-preserved
-loop-relay-preserved g c =
+pub loop-place-preserved : goal.loop-place-preserved
+loop-place-preserved g c =
     let small : c.in_ok-peer.peer.faults < 2 ^ 64 - 1 = omega (arith, c.in_ok-peer.ensures) in
-    rw c.in_ok-push.ensures.items (All-push (λ p. p.peer.faults < 2 ^ 64 - 1) c.loop-relay.peers.items _ c.loop-relay.invariant small)
+    rw c.in_ok-push.ensures.items (All-push (λ p. p.peer.faults < 2 ^ 64 - 1) c.loop-place.peers.items _ c.loop-place.invariant small)
