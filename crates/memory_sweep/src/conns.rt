@@ -59,7 +59,13 @@ fn over_store<J: Naming, D: Wait + Drop, R: Wait>(
     let first = event_text(alloc, SENT, 0)?;
     match name {
         "Conn::serve EVENT" => gives(alloc, &mut conn, &mut reader),
-        "Conn::serve REQ" => says(alloc, &mut conn, &mut reader, REQUEST, &[first.as_str(), EOSE]),
+        "Conn::serve REQ" => says(
+            alloc,
+            &mut conn,
+            &mut reader,
+            REQUEST,
+            &[first.as_str(), EOSE],
+        ),
         "Conn::serve NEG-OPEN" => says(alloc, &mut conn, &mut reader, NEG_OPEN, &[LISTS_FIRST]),
         "Conn::serve NEG-MSG" => {
             conn.serve(&mut reader, NEG_OPEN).ok()?;

@@ -8,6 +8,8 @@
 mod boards;
 mod conns;
 mod events;
+mod jobs;
+mod links;
 mod mirrors;
 mod plans;
 mod rolls;
@@ -39,8 +41,12 @@ fn said_of<R: Threads + Wait + Sync>(rt: &R, alloc: Global, name: &str) -> Optio
         conns::said_of(rt, alloc, name)
     } else if boards::NAMES.contains(&name) {
         boards::said_of(alloc, name)
-    } else {
+    } else if mirrors::NAMES.contains(&name) {
         mirrors::said_of(rt, alloc, name)
+    } else if links::NAMES.contains(&name) {
+        links::said_of(rt, alloc, name)
+    } else {
+        jobs::said_of(rt, alloc, name)
     }
 }
 
@@ -68,6 +74,8 @@ fn main(rt: HostRuntime) -> io::Result<ExitCode> {
         conns::NAMES,
         boards::NAMES,
         mirrors::NAMES,
+        links::NAMES,
+        jobs::NAMES,
     ];
     let mut is_right = true;
     for names in all {

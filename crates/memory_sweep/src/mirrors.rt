@@ -14,8 +14,7 @@ use claim_board::{Board, Cell, Lane};
 use event_store::{Blank, Naming, Reader};
 use fetch_plan::plan;
 use mirror_core::{
-    End, Fetch, FetchFault, Source, SourceFault, Stop, SyncFault, Synced, fetch_all,
-    sync_plan,
+    End, Fetch, FetchFault, Source, SourceFault, Stop, SyncFault, Synced, fetch_all, sync_plan,
 };
 use neg_codec::Id;
 use neg_session::{Peer, SessionFault, SessionLimits};
@@ -162,10 +161,16 @@ fn fetched<J: Naming + Send + Sync, D: Wait + Drop + Send + Sync, R: Threads + W
     let mut sources = [Giving::new(alloc, lower), Giving::new(alloc, upper)];
     match fetch_all(rt, alloc, board, lanes, &mut sources, &desk) {
         Ok(report) => {
-            let ([lower, upper], [first, second]) = (report.cells.as_slice(), report.stops.as_slice()) else {
+            let ([lower, upper], [first, second]) = (
+                report.cells.as_slice(),
+                report.stops.as_slice(),
+            ) else {
                 return Said::wrong();
             };
-            let both = (worked(alloc, &mut reader, 1, *lower, first), worked(alloc, &mut reader, 0, *upper, second));
+            let both = (
+                worked(alloc, &mut reader, 1, *lower, first),
+                worked(alloc, &mut reader, 0, *upper, second),
+            );
             match both {
                 (Some(true), Some(true)) => Said::ample(true),
                 (Some(_), Some(_)) => Said::allowed(true),

@@ -148,8 +148,9 @@ fn planned_next(alloc: Global) -> Option<Said> {
         Ok(next) => Said::ample(is_next(&table, &next)),
         Err(_) => Said::memory(
             has_left(&table)
-                && next_plan(alloc, &mut table, &last, &cells, &Bases::none())
-                    .is_ok_and(|next| is_next(&table, &next)),
+                && next_plan(alloc, &mut table, &last, &cells, &Bases::none()).is_ok_and(
+                    |next| is_next(&table, &next),
+                ),
         ),
     }
 }
@@ -182,7 +183,8 @@ fn has_left(table: &OfferTable) -> bool {
     false
 }
 
-const FILE: &str =
+/// A plan text.
+pub const FILE: &str =
     "nostr-plan 1\noffer 0a0a0a0a0a0a0a0a0a0a0a0a0a0a0a0a0a0a0a0a0a0a0a0a0a0a0a0a0a0a0a0a 0 1 2\ngive 0a0a0a0a0a0a0a0a0a0a0a0a0a0a0a0a0a0a0a0a0a0a0a0a0a0a0a0a0a0a0a0a 1\ngroup 0 1 2\n";
 
 fn read_file(alloc: Global) -> Option<Said> {

@@ -92,9 +92,8 @@ fn are_first(events: &EventList, count: usize) -> bool {
 
 /// Whether the first events are published, so many of them, and no others.
 pub fn publishes<J: Naming>(alloc: Global, reader: &mut Reader<J>, count: usize) -> bool {
-    reader
-        .pin(alloc, &Filter::all())
-        .is_ok_and(|all| all.front() == count && are_first(all.events(), count))
+    reader.pin(alloc, &Filter::all()).is_ok_and(|all| all.front() == count
+        && are_first(all.events(), count))
 }
 
 fn stored<J: Naming, D: Wait + Drop, R: Wait>(
@@ -130,10 +129,7 @@ fn insert<J: Naming, D: Wait + Drop, R: Wait>(
     let is_pin_kept = are_first(before.events(), 2);
     match placed {
         Ok(placed) => Said::ample(
-            is_pin_kept
-                && placed.is_fresh()
-                && placed.front() == 3
-                && publishes(alloc, reader, 3),
+            is_pin_kept && placed.is_fresh() && placed.front() == 3 && publishes(alloc, reader, 3),
         ),
         Err((InsertFault::Memory, third)) => Said::memory(
             is_pin_kept
