@@ -7,6 +7,7 @@
 at last with none, it has to print one of these:
 
 - `memory`: the call answered want of memory, and the state is as it has to be;
+- `allowed`: the call gave another answer that may come of it (docs/PROVED.md), and the state is as it has to be;
 - `ample`: the call's answer with all memory, as what was refused wasn't needed;
 - `outside`: what was refused was asked for before the call, or behind it.
 
@@ -27,7 +28,7 @@ def told(name, status, out, errors):
         return "outside"  # Its words weren't read.
     need(status == 0 and not errors, status, out, errors)
     word = out.removeprefix(name + ": ")
-    need(word in ("ample\n", "memory\n", "outside\n"), status, out, errors)
+    need(word in ("ample\n", "memory\n", "allowed\n", "outside\n"), status, out, errors)
     return word.strip()
 
 

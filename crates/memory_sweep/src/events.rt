@@ -1,6 +1,7 @@
 //! Events, filters, and the texts that clients and relays send each other.
 
 use crate::said::Said;
+use neg_codec::Id;
 use nostr_event::{Event, EventFault, Spelling, bytes32_of, id_of, id_text};
 use nostr_filter::{Filter, FilterFault, choose};
 use nostr_wire::{WireFault, read_client, read_relay, write_client, write_relay};
@@ -66,8 +67,12 @@ const EVENTS: [&str; 3] = [
 const ID_TEXT: &str =
     r##"[0,"2bd806c97f0e00af1a1fc3328fa763a9269723c8db8fac4f93af71db186d6e90",9,1,[["t","x"],["t","y"]],"first"]"##;
 
-/// The first event's id.
-const FIRST_ID: &str = "c834e78ee1a16342ad8786756ffb00d078df09ccbc0c6d17605aafc6897bc7de";
+/// Their ids.
+const IDS: [&str; 3] = [
+    "c834e78ee1a16342ad8786756ffb00d078df09ccbc0c6d17605aafc6897bc7de",
+    "4494e0cd2ca6f5a18a838a302c242faf521850657c61d3583d75e195e1b2692f",
+    "b5feb4c9c8dc073f982789a9ef1d37de92dee17a5464728203d367c7fc742c45",
+];
 
 /// A filter with each kind of condition.
 const FILTER: &str =
@@ -90,6 +95,11 @@ const OKAY: &str =
 /// What is sent of an event in the list, behind these elements.
 pub fn event_text(alloc: Global, front: &str, at: usize) -> Option<String> {
     format!(in alloc; "[{front},{}]", EVENTS.get(at)?).ok()
+}
+
+/// The id of the event at a place in the list.
+pub fn event_id(at: usize) -> Option<Id> {
+    bytes32_of(IDS.get(at)?).map(Id)
 }
 
 fn parsed(alloc: Global, text: &str) -> Option<Value> {
@@ -123,7 +133,7 @@ fn text_of_id(alloc: Global, spelling: Spelling) -> Option<Said> {
 fn digest(alloc: Global) -> Option<Said> {
     let event = event(alloc, 0)?;
     match id_of(alloc, event.draft(), Spelling::Escaped) {
-        Ok(id) => Said::ample(bytes32_of(FIRST_ID) == Some(id.0)),
+        Ok(id) => Said::ample(event_id(0) == Some(id)),
         Err(_) => Said::memory(true),
     }
 }
@@ -132,7 +142,7 @@ fn read_event(alloc: Global) -> Option<Said> {
     let value = parsed(alloc, EVENTS[0])?;
     match Event::from_json(alloc, &value) {
         Ok(event) => Said::ample(
-            bytes32_of(FIRST_ID) == Some(event.id().0) && event.draft().tags.as_slice().len() == 2,
+            event_id(0) == Some(event.id()) && event.draft().tags.as_slice().len() == 2,
         ),
         Err(EventFault::Memory) => Said::memory(true),
         Err(_) => Said::wrong(),

@@ -1,7 +1,8 @@
 //! Offers, plans and plan files.
 
 use crate::said::Said;
-use fetch_plan::{Plan, plan};
+use fetch_plan::{Cell, Plan, plan};
+use mirror_core::next_plan;
 use neg_codec::Id;
 use offer_table::{Bases, OfferFault, OfferTable};
 use plan_check::{PlanFault, check, read_plan, write_plan};
@@ -14,6 +15,7 @@ pub const NAMES: &[&str] = &[
     "merge",
     "strike",
     "plan",
+    "next_plan",
     "read_plan",
     "write_plan",
 ];
@@ -25,6 +27,7 @@ pub fn said_of(alloc: Global, name: &str) -> Option<Said> {
         "merge" => merged(alloc),
         "strike" => struck(alloc),
         "plan" => planned(alloc),
+        "next_plan" => planned_next(alloc),
         "read_plan" => read_file(alloc),
         "write_plan" => write_file(alloc),
         _ => None,
@@ -123,7 +126,7 @@ pub fn gives(plan: &Plan, gives: &[(u8, u16)], least_max: u64) -> bool {
     plan.len() == gives.len() && plan.least_max() == least_max
 }
 
-const GIVES: &[(u8, u16)] = &[(10, 0), (11, 1), (12, 2)];
+pub const GIVES: &[(u8, u16)] = &[(10, 0), (11, 1), (12, 2)];
 
 fn planned(alloc: Global) -> Option<Said> {
     let table = table(alloc)?;
@@ -133,7 +136,55 @@ fn planned(alloc: Global) -> Option<Said> {
     }
 }
 
-const FILE: &str =
+/// Plans a second round, where one id is done, its cell's relay missed another, and nobody came to the third.
+fn planned_next(alloc: Global) -> Option<Said> {
+    let cells = [Cell::Done, Cell::Missed, Cell::Free];
+    let mut table = table(alloc)?;
+    let last = plan(alloc, &table, &Bases::none()).ok()?;
+    if last.len() != cells.len() {
+        return None;
+    }
+    match next_plan(alloc, &mut table, &last, &cells, &Bases::none()) {
+        Ok(next) => Said::ample(is_next(&table, &next)),
+        Err(_) => Said::memory(
+            has_left(&table)
+                && next_plan(alloc, &mut table, &last, &cells, &Bases::none()).is_ok_and(
+                    |next| is_next(&table, &next),
+                ),
+        ),
+    }
+}
+
+/// Whether the table has lost the offers that need no further round, and the plan is one of those left.
+fn is_next(table: &OfferTable, next: &Plan) -> bool {
+    has_offers(table, NEXT)
+        && next.relay_of(&id(11)) == Some(0)
+        && next.len() == 2
+        && next.least_max() == 1
+}
+
+/// The offers of `TABLE` without some of those.
+const LEFT: [Offers<'static>; 4] = [
+    TABLE,
+    &[(11, &[0, 1]), (12, &[1, 2])],
+    &[(10, &[0]), (11, &[0]), (12, &[1, 2])],
+    NEXT,
+];
+
+const NEXT: Offers<'static> = &[(11, &[0]), (12, &[1, 2])];
+
+/// Whether the table has lost some of those offers and no other.
+fn has_left(table: &OfferTable) -> bool {
+    for offers in LEFT {
+        if has_offers(table, offers) {
+            return true;
+        }
+    }
+    false
+}
+
+/// A plan text.
+pub const FILE: &str =
     "nostr-plan 1\noffer 0a0a0a0a0a0a0a0a0a0a0a0a0a0a0a0a0a0a0a0a0a0a0a0a0a0a0a0a0a0a0a0a 0 1 2\ngive 0a0a0a0a0a0a0a0a0a0a0a0a0a0a0a0a0a0a0a0a0a0a0a0a0a0a0a0a0a0a0a0a 1\ngroup 0 1 2\n";
 
 fn read_file(alloc: Global) -> Option<Said> {

@@ -5,7 +5,7 @@ ghost use Rattle.std.specs.Prelude.{◌≡◌, IfSome};
 use crate::rolls::{has_items, item, line};
 use crate::said::Said;
 use item_roll::Roll;
-use neg_codec::Id;
+use neg_codec::{Id, Item};
 use neg_initiator::{InitFault, Initiator, Next};
 use neg_responder::{AnswerFault, answer};
 use neg_session::{LocalPeer, Peer, PeerFault, SessionFault, SessionLimits, reconcile_with};
@@ -67,16 +67,16 @@ fn take(alloc: Global) -> Option<Said> {
     }
 }
 
-/// A peer that has one item.
-fn local(alloc: Global) -> Option<LocalPeer>
+/// A peer that has these items.
+pub fn local(alloc: Global, items: &[Item]) -> Option<LocalPeer>
     ensures { IfSome result (λ p. p.faults ≡ 0) }
 {
-    let theirs = Roll::from_items(alloc, &[item(1)]).ok()?;
+    let theirs = Roll::from_items(alloc, items).ok()?;
     Some(LocalPeer::new(alloc, theirs, 4_096))
 }
 
 fn ask(alloc: Global) -> Option<Said> {
-    let mut peer = local(alloc)?;
+    let mut peer = local(alloc, &[item(1)])?;
     match peer.ask(ASK_ALL) {
         Ok(bytes) => Said::ample(bytes.as_slice() == LISTS_ONE && peer.pairs().len() == 1),
         Err(PeerFault::Memory) => Said::memory(
@@ -88,7 +88,7 @@ fn ask(alloc: Global) -> Option<Said> {
 
 fn reconciled(alloc: Global) -> Option<Said> {
     let mine = Roll::from_items(alloc, &[item(2)]).ok()?;
-    let mut peer = local(alloc)?;
+    let mut peer = local(alloc, &[item(1)])?;
     match reconcile_with(alloc, &mut peer, &mine, &SessionLimits::default()) {
         Ok(found) => Said::ample(
             found.need.len() == 1
