@@ -181,10 +181,13 @@ fn reported<J: Naming>(
     };
     let first = worked(alloc, reader, 1, *lower, first);
     let second = worked(alloc, reader, 0, *upper, second);
-    match (first, second) {
-        (Some(true), Some(true)) => Said::ample(true),
-        (Some(_), Some(_)) => Said::allowed(true),
-        _ => Said::wrong(),
+    let (Some(first), Some(second)) = (first, second) else {
+        return Said::wrong();
+    };
+    if first && second {
+        Said::ample(true)
+    } else {
+        Said::allowed(true)
     }
 }
 
