@@ -59,9 +59,9 @@ const NEG_MSG: &str = r##"["NEG-MSG","s","6100000200"]"##;
 const LISTS_FIRST: &str =
     r##"["NEG-MSG","s","6100000201c834e78ee1a16342ad8786756ffb00d078df09ccbc0c6d17605aafc6897bc7de"]"##;
 
-/// Tells that the second event is stored.
-const OKAY: &str =
-    r##"["OK","4494e0cd2ca6f5a18a838a302c242faf521850657c61d3583d75e195e1b2692f",true,""]"##;
+/// Tells that the first event is stored already.
+const DUPLICATE: &str =
+    r##"["OK","c834e78ee1a16342ad8786756ffb00d078df09ccbc0c6d17605aafc6897bc7de",true,"duplicate: already have this event"]"##;
 
 /// Makes the call over a store of the first event.
 fn over_store<J: Naming, D: Wait + Drop, R: Wait>(
@@ -147,7 +147,7 @@ fn says<J: Naming>(
     }
 }
 
-/// The client is told that the second event is stored.
+/// The client is told that the first event, which it gave again, is stored already.
 fn stored<J: Naming, D: Wait + Drop, R: Wait>(
     rt: &R,
     alloc: Global,
@@ -155,18 +155,18 @@ fn stored<J: Naming, D: Wait + Drop, R: Wait>(
     conn: &mut Conn,
     reader: &mut Reader<J>,
 ) -> Option<Said> {
-    let second = event(alloc, 1)?;
-    let id = second.id();
-    let placed = match desk.insert(rt, second) {
+    let first = event(alloc, 0)?;
+    let id = first.id();
+    let placed = match desk.insert(rt, first) {
         Ok(placed) => Ok(placed),
-        Err((fault, _second)) => Err(fault),
+        Err((fault, _first)) => Err(fault),
     };
     if placed.is_err() {
         return None;
     }
     match conn.stored(reader, id, placed.as_ref()) {
-        Ok(message) => Said::ample(are(alloc, &[message], &[OKAY])?),
-        Err(fault) => refused(alloc, conn, reader, fault, 2),
+        Ok(message) => Said::ample(are(alloc, &[message], &[DUPLICATE])?),
+        Err(fault) => refused(alloc, conn, reader, fault, 1),
     }
 }
 
