@@ -24,7 +24,27 @@ pub const NAMES: &[&str] = &[
 
 /// What the call of that name came to.
 pub fn said_of<R: Wait>(rt: &R, alloc: Global, name: &str) -> Option<Said> {
-    over_store::<Brand, _, _>(rt, rt, alloc, Blank::new(), name)
+    let call = match name {
+        "Conn::serve EVENT" => Call::Event,
+        "Conn::serve REQ" => Call::Request,
+        "Conn::serve NEG-OPEN" => Call::NegOpen,
+        "Conn::serve NEG-MSG" => Call::NegMsg,
+        "Conn::stored" => Call::Stored,
+        "Conn::catch_up" => Call::CatchUp,
+        _ => return None,
+    };
+    over_store::<Brand, _, _>(rt, rt, alloc, Blank::new(), call)
+}
+
+/// A call on a connection.
+#[derive(Clone, Copy)]
+enum Call {
+    Event,
+    Request,
+    NegOpen,
+    NegMsg,
+    Stored,
+    CatchUp,
 }
 
 const REQUEST: &str = r##"["REQ","s",{}]"##;
@@ -39,9 +59,9 @@ const NEG_MSG: &str = r##"["NEG-MSG","s","6100000200"]"##;
 const LISTS_FIRST: &str =
     r##"["NEG-MSG","s","6100000201c834e78ee1a16342ad8786756ffb00d078df09ccbc0c6d17605aafc6897bc7de"]"##;
 
-/// Tells that the second event is stored.
-const OKAY: &str =
-    r##"["OK","4494e0cd2ca6f5a18a838a302c242faf521850657c61d3583d75e195e1b2692f",true,""]"##;
+/// Tells that the first event is stored already.
+const DUPLICATE: &str =
+    r##"["OK","c834e78ee1a16342ad8786756ffb00d078df09ccbc0c6d17605aafc6897bc7de",true,"duplicate: already have this event"]"##;
 
 /// Makes the call over a store of the first event.
 fn over_store<J: Naming, D: Wait + Drop, R: Wait>(
@@ -49,7 +69,7 @@ fn over_store<J: Naming, D: Wait + Drop, R: Wait>(
     keep: D,
     alloc: Global,
     blank: Blank,
-    name: &str,
+    call: Call,
 ) -> Option<Said>
     requires book { blank ≡ J.book }
     requires most { J.most ≡ 1000000 }
@@ -57,23 +77,22 @@ fn over_store<J: Naming, D: Wait + Drop, R: Wait>(
     let (mut desk, mut reader) = store::<J, D, R>(rt, keep, alloc, blank, 1)?;
     let mut conn = Conn::new(alloc, RelayLimits::default());
     let first = event_text(alloc, SENT, 0)?;
-    match name {
-        "Conn::serve EVENT" => gives(alloc, &mut conn, &mut reader),
-        "Conn::serve REQ" => says(
+    match call {
+        Call::Event => gives(alloc, &mut conn, &mut reader),
+        Call::Request => says(
             alloc,
             &mut conn,
             &mut reader,
             REQUEST,
             &[first.as_str(), EOSE],
         ),
-        "Conn::serve NEG-OPEN" => says(alloc, &mut conn, &mut reader, NEG_OPEN, &[LISTS_FIRST]),
-        "Conn::serve NEG-MSG" => {
+        Call::NegOpen => says(alloc, &mut conn, &mut reader, NEG_OPEN, &[LISTS_FIRST]),
+        Call::NegMsg => {
             conn.serve(&mut reader, NEG_OPEN).ok()?;
             says(alloc, &mut conn, &mut reader, NEG_MSG, &[LISTS_FIRST])
         }
-        "Conn::stored" => stored(rt, alloc, &mut desk, &mut conn, &mut reader),
-        "Conn::catch_up" => catch_up(rt, alloc, &mut desk, &mut conn, &mut reader),
-        _ => None,
+        Call::Stored => stored(rt, alloc, &mut desk, &mut conn, &mut reader),
+        Call::CatchUp => catch_up(rt, alloc, &mut desk, &mut conn, &mut reader),
     }
 }
 
@@ -128,7 +147,7 @@ fn says<J: Naming>(
     }
 }
 
-/// The client is told that the second event is stored.
+/// The client is told that the first event, which it gave again, is stored already.
 fn stored<J: Naming, D: Wait + Drop, R: Wait>(
     rt: &R,
     alloc: Global,
@@ -136,10 +155,18 @@ fn stored<J: Naming, D: Wait + Drop, R: Wait>(
     conn: &mut Conn,
     reader: &mut Reader<J>,
 ) -> Option<Said> {
-    let placed = desk.insert(rt, event(alloc, 1)?).ok()?;
-    match conn.stored(reader, placed.id(), Ok(&placed)) {
-        Ok(message) => Said::ample(are(alloc, &[message], &[OKAY])?),
-        Err(fault) => refused(alloc, conn, reader, fault, 2),
+    let first = event(alloc, 0)?;
+    let id = first.id();
+    let placed = match desk.insert(rt, first) {
+        Ok(placed) => Ok(placed),
+        Err((fault, _first)) => Err(fault),
+    };
+    if placed.is_err() {
+        return None;
+    }
+    match conn.stored(reader, id, placed.as_ref()) {
+        Ok(message) => Said::ample(are(alloc, &[message], &[DUPLICATE])?),
+        Err(fault) => refused(alloc, conn, reader, fault, 1),
     }
 }
 

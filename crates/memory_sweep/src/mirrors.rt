@@ -14,7 +14,8 @@ use claim_board::{Board, Cell, Lane};
 use event_store::{Blank, Naming, Reader};
 use fetch_plan::plan;
 use mirror_core::{
-    End, Fetch, FetchFault, Source, SourceFault, Stop, SyncFault, Synced, fetch_all, sync_plan,
+    End, Fetch, FetchFault, FetchReport, Source, SourceFault, Stop, SyncFault, Synced, fetch_all,
+    sync_plan,
 };
 use neg_codec::Id;
 use neg_session::{Peer, SessionFault, SessionLimits};
@@ -160,28 +161,33 @@ fn fetched<J: Naming + Send + Sync, D: Wait + Drop + Send + Sync, R: Threads + W
     let (board, lanes) = board(alloc, &lower, &upper)?;
     let mut sources = [Giving::new(alloc, lower), Giving::new(alloc, upper)];
     match fetch_all(rt, alloc, board, lanes, &mut sources, &desk) {
-        Ok(report) => {
-            let ([lower, upper], [first, second]) = (
-                report.cells.as_slice(),
-                report.stops.as_slice(),
-            ) else {
-                return Said::wrong();
-            };
-            let both = (
-                worked(alloc, &mut reader, 1, *lower, first),
-                worked(alloc, &mut reader, 0, *upper, second),
-            );
-            match both {
-                (Some(true), Some(true)) => Said::ample(true),
-                (Some(_), Some(_)) => Said::allowed(true),
-                _ => Said::wrong(),
-            }
-        }
+        Ok(report) => reported(alloc, &mut reader, &report),
         Err(FetchFault::Memory) => {
-            let count = has(alloc, &mut reader, 0) == has(alloc, &mut reader, 1);
-            Said::memory(count)
+            Said::memory(has(alloc, &mut reader, 0) == has(alloc, &mut reader, 1))
         }
         Err(FetchFault::Lanes) => Said::wrong(),
+    }
+}
+
+/// What a report comes to, whose cells and stops have to agree with what is published.
+fn reported<J: Naming>(
+    alloc: Global,
+    reader: &mut Reader<J>,
+    report: &FetchReport<J>,
+) -> Option<Said> {
+    let (cells, stops) = (report.cells.as_slice(), report.stops.as_slice());
+    let ([lower, upper], [first, second]) = (cells, stops) else {
+        return Said::wrong();
+    };
+    let first = worked(alloc, reader, 1, *lower, first);
+    let second = worked(alloc, reader, 0, *upper, second);
+    let (Some(first), Some(second)) = (first, second) else {
+        return Said::wrong();
+    };
+    if first && second {
+        Said::ample(true)
+    } else {
+        Said::allowed(true)
     }
 }
 

@@ -28,7 +28,29 @@ pub fn said_of<R: Wait>(rt: &R, alloc: Global, name: &str) -> Option<Said> {
     match name {
         "open_store" => opened::<Brand, _>(rt, alloc, Blank::new()),
         "open_small" => opened_small::<Brand, _>(rt, alloc, Blank::new()),
-        _ => stored::<Brand, _, _>(rt, rt, alloc, Blank::new(), name),
+        _ => {
+            let call = call_of(name)?;
+            stored::<Brand, _, _>(rt, rt, alloc, Blank::new(), call)
+        }
+    }
+}
+
+/// A call on a store of two events.
+#[derive(Clone, Copy)]
+enum Call {
+    Insert,
+    Pin,
+    ChooseAll,
+    ChoosePicked,
+}
+
+fn call_of(name: &str) -> Option<Call> {
+    match name {
+        "Desk::insert" => Some(Call::Insert),
+        "Reader::pin" => Some(Call::Pin),
+        "Snapshot::choose all" => Some(Call::ChooseAll),
+        "Snapshot::choose picked" => Some(Call::ChoosePicked),
+        _ => None,
     }
 }
 
@@ -101,18 +123,17 @@ fn stored<J: Naming, D: Wait + Drop, R: Wait>(
     keep: D,
     alloc: Global,
     blank: Blank,
-    name: &str,
+    call: Call,
 ) -> Option<Said>
     requires book { blank ≡ J.book }
     requires most { J.most ≡ 1000000 }
 {
     let (mut desk, mut reader) = store::<J, D, R>(rt, keep, alloc, blank, 2)?;
-    match name {
-        "Desk::insert" => insert(rt, alloc, &mut desk, &mut reader),
-        "Reader::pin" => pin(alloc, &mut reader),
-        "Snapshot::choose all" => chosen(alloc, &mut reader, "{}"),
-        "Snapshot::choose picked" => chosen(alloc, &mut reader, r##"{"kinds":[1,7]}"##),
-        _ => None,
+    match call {
+        Call::Insert => insert(rt, alloc, &mut desk, &mut reader),
+        Call::Pin => pin(alloc, &mut reader),
+        Call::ChooseAll => chosen(alloc, &mut reader, "{}"),
+        Call::ChoosePicked => chosen(alloc, &mut reader, r##"{"kinds":[1,7]}"##),
     }
 }
 
