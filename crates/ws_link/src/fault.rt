@@ -10,6 +10,7 @@ use std::io::ErrorKind;
 use thiserror::Error;
 use tungstenite::Error as SocketError;
 use websocket::error::ProtocolError;
+use websocket::handshake::HandshakeError;
 
 /// Why a link failed.
 #[derive(Debug, Drop, Error)]
@@ -67,7 +68,9 @@ impl From<SocketError> for LinkFault {
 
     fn from(error: SocketError) -> LinkFault {
         match error {
-            SocketError::OutOfMemory => LinkFault::Memory,
+            SocketError::OutOfMemory | SocketError::Handshake(HandshakeError::OutOfMemory) => {
+                LinkFault::Memory
+            }
             SocketError::Io(error) => {
                 if error.kind() == ErrorKind::OutOfMemory {
                     LinkFault::Memory
