@@ -9,6 +9,7 @@ mod boards;
 mod conns;
 mod events;
 mod jobs;
+mod links;
 mod mirrors;
 mod plans;
 mod rolls;
@@ -42,6 +43,8 @@ fn said_of<R: Threads + Wait + Sync>(rt: &R, alloc: Global, name: &str) -> Optio
         boards::said_of(alloc, name)
     } else if mirrors::NAMES.contains(&name) {
         mirrors::said_of(rt, alloc, name)
+    } else if links::NAMES.contains(&name) {
+        links::said_of(rt, alloc, name)
     } else {
         jobs::said_of(rt, alloc, name)
     }
@@ -71,6 +74,7 @@ fn main(rt: HostRuntime) -> io::Result<ExitCode> {
         conns::NAMES,
         boards::NAMES,
         mirrors::NAMES,
+        links::NAMES,
         jobs::NAMES,
     ];
     let mut is_right = true;
