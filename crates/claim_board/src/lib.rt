@@ -10,6 +10,3 @@ pub use board::{Board, Lane};
 pub use fetch_plan::Cell;
 pub use laws::rule_is_sound;
 pub use records::{BoardFault, Claimed, LaneRecord, Layout, Records, Rule};
-
-#[cfg(test)]
-mod tests;

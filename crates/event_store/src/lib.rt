@@ -25,6 +25,3 @@ pub use open::{StoreFault, open_small, open_store};
 pub use placed::Placed;
 pub use reader::{PinFault, Reader};
 pub use snapshot::Snapshot;
-
-#[cfg(test)]
-mod tests;

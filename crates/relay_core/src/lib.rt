@@ -17,6 +17,3 @@ pub use conn::Conn;
 pub use fault::ConnFault;
 pub use limits::RelayLimits;
 pub use step::Step;
-
-#[cfg(test)]
-mod tests;

@@ -12,6 +12,3 @@ pub use fault::LinkFault;
 pub use peer::WsPeer;
 pub use serve::serve_conn;
 pub use source::WsSource;
-
-#[cfg(test)]
-mod tests;

@@ -1,5 +1,0 @@
-use Rattle.event_store.proofs.tests.filters_pick_and_choose.Given as goal
-
--- the store that is just opened
-abbrev pub ghosts-picks : goal.ghosts-picks
-ghosts-picks g a = record { book = a.blank; most = 1000000 }

@@ -1,5 +1,0 @@
-use Rattle.mirror_core.proofs.fetch_tests.two_sources_meet.Given as goal
-
--- the store that is just opened
-abbrev pub ghosts-meet : goal.ghosts-meet
-ghosts-meet g a = record { book = a.blank; most = 1000000 }

@@ -1,0 +1,5 @@
+use Rattle.mirror_tests.proofs.links.clients.Given as goal
+
+-- the store that is just opened
+abbrev pub ghosts-served : goal.ghosts-served
+ghosts-served g a = record { book = a.blank; most = 1000000 }

@@ -1,0 +1,18 @@
+//! Tests of the store, of connections over it, and of what mirrors relays: values from outside, threads beside one another, and each
+//! public call once with ample memory.
+#![tactic(auto)]
+
+#[cfg(test)]
+mod boards;
+#[cfg(test)]
+mod conns;
+#[cfg(test)]
+mod fetches;
+#[cfg(test)]
+mod links;
+#[cfg(test)]
+mod nexts;
+#[cfg(test)]
+mod rounds;
+#[cfg(test)]
+mod stores;

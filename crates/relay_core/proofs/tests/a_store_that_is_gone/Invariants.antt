@@ -1,5 +1,0 @@
-use Rattle.relay_core.proofs.tests.a_store_that_is_gone.Given as goal
-
--- the store that is just opened
-abbrev pub ghosts-ends : goal.ghosts-ends
-ghosts-ends g a = record { book = a.blank; most = 1000000 }

@@ -1,5 +1,0 @@
-use Rattle.relay_core.proofs.tests.bad_messages.Given as goal
-
--- the store that is just opened
-abbrev pub ghosts-fronts : goal.ghosts-fronts
-ghosts-fronts g a = record { book = a.blank; most = 1000000 }
