@@ -1,5 +1,5 @@
 -- The ids of the events that a filter may match.
-use Rattle.std.proofs.Common.{◌≡◌, ℕ, inl, inr, ◌+◌, ◌*◌, ◌^◌, ◌<◌, ◌≤◌, ◌&&◌, ◌||◌, cond, Bool, true, false, true≢false, List, [], ◌∷◌, length, get_or, map, refl, ap, sym, subst, arith, ◌∙◌, Option, None, Some}
+use Rattle.std.proofs.Common.{◌≡◌, ℕ, inl, inr, ◌+◌, ◌*◌, ◌^◌, ◌<◌, ◌≤◌, ◌&&◌, ◌||◌, cond, Bool, true, false, true≢false, List, [], ◌∷◌, get_or, map, refl, ap, sym, subst, arith, ◌∙◌, Option, None, Some}
 use Rattle.std.specs.Prelude.{filter, bytes_eq, Contains, IsPermutation, nat_le, Result, Ok, Err, IfOk, IfSome}
 use Rattle.std.specs.List.{list_any}
 use Rattle.std.proofs.lemmas.Bool.{cases_lt, lt-ltb, le-leb}

@@ -11,6 +11,8 @@ use Rattle.std.specs.contracts.sync.Mutex as Mutex
 use Rattle.item_roll.proofs.roll.Roll.TheSendSync as roll
 use Rattle.item_roll.specs.contracts.roll.Roll as Roll
 use Rattle.id_map.proofs.Crossing.{map_send, map_sync}
+use Rattle.event_index.proofs.Crossing.{index_send, index_sync}
+use Rattle.event_index.specs.contracts.index.Index as Index
 use Rattle.newest.proofs.Crossing.{order_send, order_sync}
 use Rattle.event_store.specs.contracts.state.State as State
 use Rattle.event_store.specs.contracts.state.State.TheInside as InState
@@ -19,7 +21,6 @@ use Rattle.event_store.specs.contracts.shown.Shown.TheInside as InShown
 use Rattle.event_store.proofs.list.EventList.TheSendSync as list
 use Rattle.event_store.proofs.mark.Mark.TheSendSync as mark
 use Rattle.event_store.proofs.blank.Front.TheSendSync as front
-use Rattle.event_store.proofs.placed.Placed.TheSendSync as placed
 use Rattle.event_store.proofs.blank.Head.TheSendSync as head
 use Rattle.event_store.specs.declared.name.Naming.{Ghosts}
 use Rattle.event_store.specs.contracts.reader.Reader as Reader
@@ -41,11 +42,17 @@ roll_send = search (sendable, crosses, roll.the_send, roll.the_sync)
 roll_sync : IsSync (Arc.the_row Roll.the_row Global.the_row heap.ghosts)
 roll_sync = search (sendable, crosses, roll.the_send, roll.the_sync)
 
+shared_index_send : IsSend (Arc.the_row Index.the_row Global.the_row heap.ghosts)
+shared_index_send = search (sendable, crosses, index_send, index_sync)
+
+shared_index_sync : IsSync (Arc.the_row Index.the_row Global.the_row heap.ghosts)
+shared_index_sync = search (sendable, crosses, index_send, index_sync)
+
 state_send : IsSend State.the_row
-state_send = view_send InState.the_row _ _ _ _ (declared_send InState.the_type (list.the_send, (map_send, (roll_send, (order_send, tt)))))
+state_send = view_send InState.the_row _ _ _ _ (declared_send InState.the_type (list.the_send, (map_send, (roll_send, (order_send, (shared_index_send, tt))))))
 
 state_sync : IsSync State.the_row
-state_sync = view_sync InState.the_row _ _ _ _ (declared_sync InState.the_type (list.the_sync, (map_sync, (roll_sync, (order_sync, tt)))))
+state_sync = view_sync InState.the_row _ _ _ _ (declared_sync InState.the_type (list.the_sync, (map_sync, (roll_sync, (order_sync, (shared_index_sync, tt))))))
 
 shared_send : IsSend (Arc.the_row State.the_row Global.the_row heap.ghosts)
 shared_send = search (sendable, crosses, state_send, state_sync)

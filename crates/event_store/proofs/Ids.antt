@@ -1,16 +1,14 @@
 -- Ids in lists of events, and the places where they stand.
-use Rattle.std.proofs.Common.{◌≡◌, ◌≢◌, ℕ, zero, suc, ◌+◌, ◌<◌, ◌==◌, Bool, true, false, true≢false, cond, ◌||◌, List, [], ◌∷◌, ◌++◌, length, get_or, map, refl, ap, sym, subst, arith, ◌∙◌, Option, None, Some}
+use Rattle.std.proofs.Common.{◌≡◌, ◌≢◌, ℕ, zero, suc, ◌+◌, ◌<◌, Bool, true, false, true≢false, ◌||◌, List, [], ◌∷◌, ◌++◌, length, get_or, refl, ap, sym, subst, arith, ◌∙◌, Option, None, Some}
 use Rattle.std.specs.Result.{result_ok}
-use Rattle.std.specs.Prelude.{IfSome, IfOk, Result, Ok, Err, is_some, filter_map, bytes_eq, if◌then◌else◌}
-use Rattle.std.specs.List.{list_any, AllByRecursion}
-use Rattle.std.proofs.lemmas.Bool.Decides.{nat_tests}
+use Rattle.std.specs.Prelude.{IfSome, IfOk, Result, Ok, Err, is_some, bytes_eq, if◌then◌else◌}
 use Rattle.std.proofs.lemmas.List.Folds.{list_any_at, list_any-append}
 use Rattle.std.proofs.lemmas.List.Quantifiers.{all_pairs_push}
 use Rattle.std.proofs.lemmas.Slice.Eq.{bytes_eq-Decides}
 use mathlib.Core.List.{IsPrefix}
 use Rattle.neg_codec.specs.declared.Id.{Id}
 use Rattle.nostr_event.specs.EventView.{EventView}
-use Rattle.event_store.specs.Events.{has_id, place_from, place_in, places_in, Distinct, Pinned}
+use Rattle.event_store.specs.Events.{has_id, place_from, Distinct, Pinned}
 use Rattle.event_store.proofs.Prefixes.{prefix_trans}
 
 same_bytes : (xs : List ℕ) → bytes_eq xs xs ≡ true

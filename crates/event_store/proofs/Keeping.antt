@@ -1,12 +1,11 @@
 -- The steps of the store keep its rule.
-use Rattle.std.proofs.Common.{◌≡◌, ◌≢◌, ◌⊎◌, ℕ, Result, Ok, Err, MatchResult, List, [], ◌∷◌, ◌++◌, fold, set, refl, sym, ap, subst, ◌∙◌, ⊎_elim}
+use Rattle.std.proofs.Common.{◌≡◌, ◌≢◌, ℕ, Result, Ok, Err, MatchResult, List, [], ◌∷◌, ◌++◌, fold, refl, sym, ap, subst, ◌∙◌, ⊎_elim}
 use mathlib.Core.List.{IsPrefix}
 use mathlib.Core.Option.{some}
 use lib.ListN.{get_elem?}
 use Rattle.left_right.specs.Register.{Admits, TurnsAt}
 use Rattle.atomic_table.proofs.Lists.{at_set, at_snoc}
 use Rattle.logbook.specs.Pages.{Book}
-use Rattle.nostr_event.specs.EventView.{EventView}
 use Rattle.event_store.specs.declared.rule.View.{View}
 use Rattle.event_store.specs.Marks.{Marked}
 use Rattle.event_store.specs.Rules.{newcomer, Keeps, Seen}

@@ -3,6 +3,7 @@ pub mod Keeping
 pub mod Adding
 pub mod Chunked
 pub mod Ids
+pub mod Indexed
 pub mod Picked
 pub mod Asked
 pub mod Stands

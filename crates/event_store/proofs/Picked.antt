@@ -1,5 +1,5 @@
 -- The events that a filter matches, by the places where they stand.
-use Rattle.std.proofs.Common.{◌≡◌, ℕ, zero, suc, inl, inr, ◌+◌, ◌<◌, ◌≤◌, ◌==◌, ◌&&◌, ◌||◌, Bool, true, false, true≢false, cond, List, [], ◌∷◌, ◌++◌, length, get_or, map, take, slice_get, refl, ap, sym, subst, arith, ◌∙◌, Option, None, Some, length-append}
+use Rattle.std.proofs.Common.{◌≡◌, ℕ, zero, suc, inl, inr, ◌+◌, ◌<◌, ◌≤◌, ◌==◌, ◌||◌, Bool, true, false, true≢false, cond, List, [], ◌∷◌, ◌++◌, length, get_or, map, take, slice_get, refl, ap, sym, subst, arith, ◌∙◌, Option, None, Some, length-append}
 use Rattle.std.specs.Prelude.{filter, filter_map, option_to_list, bytes_eq}
 use Rattle.std.specs.List.{list_any, AllByRecursion}
 use Rattle.std.specs.List.{cons_option}
@@ -10,7 +10,7 @@ use Rattle.std.specs.FinSet.{nat_cmp-IsAntisymmetric}
 use Rattle.std.proofs.lemmas.Bool.{cases_lt}
 use Rattle.std.proofs.lemmas.Bool.Decides.{nat_tests}
 use Rattle.std.proofs.lemmas.Cmp.{ranked, nat_cmp_total}
-use Rattle.std.proofs.lemmas.List.{map-append, take_all}
+use Rattle.std.proofs.lemmas.List.{map-append}
 use Rattle.std.proofs.lemmas.List.Elements.{filter-append, filter_map-append}
 use Rattle.std.proofs.lemmas.Option.{slice_get-get_or, slice_get_within, get_or_from_slice_get}
 use Rattle.std.proofs.Math.Seq.{take-suc}
@@ -104,7 +104,7 @@ rise_placed low high x [] le lt h = (le, lt, tt)
 rise_placed low high x (y ∷ places) le lt h =
     rise_at (nat_cmp x y) low high x y places (ranked x y _ refl) le lt h (λ below. rise_placed (y + 1) high x places (omega (arith, below)) lt h.2)
 
-rise_in_order : (high : ℕ) (places : List ℕ) → AllByRecursion (λ p. p < high) places → Rise 0 high (in_order nat_cmp places)
+pub rise_in_order : (high : ℕ) (places : List ℕ) → AllByRecursion (λ p. p < high) places → Rise 0 high (in_order nat_cmp places)
 rise_in_order high [] h = tt
 rise_in_order high (p ∷ places) h = rise_placed 0 high p (in_order nat_cmp places) (omega arith) h.0 (rise_in_order high places h.1)
 

@@ -1,5 +1,5 @@
 -- What finds the events of a store, with one more of them.
-use Rattle.std.proofs.Common.{◌≡◌, ℕ, ◌+◌, ◌<◌, ◌≤◌, ◌&&◌, inl, inr, ltb, leb, true, false, List, [], ◌∷◌, ◌++◌, length, map, None, Some, Option, refl, ap, sym, subst, arith, append_assoc, length-append, ◌∙◌}
+use Rattle.std.proofs.Common.{◌≡◌, ℕ, ◌+◌, ◌≤◌, inl, inr, ltb, leb, true, false, List, [], ◌∷◌, ◌++◌, length, map, None, Some, Option, ap, sym, subst, arith, append_assoc, length-append, ◌∙◌}
 use Rattle.std.specs.Prelude.{All, IsPermutation, filter, bytes_eq, if◌then◌else◌}
 use Rattle.std.proofs.lemmas.Bool.{cases_lt, lt-ltb, le-ltb, le-leb, lt-leb}
 use Rattle.std.proofs.lemmas.List.{map-append}
@@ -14,9 +14,11 @@ use Rattle.item_roll.specs.Parts.{IsRoll, is_between, part}
 use Rattle.id_map.specs.declared.map.IdMap.{IdMap}
 use Rattle.id_map.specs.Places.{place_of, SetsPlace}
 use Rattle.newest.specs.Newest.{AreOf}
-use Rattle.event_store.specs.Events.{has_id, place_in, Distinct}
-use Rattle.event_store.specs.States.{IsState}
+use Rattle.event_store.specs.Events.{has_id}
+use Rattle.event_index.specs.Postings.{Covered, Covers}
+use Rattle.event_store.specs.States.{IsState, IsIndexed}
 use Rattle.event_store.proofs.Ids.{distinct_push, place_push}
+use Rattle.event_store.proofs.Indexed.{indexed_whole}
 
 least_below : (k : Item) → place least ≤ place k
 unfolding place
@@ -60,26 +62,28 @@ items_push events e roll k is keys moved =
     (IsPermutation-trans (all ++ k ∷ []) (k ∷ all) (front ++ k ∷ back) (IsPermutation-to_front all k)
     (IsPermutation-trans (k ∷ all) (k ∷ (front ++ back)) (front ++ k ∷ back) first (moved_past front back k)))
 
-pub nothing_stands : (events : List EventView) (ids : IdMap) (roll : List Item) (newest : List (ℕ × EventView)) → events ≡ [] → ((id : Id) → place_of ids id ≡ None) → IsPermutation [] roll → newest ≡ []
-    → IsState events ids roll newest
-nothing_stands events ids roll newest is none moved empty = subst (λ (xs : List EventView). IsState xs ids roll newest) (sym is) (record {
+pub nothing_stands : (events : List EventView) (ids : IdMap) (roll : List Item) (newest : List (ℕ × EventView)) (index : Covered) → events ≡ [] → ((id : Id) → place_of ids id ≡ None) → IsPermutation [] roll → newest ≡ []
+    → Covers [] index → IsState events ids roll newest index
+nothing_stands events ids roll newest index is none moved empty covers = subst (λ (xs : List EventView). IsState xs ids roll newest index) (sym is) (record {
   distinct = λ i j d lt within. absurd (omega arith);
   finds = none;
   items = moved;
   ordered = subst (λ (xs : List (ℕ × EventView)). AreOf [] xs) (sym empty) (IsPermutation-refl []);
   counted = ap length empty;
+  indexed = indexed_whole [] index covers;
 })
 
 -- a new event behind all others
-pub more_stands : (events more : List EventView) (ids new : IdMap) (roll longer : List Item) (newest newer : List (ℕ × EventView)) (e : EventView) (k : Item) → IsState events ids roll newest → has_id e.id events ≡ false
+pub more_stands : (events more : List EventView) (ids new : IdMap) (roll longer : List Item) (newest newer : List (ℕ × EventView)) (index wider : Covered) (e : EventView) (k : Item) → IsState events ids roll newest index → has_id e.id events ≡ false
     → more ≡ events ++ e ∷ [] → SetsPlace e.id (length events) ids new → IsRoll roll → k ≡ item_of e → longer ≡ part roll least k ++ k ∷ part roll k infinity
-    → AreOf (events ++ e ∷ []) newer → length newer ≡ length newest + 1 → IsState more new longer newer
-more_stands events more ids new roll longer newest newer e k h none is sets ordered item put among counted =
-    subst (λ (xs : List EventView). IsState xs new longer newer) (sym is) (record {
+    → AreOf (events ++ e ∷ []) newer → length newer ≡ length newest + 1 → IsIndexed more wider → IsState more new longer newer wider
+more_stands events more ids new roll longer newest newer index wider e k h none is sets ordered item put among counted indexed =
+    subst (λ (xs : List EventView). IsState xs new longer newer wider) (sym is) (record {
       distinct = distinct_push events e h.distinct none;
       finds = λ id. sets id ∙ ap (λ (o : Option ℕ). if bytes_eq e.id.0 id.0 then Some (length events) else o) (h.finds id)
           ∙ sym (place_push 0 (length events) id e events (omega arith) none);
       items = subst (λ (xs : List Item). IsPermutation (map item_of (events ++ e ∷ [])) xs) (sym put) (items_push events e roll k item ordered.keys h.items);
       ordered = among;
       counted = omega (arith, counted, h.counted, length-append events (e ∷ []));
+      indexed = subst (λ (xs : List EventView). IsIndexed xs wider) is indexed;
     })

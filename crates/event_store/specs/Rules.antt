@@ -4,7 +4,6 @@ use mathlib.Core.List.{IsPrefix}
 use mathlib.Core.Option.{some}
 use lib.ListN.{get_elem?}
 use Rattle.logbook.specs.Pages.{Book}
-use Rattle.nostr_event.specs.EventView.{EventView}
 use Rattle.event_store.specs.declared.rule.View.{View}
 use Rattle.event_store.specs.Marks.{Marked}
 

@@ -1,17 +1,25 @@
 -- The events of a store, with what finds them.
-use Rattle.std.specs.Prelude.{◌≡◌, ℕ, List, length, map, IsPermutation}
+use Rattle.std.specs.Prelude.{◌≡◌, ℕ, ◌≤◌, List, length, map, take, IsPermutation}
 use Rattle.neg_codec.specs.declared.Id.{Id}
 use Rattle.neg_codec.specs.declared.Item.{Item}
 use Rattle.nostr_event.specs.EventView.{EventView, item_of}
 use Rattle.id_map.specs.declared.map.IdMap.{IdMap}
 use Rattle.id_map.specs.Places.{place_of}
 use Rattle.newest.specs.Newest.{AreOf}
+use Rattle.event_index.specs.Postings.{Covered, Covers}
 use Rattle.event_store.specs.Events.{Distinct, place_in}
 
--- the map finds each event at its place, the roll has the events' items, and the order has each event with its place
-pub record IsState (events : List EventView) (ids : IdMap) (roll : List Item) (newest : List (ℕ × EventView)) : Type 0 where
+-- the index is of the first of the events
+pub record IsIndexed (events : List EventView) (index : Covered) : Type 0 where
+  pub within : index.count ≤ length events
+  pub covers : Covers (take index.count events) index
+
+-- the map finds each event at its place, the roll has the events' items, the order has each event with its place, and the index is of
+-- the first of them
+pub record IsState (events : List EventView) (ids : IdMap) (roll : List Item) (newest : List (ℕ × EventView)) (index : Covered) : Type 0 where
   pub distinct : Distinct events
   pub finds : (id : Id) → place_of ids id ≡ place_in events id
   pub items : IsPermutation (map item_of events) roll
   pub ordered : AreOf events newest
   pub counted : length newest ≡ length events
+  pub indexed : IsIndexed events index

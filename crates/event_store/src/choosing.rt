@@ -7,6 +7,7 @@ ghost use Rattle.nostr_event.specs.EventView.{EventView};
 ghost use Rattle.nostr_filter.specs.Choice.{newest_first, in_order, cut_of, picked, chosen};
 ghost use Rattle.event_store.specs.Picking.{HaveMatching, ranks_from};
 
+use crate::indexing::places_marked;
 use crate::list::EventList;
 use crate::picking::{listed, places_of};
 use crate::state::State;
@@ -15,8 +16,9 @@ use nostr_filter::{Bytes32List, Filter, Rank, cut, put_in_order, rank_at};
 use std::alloc::{AllocError, Global};
 use std::sync::Arc;
 
-/// The places of the events that the filters choose, in the order in which they are sent. A filter with ids looks these up. Each
-/// other one walks from the newest on, and ends once it has as many as it may.
+/// The places of the events that the filters choose, in the order in which they are sent. A filter with ids looks these up, and one
+/// of which a condition names what few events have, these. Each other one walks from the newest on, and ends once it has as many as
+/// it may.
 pub fn choose_of(alloc: Global, state: &State, filters: &[Filter]) -> Result<Vec<usize>, AllocError>
     ensures { (events : List (AnArc EventView AGlobal)) → map arc_value events ≡ state.now → IfOk result (λ v. v.items ≡ chosen filters.now events) }
 {
@@ -34,6 +36,22 @@ fn pick_ranks(alloc: Global, state: &State, filter: &Filter) -> Result<Vec<Rank>
 {
     match &filter.ids {
         Some(ids) => pick_by_ids(alloc, state, filter, ids),
+        None => pick_by_marks(alloc, state, filter),
+    }
+}
+
+// As many events as are worth being looked up one by one, where the newest few of so many are chosen. A walk from the newest on passes
+// as many as all for each that has what is asked for, and one that is looked up takes twice the time of one that is passed.
+fn worth_reading(events: usize, few: usize) -> usize {
+    events.saturating_mul(few).isqrt() / 2
+}
+
+fn pick_by_marks(alloc: Global, state: &State, filter: &Filter) -> Result<Vec<Rank>, AllocError>
+    ensures { (events : List (AnArc EventView AGlobal)) → map arc_value events ≡ state.now → IfOk result (λ v. v.items ≡ picked events filter.now) }
+{
+    let most = worth_reading(state.events().len(), cut(filter));
+    match places_marked(alloc, state, filter, most)? {
+        Some(places) => pick_at(alloc, state.events(), filter, places.as_slice()),
         None => state.newest().pick(alloc, filter),
     }
 }
@@ -49,7 +67,20 @@ fn pick_by_ids(
 {
     let ids = listed(alloc, ids)?;
     let places = places_of(alloc, state, ids.as_slice())?;
-    let mut ranks = ranks_at(alloc, state.events(), filter, places.as_slice())?;
+    pick_at(alloc, state.events(), filter, places.as_slice())
+}
+
+// The same from the places, where these have all that the filter matches.
+fn pick_at(
+    alloc: Global,
+    list: &EventList,
+    filter: &Filter,
+    places: &[usize],
+) -> Result<Vec<Rank>, AllocError>
+    requires { HaveMatching filter.now list.now places.now }
+    ensures { (events : List (AnArc EventView AGlobal)) → map arc_value events ≡ list.now → IfOk result (λ v. v.items ≡ picked events filter.now) }
+{
+    let mut ranks = ranks_at(alloc, list, filter, places)?;
     keep_first(&mut ranks, filter);
     Ok(ranks)
 }

@@ -4,6 +4,7 @@
 mod blank;
 mod choosing;
 mod desk;
+mod indexing;
 mod list;
 mod mark;
 mod name;

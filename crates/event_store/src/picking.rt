@@ -11,6 +11,7 @@ ghost use Rattle.nostr_filter.specs.Choice.{in_order};
 ghost use Rattle.event_store.specs.Events.{matching, places_in};
 ghost use Rattle.event_store.specs.Picking.{AreAsked, AreWithin, HaveMatching};
 
+use crate::indexing::places_marked;
 use crate::list::EventList;
 use crate::state::State;
 use item_roll::Roll;
@@ -20,7 +21,8 @@ use nostr_filter::{Bytes32List, Filter};
 use std::alloc::{AllocError, Global};
 use std::sync::Arc;
 
-// Where fewer events than one in so many stand between two times, their ids are looked up. Else all events are read.
+// Where fewer events than one in so many stand between two times, or have what a condition asks for, they are looked up. Else all
+// events are read.
 const FEW: usize = 8;
 
 /// Whether a filter has no condition.
@@ -44,7 +46,18 @@ pub fn pick(alloc: Global, state: &State, filter: &Filter) -> Result<EventList, 
             let places = places_of(alloc, state, ids.as_slice())?;
             pick_at(alloc, state.events(), filter, places.as_slice())
         }
-        None => pick_all(alloc, state.events(), filter),
+        None => pick_marked(alloc, state, filter),
+    }
+}
+
+// The same by what the filter asks for, where few events have it.
+fn pick_marked(alloc: Global, state: &State, filter: &Filter) -> Result<EventList, AllocError>
+    ensures { IfOk result (λ l. l ≡ matching filter.now state.now) }
+{
+    let events = state.events();
+    match places_marked(alloc, state, filter, events.len() / FEW)? {
+        Some(places) => pick_at(alloc, events, filter, places.as_slice()),
+        None => pick_all(alloc, events, filter),
     }
 }
 
@@ -131,8 +144,8 @@ fn put_place(places: &mut Vec<usize>, place: Option<usize>) -> Result<(), AllocE
     Ok(())
 }
 
-// Puts the places in order, each once.
-fn put_in_order(places: &mut Vec<usize>)
+/// Puts the places in order, each once.
+pub fn put_in_order(places: &mut Vec<usize>)
     ensures { places.new.items ≡ in_order nat_cmp places.old.items }
 {
     places.sort_unstable();

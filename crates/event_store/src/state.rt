@@ -4,9 +4,11 @@ ghost use Rattle.nostr_event.specs.EventView.{item_of};
 ghost use Rattle.std.specs.Arc.{arc_value};
 ghost use Rattle.event_store.specs.Events.{has_id, place_in, Distinct};
 ghost use Rattle.newest.specs.Newest.{AreOf};
-ghost use Rattle.event_store.specs.States.{IsState};
+ghost use Rattle.event_store.specs.States.{IsState, IsIndexed};
 
+use crate::indexing::index_over;
 use crate::list::EventList;
+use event_index::Index;
 use id_map::IdMap;
 use item_roll::Roll;
 use neg_codec::Id;
@@ -23,6 +25,7 @@ pub struct State {
     ids: IdMap,
     roll: Arc<Roll>,
     newest: Newest,
+    index: Arc<Index>,
 }
 
 impl Model for State {
@@ -35,7 +38,7 @@ impl Model for State {
 
     ghost view = { λ s. s.events };
 
-    ghost invariant = { λ s. IsState s.events s.ids (arc_value s.roll) s.newest };
+    ghost invariant = { λ s. IsState s.events s.ids (arc_value s.roll) s.newest (arc_value s.index) };
 }
 
 impl State {
@@ -50,6 +53,7 @@ impl State {
             ids: IdMap::new(alloc)?,
             roll: Arc::new(alloc, roll)?,
             newest: Newest::new(alloc)?,
+            index: Arc::new(alloc, Index::new(alloc))?,
         })
     }
 
@@ -72,6 +76,13 @@ impl State {
         ensures { AreOf self.now result.now }
     {
         &self.newest
+    }
+
+    /// Where the first of the events stand, by what filters ask for.
+    pub fn index(&self) -> &Index
+        ensures { IsIndexed self.now result.now }
+    {
+        &self.index
     }
 
     /// The place of the event with this id.
@@ -104,11 +115,13 @@ impl State {
         let Ok(()) = roll.insert(event.item()) else {
             return Err(AllocError);
         };
+        let index = index_over(alloc, &self.index, &events)?;
         Ok(State {
             events,
             ids,
             roll: Arc::new(alloc, roll)?,
             newest,
+            index,
         })
     }
 }

@@ -1,7 +1,6 @@
-use Rattle.std.proofs.Common.{arith, sym, map, ap, ◌∙◌, subst, ◌<◌, ◌/◌, length, List}
+use Rattle.std.proofs.Common.{arith, sym, map, ap, ◌∙◌, ◌<◌, ◌/◌, length}
 use Rattle.std.specs.Arc.{arc_value}
 use Rattle.std.proofs.lemmas.List.{length-map, get_or-map}
-use Rattle.nostr_event.specs.EventView.{EventView}
 use Rattle.event_store.proofs.Chunked.{joined_length, found_full, full_at}
 use Rattle.event_store.proofs.list.event_at.Goals as goal
 

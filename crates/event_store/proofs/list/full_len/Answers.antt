@@ -1,4 +1,4 @@
-use Rattle.std.proofs.Common.{arith, sym, map}
+use Rattle.std.proofs.Common.{arith, map}
 use Rattle.std.specs.Arc.{arc_value}
 use Rattle.std.proofs.lemmas.List.{length-map}
 use Rattle.event_store.proofs.Chunked.{joined_length}

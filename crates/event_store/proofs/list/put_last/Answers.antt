@@ -1,4 +1,4 @@
-use Rattle.std.proofs.Common.{◌≡◌, ap, ◌∙◌}
+use Rattle.std.proofs.Common.{ap, ◌∙◌}
 use Rattle.std.specs.Prelude.{OnErr, Ok, Err, Result}
 use Rattle.std.specs.Arc.{arc_with_value}
 use Rattle.event_store.proofs.list.put_last.Goals as goal

@@ -1,4 +1,4 @@
-use Rattle.std.proofs.Common.{subst, Option}
+use Rattle.std.proofs.Common.{subst}
 use Rattle.std.specs.Prelude.{IfSome}
 use Rattle.event_store.specs.Picking.{AreAsked}
 use Rattle.event_store.proofs.Picked.{have_at}

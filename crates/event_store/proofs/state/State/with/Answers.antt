@@ -9,6 +9,8 @@ use Rattle.item_roll.specs.Parts.{IsRoll, part}
 use Rattle.id_map.specs.Places.{SetsPlace}
 use Rattle.newest.specs.Newest.{AreOf}
 use Rattle.event_store.specs.Events.{has_id}
+use Rattle.event_store.specs.States.{IsIndexed}
+use Rattle.event_store.proofs.Indexed.{indexed_more}
 use Rattle.event_store.proofs.Stands.{more_stands}
 use Rattle.event_store.proofs.state.State.with.Goals as goal
 
@@ -26,4 +28,8 @@ invariant_of-result-2 c =
     let among = subst (λ (v : EventView). AreOf (old.events ++ v ∷ []) c.in_ok-newest.newest) c.in_ok-try_clone.ensures
     (subst (λ r. IfOk r (λ n. AreOf (old.events ++ arc_value c.in_ok-try_clone.field-0 ∷ []) n)) c.in_ok-newest.was (c.insert-2.ensures.events old.events c.self.invariant.ordered)) in
     let counted = subst (λ r. IfOk r (λ n. length n ≡ length old.newest + 1)) c.in_ok-newest.was c.insert-2.ensures.len in
-    more_stands old.events _ old.ids c.in_ok-ids.ids (arc_value old.roll) _ old.newest c.in_ok-newest.newest e k c.self.invariant none is sets ordered (c.item.ensures.value ∙ ap item_of c.deref-4.ensures) put among counted
+    more_stands old.events _ old.ids c.in_ok-ids.ids (arc_value old.roll) _ old.newest c.in_ok-newest.newest (arc_value old.index) _ e k c.self.invariant none is sets ordered (c.item.ensures.value ∙ ap item_of c.deref-4.ensures) put among counted
+    (subst (λ (xs : List EventView). IsIndexed xs (arc_value c.in_ok-index.index)) (sym c.events.view_is) c.in_ok-index.ensures)
+
+pub index_over-requires-clause-indexed : goal.index_over-requires-clause-indexed
+index_over-requires-clause-indexed c = indexed_more c.self.inside.events c.push.new.self (arc_value c.args.event.now) (arc_value c.self.inside.index) (c.in_ok-push.ensures.ok ∙ ap (λ xs. xs ++ arc_value c.args.event.now ∷ []) c.in_ok-events.ensures) c.self.invariant.indexed

@@ -1,0 +1,157 @@
+//! The index: runs of postings, of which some are merged whenever there are many of one size.
+ghost use Rattle.std.specs.Prelude.{◌≡◌, ◌≤◌, ◌<◌, ◌+◌, ◌^◌, ◌++◌, [], ℕ, List, length, map, All, IfOk, IfSome, OnOk};
+ghost use Rattle.std.specs.Arc.{arc_value};
+ghost use Rattle.nostr_event.specs.EventView.{EventView};
+ghost use Rattle.nostr_filter.specs.declared.filter.Filter.{Filter};
+ghost use Rattle.event_index.specs.Marks.{AreMarksOf};
+ghost use Rattle.event_index.specs.Postings.{Covers, HoldMatching, ReadsPlaces, joined};
+
+use crate::conditions::{Marks, conditions};
+use crate::postings::postings_of;
+use crate::run::{Run, with_run};
+use nostr_event::Event;
+use nostr_filter::Filter;
+use std::alloc::{AllocError, Global};
+use std::marker::Model;
+use std::sync::Arc;
+
+/// Events are put in this many at a time.
+pub const BATCH: usize = 512;
+
+// So many runs of one size become one.
+const FAN: usize = 16;
+
+/// Where the first events of a list stand, by what filters ask for. It is never changed.
+#[derive(Drop)]
+pub struct Index {
+    runs: Vec<Arc<Run>>,
+    count: usize,
+}
+
+impl Model for Index {
+    ghost use Rattle.std.specs.Prelude.{◌≤◌, map};
+    ghost use Rattle.std.specs.Arc.{arc_value};
+    ghost use Rattle.event_index.specs.Postings.{Covered};
+
+    ghost Value = { Covered };
+
+    ghost view = { λ x. record { runs = map arc_value x.runs.items; count = x.count } };
+
+    ghost invariant = { λ x. x.count ≤ 1048576 };
+}
+
+// How many of the runs become one with the next.
+fn merged(batches: usize) -> usize {
+    if batches % (FAN * FAN) == 0 {
+        2 * (FAN - 1)
+    } else if batches % FAN == 0 {
+        FAN - 1
+    } else {
+        0
+    }
+}
+
+// Puts the places of the mark's postings behind the others.
+fn put_places(
+    runs: &[Arc<Run>],
+    mark: u64,
+    limit: usize,
+    places: &mut Vec<usize>,
+) -> Result<(), AllocError>
+    requires { limit ≤ 1048576 }
+    ensures { OnOk result (ReadsPlaces limit mark (joined (map arc_value runs.now)) places.old.items places.new.items) }
+{
+    for run in runs {
+        run.put_places(mark, limit, places)?;
+    }
+    Ok(())
+}
+
+impl Index {
+    /// Of no event.
+    pub fn new(alloc: Global) -> Index
+        ensures { Covers [] result }
+    {
+        Index {
+            runs: Vec::new(alloc),
+            count: 0,
+        }
+    }
+
+    /// How many events are covered, the first of the list.
+    pub fn count(&self) -> usize
+        ensures { result ≡ self.now.count }
+    {
+        self.count
+    }
+
+    /// The index of more events, those that stand behind the covered ones. With `BATCH` at a time there are at most 45 runs, and
+    /// each posting is sorted three times.
+    pub fn grown(&self, alloc: Global, events: &[Arc<Event>]) -> Result<Index, AllocError>
+        requires { self.now.count + length events.now ≤ 2 ^ 20 }
+        ensures { (covered : List EventView) → Covers covered self.now → IfOk result (λ x. Covers (covered ++ map arc_value events.now) x) }
+    {
+        let postings = postings_of(alloc, events, self.count)?;
+        let batches = self.count / BATCH + 1;
+        let kept = self.runs.len().saturating_sub(merged(batches));
+        Ok(Index {
+            runs: with_run(alloc, self.runs.as_slice(), kept, postings)?,
+            count: self.count + events.len(),
+        })
+    }
+
+    // How many postings of the marks there are.
+    fn postings(&self, marks: &[u64]) -> usize {
+        let mut all = 0usize;
+        for mark in marks {
+            for run in self.runs.as_slice() {
+                all = all.saturating_add(run.count(*mark));
+            }
+        }
+        all
+    }
+
+    // The condition with the fewest postings, if these are no more than so many.
+    fn rarest(&self, conditions: &[Marks], most: usize) -> Option<usize>
+        ensures { IfSome result (λ at. at < length conditions.now) }
+    {
+        let mut rarest = None;
+        let mut fewest = most;
+        for at in 0..conditions.len() {
+            let postings = self.postings(conditions[at].marks.as_slice());
+            if postings <= fewest {
+                rarest = Some(at);
+                fewest = postings;
+            }
+        }
+        rarest
+    }
+
+    // The places of the events that have one of the marks.
+    fn places(&self, alloc: Global, marks: &[u64]) -> Result<Vec<usize>, AllocError>
+        ensures { (f : Filter) (events : List EventView) → AreMarksOf f marks.now → Covers events self.now → IfOk result (λ v. HoldMatching f events v.items) }
+    {
+        let mut places = Vec::new(alloc);
+        for mark in marks {
+            put_places(self.runs.as_slice(), *mark, self.count, &mut places)?;
+        }
+        Ok(places)
+    }
+
+    /// Places of covered events, among them of all that the filter matches, where its rarest condition tells of no more than so
+    /// many. They come in no order, and some twice.
+    pub fn find(
+        &self,
+        alloc: Global,
+        filter: &Filter,
+        most: usize,
+    ) -> Result<Option<Vec<usize>>, AllocError>
+        ensures { (events : List EventView) → Covers events self.now → IfOk result (λ o. IfSome o (λ v. HoldMatching filter.now events v.items)) }
+    {
+        let conditions = conditions(alloc, filter)?;
+        match self.rarest(conditions.as_slice(), most) {
+            Some(at) => Ok(Some(self.places(alloc, conditions[at].marks.as_slice())?)),
+            None => Ok(None),
+        }
+    }
+}

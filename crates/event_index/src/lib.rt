@@ -1,0 +1,10 @@
+//! Where the events of an author, of a kind or with a tag stand in a list.
+#![tactic(auto)]
+
+mod conditions;
+mod index;
+mod mark;
+mod postings;
+mod run;
+
+pub use index::{BATCH, Index};
