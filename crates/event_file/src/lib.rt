@@ -11,5 +11,3 @@ pub use path::{NewFile, read_file};
 pub use reading::insert_lines;
 pub use writing::write_lines;
 
-#[cfg(test)]
-mod tests;

@@ -14,5 +14,3 @@ pub use lists::{Addresses, Loads};
 pub use reading::read_settings;
 pub use settings::Settings;
 
-#[cfg(test)]
-mod tests;

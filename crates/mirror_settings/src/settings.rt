@@ -1,4 +1,6 @@
 //! The settings of a run.
+ghost use Rattle.std.specs.Prelude.{◌≡◌, ◌*◌, unwrap_or};
+ghost use Rattle.std.specs.Duration.{as_nanos};
 
 use crate::address::Address;
 use crate::lists::{Addresses, Loads};
@@ -36,7 +38,9 @@ pub struct Settings {
 
 impl Settings {
     /// For how long the other side of a connection may keep this one waiting.
-    pub fn timeout(&self) -> Duration {
+    pub fn timeout(&self) -> Duration
+        ensures { as_nanos result ≡ unwrap_or self.now.timeout_ms 60000 * 1000000 }
+    {
         Duration::from_millis(self.timeout_ms.unwrap_or(TIMEOUT_MS))
     }
 }

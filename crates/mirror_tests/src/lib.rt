@@ -1,4 +1,4 @@
-//! Tests of the store, of connections over it, and of what mirrors relays: values from outside, threads beside one another, and each
+//! Tests of the store, of files of events, of connections, and of what mirrors relays: values from outside, threads beside one another, and each
 //! public call once with ample memory.
 #![tactic(auto)]
 
@@ -8,6 +8,8 @@ mod boards;
 mod conns;
 #[cfg(test)]
 mod fetches;
+#[cfg(test)]
+mod files;
 #[cfg(test)]
 mod links;
 #[cfg(test)]

@@ -9,7 +9,7 @@ use event_store::{
     open_store,
 };
 use neg_codec::Id;
-use nostr_event::{Draft, Event, Spelling, Tags, Text, id_of};
+use nostr_event::{Draft, Event, Spelling, Tag, Tags, Text, id_of};
 use nostr_filter::{Bytes32List, Filter};
 use serde_json::Value;
 use std::alloc::{AllocError, Global};
@@ -24,23 +24,38 @@ const KEY: &str = "0101010101010101010101010101010101010101010101010101010101010
 const SIG: &str =
     "5a5a5a5a5a5a5a5a5a5a5a5a5a5a5a5a5a5a5a5a5a5a5a5a5a5a5a5a5a5a5a5a5a5a5a5a5a5a5a5a5a5a5a5a5a5a5a5a5a5a5a5a5a5a5a5a5a5a5a5a5a5a5a5a";
 
-// The event with that number for its content.
+// The event with that number for its content, and its last two digits for a tag `t`.
 fn event(alloc: Global, number: u64, time: u64) -> Option<Arc<Event>> {
     let draft = Draft {
         pubkey: [1; 32],
         created_at: time,
         kind: 1,
-        tags: Tags::new(Vec::new(alloc)),
+        tags: tags(alloc, number)?,
         content: Text::new(format!(in alloc; "{number}").ok()?),
     };
     let id = id_of(alloc, &draft, Spelling::Plain).ok()?;
     read(alloc, &id, number, time)
 }
 
+fn tags(alloc: Global, number: u64) -> Option<Tags> {
+    let mut texts = Vec::new(alloc);
+    texts
+        .push(Text::new(String::from_str(alloc, "t").ok()?))
+        .ok()?;
+    let digits = number % 100;
+    texts
+        .push(Text::new(format!(in alloc; "{digits}").ok()?))
+        .ok()?;
+    let mut tags = Vec::new(alloc);
+    tags.push(Tag::new(texts)).ok()?;
+    Some(Tags::new(tags))
+}
+
 fn read(alloc: Global, id: &Id, number: u64, time: u64) -> Option<Arc<Event>> {
+    let digits = number % 100;
     let id = hex::encode(alloc, id.0.as_slice()).ok()?;
     let text = format!(in alloc;
-        "{{\"id\":\"{id}\",\"pubkey\":\"{KEY}\",\"created_at\":{time},\"kind\":1,\"tags\":[],\"content\":\"{number}\",\"sig\":\"{SIG}\"}}"
+        "{{\"id\":\"{id}\",\"pubkey\":\"{KEY}\",\"created_at\":{time},\"kind\":1,\"tags\":[[\"t\",\"{digits}\"]],\"content\":\"{number}\",\"sig\":\"{SIG}\"}}"
     ).ok()?;
     let value = Value::from_str(alloc, text.as_str()).ok()?;
     Arc::new(alloc, Event::from_json(alloc, &value).ok()?).ok()
@@ -238,6 +253,68 @@ fn by_ids<J: Naming>(alloc: Global, reader: &mut Reader<J>, all: &Snapshot) -> O
             && whole.as_slice() == [70, 3].as_slice()
             && part.as_slice() == [1, 0].as_slice(),
     )
+}
+
+// Filters on tags, the times of the events of six hundred that they pick, in the order of publishing, and the places of those that
+// they choose. The first 512 stand in the index.
+static MARKED: [(&str, &[u64], &[usize]); 5] = [
+    (
+        r##"{"#t":["88"]}"##,
+        &[56, 156, 256, 356, 456, 556],
+        &[588, 488, 388, 288, 188, 88],
+    ),
+    (
+        r##"{"#t":["7","88"],"kinds":[1,2],"limit":3}"##,
+        &[
+            59, 56, 159, 156, 259, 256, 359, 356, 459, 456, 559, 556,
+        ],
+        &[507, 588, 407],
+    ),
+    (
+        r##"{"authors":["0101010101010101010101010101010101010101010101010101010101010101"],"#t":["88"],"since":400}"##,
+        &[456, 556],
+        &[588, 488],
+    ),
+    (r##"{"#t":["100"]}"##, &[], &[]),
+    (r##"{"#e":["88"]}"##, &[], &[]),
+];
+
+#[test]
+fn marked_events_are_found(rt: HostRuntime) -> Result<(), Fail> {
+    assert_eq!(rt;
+        finds::<Brand, _, _>(&rt, &rt, rt.alloc(), Blank::new()),
+        Some(true)
+    );
+    Ok(())
+}
+
+// Whether six hundred events are picked and chosen as they should be, by their tags.
+fn finds<J: Naming, D: Wait + Drop, R: Wait>(
+    rt: &R,
+    keep: D,
+    alloc: Global,
+    blank: Blank,
+) -> Option<bool>
+    requires book { blank ≡ J.book }
+    requires most { J.most ≡ 1000000 }
+{
+    let (mut desk, mut readers) = open_store::<J, D>(keep, alloc, blank, 1).ok()?;
+    let mut reader = readers.pop()?;
+    insert_all(rt, alloc, &mut desk, 0, 600)?;
+    all_found(alloc, &mut reader)
+}
+
+fn all_found<J: Naming>(alloc: Global, reader: &mut Reader<J>) -> Option<bool> {
+    let all = reader.pin(alloc, &Filter::all()).ok()?;
+    for (text, times, places) in &MARKED {
+        let asked = filter(alloc, text)?;
+        let pinned = reader.pin(alloc, &asked).ok()?;
+        let chosen = all.choose(alloc, &[asked]).ok()?;
+        if times_of(alloc, pinned.events())?.as_slice() != *times || chosen.as_slice() != *places {
+            return Some(false);
+        }
+    }
+    Some(true)
 }
 
 #[test]

@@ -1,4 +1,4 @@
-//! Tests of events, filters, messages and orders of events: values from outside, and each public call once with ample memory.
+//! Tests of events, filters, messages, orders of events and settings: values from outside, and each public call once with ample memory.
 #![tactic(auto)]
 
 #[cfg(test)]
@@ -9,3 +9,5 @@ mod filters;
 mod messages;
 #[cfg(test)]
 mod orders;
+#[cfg(test)]
+mod settings;

@@ -1,4 +1,4 @@
-use Rattle.event_file.proofs.tests.lines_are_events.Given as goal
+use Rattle.mirror_tests.proofs.files.lines_are_events.Given as goal
 
 -- the store that is just opened
 abbrev pub ghosts-fills : goal.ghosts-fills

@@ -1,6 +1,6 @@
 //! Settings from tables of texts.
 
-use crate::{Settings, SettingsFault, SettingsKey, read_settings};
+use mirror_settings::{Settings, SettingsFault, SettingsKey, read_settings};
 use std::alloc::{AllocError, Global};
 use std::test::*;
 

@@ -1,7 +1,7 @@
 //! Files of events whose ids were made by Python's hashlib.
 ghost use Rattle.std.specs.Prelude.{◌≡◌};
 
-use super::*;
+use event_file::{FileFault, insert_lines, write_lines};
 use event_store::{Blank, Desk, Naming, open_small};
 use nostr_filter::Filter;
 use std::alloc::Global;
