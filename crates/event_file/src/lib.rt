@@ -10,4 +10,3 @@ pub use fault::FileFault;
 pub use path::{NewFile, read_file};
 pub use reading::insert_lines;
 pub use writing::write_lines;
-

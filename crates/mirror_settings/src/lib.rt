@@ -13,4 +13,3 @@ pub use fault::{SettingsFault, SettingsKey};
 pub use lists::{Addresses, Loads};
 pub use reading::read_settings;
 pub use settings::Settings;
-
