@@ -100,31 +100,34 @@ impl Index {
         })
     }
 
-    // How many postings of the marks there are.
-    fn postings(&self, marks: &[u64]) -> usize {
-        let mut all = 0usize;
+    // How many searches it takes to look the marks up, and how many postings they find; it ends above so many.
+    fn price(&self, marks: &[u64], most: usize) -> usize {
+        let mut price = 0usize;
         for mark in marks {
             for run in self.runs.as_slice() {
-                all = all.saturating_add(run.count(*mark));
+                price = price.saturating_add(run.count(*mark)).saturating_add(1);
+                if price > most {
+                    return price;
+                }
             }
         }
-        all
+        price
     }
 
-    // The condition with the fewest postings, if these are no more than so many.
-    fn rarest(&self, conditions: &[Marks], most: usize) -> Option<usize>
+    // The cheapest condition, if its price is no more than so much.
+    fn cheapest(&self, conditions: &[Marks], most: usize) -> Option<usize>
         ensures { IfSome result (λ at. at < length conditions.now) }
     {
-        let mut rarest = None;
-        let mut fewest = most;
+        let mut cheapest = None;
+        let mut least = most;
         for at in 0..conditions.len() {
-            let postings = self.postings(conditions[at].marks.as_slice());
-            if postings <= fewest {
-                rarest = Some(at);
-                fewest = postings;
+            let price = self.price(conditions[at].marks.as_slice(), least);
+            if price <= least {
+                cheapest = Some(at);
+                least = price;
             }
         }
-        rarest
+        cheapest
     }
 
     // The places of the events that have one of the marks.
@@ -138,8 +141,9 @@ impl Index {
         Ok(places)
     }
 
-    /// Places of covered events, among them of all that the filter matches, where its rarest condition tells of no more than so
-    /// many. They come in no order, and some twice.
+    /// Places of covered events, among them of all that the filter matches, where one of its conditions on authors, kinds or tags
+    /// takes no more searches, and finds no more places, than `most` together: for each of its values there is a search in each run.
+    /// They come in no order, and some twice. Nothing takes more than `most` searches for each condition.
     pub fn find(
         &self,
         alloc: Global,
@@ -149,7 +153,7 @@ impl Index {
         ensures { (events : List EventView) → Covers events self.now → IfOk result (λ o. IfSome o (λ v. HoldMatching filter.now events v.items)) }
     {
         let conditions = conditions(alloc, filter)?;
-        match self.rarest(conditions.as_slice(), most) {
+        match self.cheapest(conditions.as_slice(), most) {
             Some(at) => Ok(Some(self.places(alloc, conditions[at].marks.as_slice())?)),
             None => Ok(None),
         }

@@ -1,6 +1,6 @@
 use Rattle.std.proofs.Common.{◌<◌, length}
 use Rattle.std.specs.Prelude.{IfSome}
-use Rattle.event_index.proofs.index.Index.rarest.Given as goal
+use Rattle.event_index.proofs.index.Index.cheapest.Given as goal
 
 abbrev pub invariant-loop-at : goal.invariant-loop-at
-invariant-loop-at l = IfSome l.rarest (λ at. at < length l.conditions)
+invariant-loop-at l = IfSome l.cheapest (λ at. at < length l.conditions)
