@@ -1,7 +1,8 @@
-ghost use Rattle.std.specs.Prelude.{◌<◌};
+ghost use Rattle.std.specs.Prelude.{◌<◌, ◌≤◌};
 
-use item_roll::Roll;
-use neg_codec::{CodecFault, Id, Item, decode};
+use crate::fixtures::{item, item_ending, line, many};
+use item_roll::{Roll, RollFault};
+use neg_codec::{CodecFault, Item, decode};
 use neg_responder::{AnswerFault, answer};
 use std::alloc::{AllocError, Global};
 use std::process::Abort;
@@ -29,36 +30,63 @@ fn bytes_of(alloc: Global, text: &str) -> Result<Vec<u8>, AllocError> {
     Ok(bytes)
 }
 
-/// Items at the times from 0 on, the id of time i being the byte i 32 times.
-fn numbered(alloc: Global, count: u8) -> Result<Roll, Fail> {
-    let mut items = Vec::new(alloc);
-    for i in 0..count {
-        items.push(Item {
-            time: u64::from(i),
-            id: Id([i; 32]),
-        })?;
+/// Whether bytes are those of a hexadecimal text, or begin with them.
+fn begin_with(bytes: &[u8], text: &str) -> bool {
+    for (pair, byte) in text.as_bytes().chunks_exact(2).zip(bytes) {
+        match pair {
+            [high, low] if 16 * digit(*high) + digit(*low) == *byte => {}
+            _ => return false,
+        }
     }
-    Ok(Roll::from_items(alloc, &items)?)
+    text.len() / 2 <= bytes.len()
 }
 
+/// The answer to a query in hexadecimal digits, with messages of at most so many bytes.
+fn given(alloc: Global, roll: &Roll, query: &str, limit: usize) -> Result<Vec<u8>, AnswerFault>
+    requires { 4096 ≤ limit }
+{
+    answer(alloc, roll, &bytes_of(alloc, query)?, limit)
+}
+
+/// Whether a query has an answer of so many bytes, which begins so.
 fn is_answered(
-    rt: &(impl AllocGlobal + Abort),
+    alloc: Global,
     roll: &Roll,
-    cases: &[(&str, &str)],
-) -> Result<(), Fail> {
-    let alloc = rt.alloc();
-    for (query, expected) in cases {
-        let given = answer(alloc, roll, &bytes_of(alloc, query)?, 60_000)?;
-        assert!(rt;
-            given.as_slice() == bytes_of(alloc, expected)?.as_slice(),
-            "{query}"
-        );
+    limit: usize,
+    query: &str,
+    len: usize,
+    front: &str,
+) -> bool
+    requires { 4096 ≤ limit }
+{
+    match given(alloc, roll, query, limit) {
+        Ok(given) => given.len() == len && begin_with(&given, front),
+        Err(_) => false,
     }
-    Ok(())
+}
+
+/// The first query that isn't answered so.
+fn first_other(alloc: Global, roll: &Roll, cases: &[(&str, &str)]) -> Option<usize> {
+    for (at, (query, expected)) in cases.iter().enumerate() {
+        if !is_answered(alloc, roll, 60_000, query, expected.len() / 2, expected) {
+            return Some(at);
+        }
+    }
+    None
+}
+
+/// Why a query isn't answered.
+fn refusal(alloc: Global, roll: &Roll, query: &[u8]) -> Option<AnswerFault> {
+    answer(alloc, roll, query, 4_096).err()
+}
+
+/// Why a query in hexadecimal digits isn't answered.
+fn refusal_of(alloc: Global, roll: &Roll, query: &str) -> Option<AnswerFault> {
+    given(alloc, roll, query, 4_096).err()
 }
 
 #[test]
-fn no_item(rt: HostRuntime) -> Result<(), Fail> {
+fn no_item(rt: HostRuntime) {
     let cases = [
         // own ids of none
         ("6100000200", "6100000200"),
@@ -70,11 +98,12 @@ fn no_item(rt: HostRuntime) -> Result<(), Fail> {
             "6100000200",
         ),
     ];
-    is_answered(&rt, &numbered(rt.alloc(), 0)?, &cases)
+    let roll = line(rt.alloc(), 0).expect(&rt, "memory");
+    assert_eq!(rt; first_other(rt.alloc(), &roll, &cases), None);
 }
 
 #[test]
-fn one_item(rt: HostRuntime) -> Result<(), Fail> {
+fn one_item(rt: HostRuntime) {
     let cases = [
         // an empty stretch is passed over
         (
@@ -133,22 +162,12 @@ fn one_item(rt: HostRuntime) -> Result<(), Fail> {
             "61062001010101010101010101010101010101010101010101010101010101010101010200",
         ),
     ];
-    let items = [Item {
-        time: 5,
-        id: Id([1; 32]),
-    }];
-    is_answered(&rt, &Roll::from_items(rt.alloc(), &items)?, &cases)
-}
-
-/// An id of one byte 31 times and a last byte.
-fn id_of(byte: u8, last: u8) -> Id {
-    let mut id = [byte; 32];
-    id[31] = last;
-    Id(id)
+    let roll = Roll::from_items(rt.alloc(), &[item(5, 1)]).expect(&rt, "memory");
+    assert_eq!(rt; first_other(rt.alloc(), &roll, &cases), None);
 }
 
 #[test]
-fn items_of_one_time(rt: HostRuntime) -> Result<(), Fail> {
+fn items_of_one_time(rt: HostRuntime) {
     let cases = [
         // Skips and own prints are one Skip
         (
@@ -166,15 +185,14 @@ fn items_of_one_time(rt: HostRuntime) -> Result<(), Fail> {
             "610820aaaaaaaaaaaaaaaaaaaaaaaaaaaaaaaaaaaaaaaaaaaaaaaaaaaaaaaaaaaaaa020002000202aaaaaaaaaaaaaaaaaaaaaaaaaaaaaaaaaaaaaaaaaaaaaaaaaaaaaaaaaaaaaa02bbbbbbbbbbbbbbbbbbbbbbbbbbbbbbbbbbbbbbbbbbbbbbbbbbbbbbbbbbbbbb00020000010110020001011102011010101010101010101010101010101010101010101010101010101010101000",
         ),
     ];
-    let items = [(7, 0xaa, 1), (7, 0xaa, 2), (7, 0xbb, 0), (9, 0x10, 0)];
-    let mut list = Vec::new(rt.alloc());
-    for (time, byte, last) in items {
-        list.push(Item {
-            time,
-            id: id_of(byte, last),
-        })?;
-    }
-    is_answered(&rt, &Roll::from_items(rt.alloc(), &list)?, &cases)
+    let items = [
+        item_ending(7, 0xaa, 1),
+        item_ending(7, 0xaa, 2),
+        item_ending(7, 0xbb, 0),
+        item_ending(9, 0x10, 0),
+    ];
+    let roll = Roll::from_items(rt.alloc(), &items).expect(&rt, "memory");
+    assert_eq!(rt; first_other(rt.alloc(), &roll, &cases), None);
 }
 
 /// What 32 numbered items are told by.
@@ -182,7 +200,7 @@ const PRINTS_OF_32: &str =
     "610300012badbd7659924f488790ab577a29bcbe0300011ba91635a8ddc0e32a0a796ee0389def03000107aa15a5c153b036e64b5d1a0b68a741030001c3b220cd2682a0d35c0d55f0690eb14a030001de7cc218a459caaf756d498e46da3749030001d1cf570526e4c1870196a8d9e539e22d030001f8dbdbec6eee46577c119184fa3622dd030001228ff9be580af0340ea2a3f9955863f7030001eb56fc10dc92e87eb8dd8693fa52503f030001aaaa6ba6f4c7fa312492e18f360799f9030001c989e48aaeb895ae19ea03e4c384b27d030001a2952b0bc61a90aea947bdd3d3b2511d030001ea0b199ccb75b2bf4ad341fb9fc51123030001a1f81d851b2aeb0e73172e413a6ab574030001b3e3858268b6e16cf19cad87464bb7950000011fcfbdb995ca766a5be2bbd528e9ee3d";
 
 #[test]
-fn many_items(rt: HostRuntime) -> Result<(), Fail> {
+fn many_items(rt: HostRuntime) {
     let cases = [
         // another print, an own one, and 16 of which two differ
         ("6100000177777777777777777777777777777777", PRINTS_OF_32),
@@ -192,12 +210,14 @@ fn many_items(rt: HostRuntime) -> Result<(), Fail> {
             "610500000300020204040404040404040404040404040404040404040404040404040404040404040505050505050505050505050505050505050505050505050505050505050505190000000002021e1e1e1e1e1e1e1e1e1e1e1e1e1e1e1e1e1e1e1e1e1e1e1e1e1e1e1e1e1e1e1e1f1f1f1f1f1f1f1f1f1f1f1f1f1f1f1f1f1f1f1f1f1f1f1f1f1f1f1f1f1f1f1f",
         ),
     ];
-    is_answered(&rt, &numbered(rt.alloc(), 32)?, &cases)?;
+    let roll = line(rt.alloc(), 32).expect(&rt, "memory");
+    assert_eq!(rt; first_other(rt.alloc(), &roll, &cases), None);
     let cases = [(
         "6100000177777777777777777777777777777777",
         "61040001c2055e4b533b897450a2f7abc14a3688030001b8ea736abfbf609781fff6727eb9cd040300017f2da089f1f529e21695158e4a2d6f43030001b7d83b680dbdf04ad2be2d723ad764b4030001d7f6aef48c8105c6a8d1edb11bc1f61d0300015a3b9f41ebacbc3c88d623fa11abd2c4030001078bc773005f176ba644460bd77f43d1030001c1d8d25dd3ad8c37678e17dfce54df610300011b3faf13785b65bf5c6debbef6eb3b8b03000113fc235ac2e2604d7730473528b646910300016db32635642a41b8167e4346e59ce8f2030001af9e87dc5ace9af9766108aeea1cd582030001cd20b9f83aa18e89dd323257ca0a6e090300012198850980141c511aed175878f65040030001ca3d66888b97cac95e08951fff742c9700000115e52dde58a3e1e3e713e9cd6524dd88",
     )];
-    is_answered(&rt, &numbered(rt.alloc(), 33)?, &cases)?;
+    let roll = line(rt.alloc(), 33).expect(&rt, "memory");
+    assert_eq!(rt; first_other(rt.alloc(), &roll, &cases), None);
     let cases = [
         // 32 items in the middle
         (
@@ -205,12 +225,13 @@ fn many_items(rt: HostRuntime) -> Result<(), Fail> {
             "610b0000030001d1cf570526e4c1870196a8d9e539e22d030001f8dbdbec6eee46577c119184fa3622dd030001228ff9be580af0340ea2a3f9955863f7030001eb56fc10dc92e87eb8dd8693fa52503f030001aaaa6ba6f4c7fa312492e18f360799f9030001c989e48aaeb895ae19ea03e4c384b27d030001a2952b0bc61a90aea947bdd3d3b2511d030001ea0b199ccb75b2bf4ad341fb9fc51123030001a1f81d851b2aeb0e73172e413a6ab574030001b3e3858268b6e16cf19cad87464bb7950300011fcfbdb995ca766a5be2bbd528e9ee3d030001e6b58a8f002f65b65fd1d4bcb4c0fefa0300011241fc13047494506c3fe92e987bb00f03000116d326ae01c53db89e5ecd79d96aa0420300013ce0890e0e3b24cb6629495268f05299030001a86d70f0af1d80795786a8165b1062ae",
         ),
     ];
-    is_answered(&rt, &numbered(rt.alloc(), 64)?, &cases)
+    let roll = line(rt.alloc(), 64).expect(&rt, "memory");
+    assert_eq!(rt; first_other(rt.alloc(), &roll, &cases), None);
 }
 
 /// The answer that lists as many numbered items.
-fn listed(alloc: Global, count: u8) -> Result<Vec<u8>, AllocError> {
-    let mut bytes = bytes_of(alloc, "61000002")?;
+fn list_of(alloc: Global, count: u8) -> Result<Vec<u8>, AllocError> {
+    let mut bytes = b"\x61\x00\x00\x02".to_vec(alloc)?;
     bytes.push(count)?;
     for i in 0..count {
         bytes.extend_from_slice(&[i; 32])?;
@@ -218,9 +239,23 @@ fn listed(alloc: Global, count: u8) -> Result<Vec<u8>, AllocError> {
     Ok(bytes)
 }
 
+/// Whether a query is answered by these bytes.
+fn is_given(alloc: Global, roll: &Roll, query: &str, expected: &[u8]) -> bool {
+    match given(alloc, roll, query, 60_000) {
+        Ok(given) => given.as_slice() == expected,
+        Err(_) => false,
+    }
+}
+
+/// Whether a query is answered by the list of all, where there are so many numbered items.
+fn lists_all(alloc: Global, count: u8, query: &str) -> Result<bool, RollFault> {
+    let roll = line(alloc, count)?;
+    let list = list_of(alloc, count)?;
+    Ok(is_given(alloc, &roll, query, &list))
+}
+
 #[test]
-fn whole_lists(rt: HostRuntime) -> Result<(), Fail> {
-    let alloc = rt.alloc();
+fn whole_lists(rt: HostRuntime) {
     let cases = [
         // fewer than 32 items are listed where a print differs, and as many as there are where ids are asked for
         (31, "6100000177777777777777777777777777777777"),
@@ -228,23 +263,21 @@ fn whole_lists(rt: HostRuntime) -> Result<(), Fail> {
         (40, "6100000200"),
     ];
     for (count, query) in cases {
-        let roll = numbered(alloc, count)?;
-        let given = answer(alloc, &roll, &bytes_of(alloc, query)?, 60_000)?;
         assert!(rt;
-            given.as_slice() == listed(alloc, count)?.as_slice(),
+            lists_all(rt.alloc(), count, query) == Ok(true),
             "{count} {query}"
         );
     }
-    Ok(())
 }
 
 /// A query of one list, of the id of byte 1 32 times.
-const ONE_ID: &str = "61060002010101010101010101010101010101010101010101010101010101010101010101";
+const ONE_ID: &[u8] =
+    b"\x61\x06\x00\x02\x01\x01\x01\x01\x01\x01\x01\x01\x01\x01\x01\x01\x01\x01\x01\x01\x01\x01\x01\x01\x01\x01\x01\x01\x01\x01\x01\x01\x01\x01\x01\x01\x01";
 
 #[test]
-fn queries_that_are_refused(rt: HostRuntime) -> Result<(), Fail> {
+fn queries_that_are_refused(rt: HostRuntime) {
     let alloc = rt.alloc();
-    let roll = numbered(alloc, 2)?;
+    let roll = line(alloc, 2).expect(&rt, "memory");
     let cases = [
         ("", CodecFault::Empty),
         ("6105", CodecFault::Varint(2)),
@@ -263,59 +296,66 @@ fn queries_that_are_refused(rt: HostRuntime) -> Result<(), Fail> {
         ("6106000200030002", CodecFault::Varint(8)),
     ];
     for (query, fault) in cases {
-        let given = answer(alloc, &roll, &bytes_of(alloc, query)?, 4_096);
-        assert!(rt; given.err() == Some(AnswerFault::Bad(fault)), "{query}");
+        assert!(rt;
+            refusal_of(alloc, &roll, query) == Some(AnswerFault::Bad(fault)),
+            "{query}"
+        );
     }
-    Ok(())
 }
 
-#[test]
-fn a_query_that_is_cut(rt: HostRuntime) -> Result<(), Fail> {
-    let alloc = rt.alloc();
-    let roll = numbered(alloc, 2)?;
-    let whole = bytes_of(alloc, ONE_ID)?;
+/// The length of the first of these queries that isn't judged as the reader of messages judges it.
+fn first_misjudged(alloc: Global, roll: &Roll, whole: &[u8]) -> Option<usize> {
     for (len, _) in whole.iter().enumerate() {
-        let fault = match len {
-            0 => Some(CodecFault::Empty),
-            1 => None,
-            2..=4 => Some(CodecFault::Varint(len)),
-            _ => Some(CodecFault::Truncated(5)),
+        let fault = match decode(alloc, &whole[..len]) {
+            Ok(_) => None,
+            Err(fault) => Some(AnswerFault::Bad(fault)),
         };
-        let given = answer(alloc, &roll, &whole[..len], 4_096);
-        assert!(rt; given.err() == fault.map(AnswerFault::Bad), "at {len}");
+        if refusal(alloc, roll, &whole[..len]) != fault {
+            return Some(len);
+        }
     }
-    Ok(())
+    None
+}
+
+/// What a query of one list is refused for, where only so many bytes of it come.
+fn fault_of_cut(len: usize) -> Option<AnswerFault> {
+    match len {
+        0 => Some(AnswerFault::Bad(CodecFault::Empty)),
+        1 => None,
+        2..=4 => Some(AnswerFault::Bad(CodecFault::Varint(len))),
+        _ => Some(AnswerFault::Bad(CodecFault::Truncated(5))),
+    }
 }
 
 #[test]
-fn the_longest_query(rt: HostRuntime) -> Result<(), Fail> {
-    let alloc = rt.alloc();
-    let roll = numbered(alloc, 2)?;
-    let long = vec![in alloc; 0x62; 1_048_577]?;
-    assert!(rt;
-        answer(alloc, &roll, &long, 4_096).err() == Some(AnswerFault::Bad(CodecFault::TooLong))
-    );
-    let longest = vec![in alloc; 0x62; 1_048_576]?;
-    assert!(rt; answer(alloc, &roll, &longest, 4_096)?.as_slice() == b"\x61".as_slice());
-    Ok(())
+fn a_query_that_is_cut(rt: HostRuntime) {
+    let roll = line(rt.alloc(), 2).expect(&rt, "memory");
+    for (len, _) in ONE_ID.iter().enumerate() {
+        let refusal = refusal(rt.alloc(), &roll, &ONE_ID[..len]);
+        assert!(rt; refusal == fault_of_cut(len), "at {len}");
+    }
 }
 
-/// 400 items of distinct ids at the times from 0 on.
-fn many(alloc: Global) -> Result<Roll, Fail> {
-    let mut items = Vec::new(alloc);
-    for time in 0..400 {
-        let mut id = [7; 32];
-        id[0] = (time % 256) as u8;
-        id[1] = (time / 256) as u8;
-        items.push(Item { time, id: Id(id) })?;
+/// Whether a query is answered by the own version.
+fn is_other_version(alloc: Global, roll: &Roll, query: &[u8]) -> bool {
+    match answer(alloc, roll, query, 4_096) {
+        Ok(given) => given.as_slice() == b"\x61".as_slice(),
+        Err(_) => false,
     }
-    Ok(Roll::from_items(alloc, &items)?)
 }
 
 #[test]
-fn answers_within_the_limit(rt: HostRuntime) -> Result<(), Fail> {
+fn the_longest_query(rt: HostRuntime) {
     let alloc = rt.alloc();
-    let roll = many(alloc)?;
+    let long = vec![in alloc; 0x62; 1_048_577].expect(&rt, "memory");
+    let roll = line(alloc, 2).expect(&rt, "memory");
+    assert!(rt; refusal(alloc, &roll, &long) == Some(AnswerFault::Bad(CodecFault::TooLong)));
+    assert!(rt; long.len() == 1_048_577 && is_other_version(alloc, &roll, &long[1..]));
+}
+
+#[test]
+fn answers_within_the_limit(rt: HostRuntime) {
+    let roll = many(rt.alloc()).expect(&rt, "memory");
     // (the query, how long the answer is, how it begins)
     let cases = [
         ("6100000200", 3_992, "617d00027c"),
@@ -324,37 +364,26 @@ fn answers_within_the_limit(rt: HostRuntime) -> Result<(), Fail> {
         ("618271000000000200", 1_033, "618271000000000220"),
     ];
     for (query, len, front) in cases {
-        let given = answer(alloc, &roll, &bytes_of(alloc, query)?, 4_096)?;
-        assert!(rt; given.len() == len, "{query}");
-        assert!(rt; given.starts_with(&bytes_of(alloc, front)?), "{query}");
-    }
-    Ok(())
-}
-
-#[test]
-fn an_answer_as_a_query(rt: HostRuntime) -> Result<(), Fail> {
-    let alloc = rt.alloc();
-    let roll = many(alloc)?;
-    let whole = answer(alloc, &roll, &bytes_of(alloc, "6100000200")?, 4_096)?;
-    for (len, _) in whole.iter().enumerate() {
-        let given = answer(alloc, &roll, &whole[..len], 4_096);
-        match decode(alloc, &whole[..len]) {
-            Ok(_) => assert!(rt; given.is_ok(), "at {len}"),
-            Err(fault) => assert!(rt; given.err() == Some(AnswerFault::Bad(fault)), "at {len}"),
-        }
-    }
-    Ok(())
-}
-
-#[test]
-fn bounds_at_the_edge(rt: HostRuntime) -> Result<(), Fail> {
-    let alloc = rt.alloc();
-    let roll = numbered(alloc, 2)?;
-    for query in ["610601020001010200", "610001ff00"] {
         assert!(rt;
-            answer(alloc, &roll, &bytes_of(alloc, query)?, 4_096).is_ok(),
+            is_answered(rt.alloc(), &roll, 4_096, query, len, front),
             "{query}"
         );
     }
-    Ok(())
+}
+
+#[test]
+fn an_answer_as_a_query(rt: HostRuntime) {
+    let alloc = rt.alloc();
+    let roll = many(alloc).expect(&rt, "memory");
+    let whole = given(alloc, &roll, "6100000200", 4_096).expect(&rt, "an answer");
+    assert_eq!(rt; first_misjudged(alloc, &roll, &whole), None);
+}
+
+#[test]
+fn bounds_at_the_edge(rt: HostRuntime) {
+    let alloc = rt.alloc();
+    let roll = line(alloc, 2).expect(&rt, "memory");
+    for query in ["610601020001010200", "610001ff00"] {
+        assert!(rt; refusal_of(alloc, &roll, query).is_none(), "{query}");
+    }
 }

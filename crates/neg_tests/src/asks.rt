@@ -1,194 +1,254 @@
+ghost use Rattle.std.specs.Prelude.{◌≤◌};
+
+use crate::fixtures::{
+    ASK_ALL, ASKS_AA_BB, ASKS_THE_REST, Found, LISTS_AND_PRINTS, LISTS_ONE, is_found, item, line,
+    many,
+};
 use item_roll::Roll;
-use neg_codec::{CodecFault, Id, Item};
+use neg_codec::{CodecFault, decode};
 use neg_initiator::{InitFault, Initiator, Next};
 use std::alloc::{AllocError, Global};
 use std::process::Abort;
-use std::test::Fail;
 
-/// An item whose id is one byte 32 times.
-fn item(time: u64, byte: u8) -> Item {
-    Item {
-        time,
-        id: Id([byte; 32]),
+/// Lists the ids 01..01 and 02..02.
+const LISTS_1_2: &[u8] =
+    b"\x61\x00\x00\x02\x02\x01\x01\x01\x01\x01\x01\x01\x01\x01\x01\x01\x01\x01\x01\x01\x01\x01\x01\x01\x01\x01\x01\x01\x01\x01\x01\x01\x01\x01\x01\x01\x01\x02\x02\x02\x02\x02\x02\x02\x02\x02\x02\x02\x02\x02\x02\x02\x02\x02\x02\x02\x02\x02\x02\x02\x02\x02\x02\x02\x02\x02\x02\x02\x02";
+/// Lists the id aa..aa, and cc..cc twice.
+const LISTS_AA_CC_CC: &[u8] =
+    b"\x61\x00\x00\x02\x03\xaa\xaa\xaa\xaa\xaa\xaa\xaa\xaa\xaa\xaa\xaa\xaa\xaa\xaa\xaa\xaa\xaa\xaa\xaa\xaa\xaa\xaa\xaa\xaa\xaa\xaa\xaa\xaa\xaa\xaa\xaa\xaa\xcc\xcc\xcc\xcc\xcc\xcc\xcc\xcc\xcc\xcc\xcc\xcc\xcc\xcc\xcc\xcc\xcc\xcc\xcc\xcc\xcc\xcc\xcc\xcc\xcc\xcc\xcc\xcc\xcc\xcc\xcc\xcc\xcc\xcc\xcc\xcc\xcc\xcc\xcc\xcc\xcc\xcc\xcc\xcc\xcc\xcc\xcc\xcc\xcc\xcc\xcc\xcc\xcc\xcc\xcc\xcc\xcc\xcc\xcc\xcc\xcc\xcc\xcc\xcc";
+/// The fingerprint of no id below the time 5, and the fingerprint 77..77 of the rest.
+const SAME_AND_PRINTS: &[u8] =
+    b"\x61\x06\x00\x01\x7f\x9c\x9e\x31\xac\x82\x56\xca\x2f\x25\x85\x83\xdf\x26\x2d\xbc\x00\x00\x01\x77\x77\x77\x77\x77\x77\x77\x77\x77\x77\x77\x77\x77\x77\x77\x77";
+/// The fingerprint of no id below the time 5, and a list of none of the rest.
+const SAME_AND_LISTS: &[u8] =
+    b"\x61\x06\x00\x01\x7f\x9c\x9e\x31\xac\x82\x56\xca\x2f\x25\x85\x83\xdf\x26\x2d\xbc\x00\x00\x02\x00";
+
+/// What a reply leads to.
+#[derive(Clone, Copy, PartialEq)]
+enum Step<'a> {
+    /// A next ask of these bytes.
+    Asks(&'a [u8]),
+    /// All is settled.
+    Done,
+    Refused(InitFault),
+}
+
+/// How a session goes.
+#[derive(Clone, Copy)]
+struct Course<'a> {
+    /// How many ids may be needed.
+    most: usize,
+    /// How long the first ask is, and how it begins.
+    asked: (usize, &'a [u8]),
+    /// The replies, and what each leads to.
+    replies: &'a [(&'a [u8], Step<'a>)],
+    /// What is found, where the session is done.
+    found: Option<Found<'a>>,
+}
+
+fn leads_to(session: &mut Initiator, reply: &[u8], step: Step) -> bool {
+    match session.take(reply) {
+        Ok(Next::Ask(ask)) => step == Step::Asks(&ask),
+        Ok(Next::Done) => step == Step::Done && session.is_done(),
+        Err(fault) => step == Step::Refused(fault),
     }
 }
 
-/// Bytes, and then ids of one byte 32 times each.
-fn listed(alloc: Global, front: &[u8], ids: &[u8]) -> Result<Vec<u8>, AllocError> {
-    let mut bytes = front.to_vec(alloc)?;
-    for byte in ids {
-        bytes.extend_from_slice(&[*byte; 32])?;
+/// Whether a session has found this, or isn't done.
+fn ends_with(session: Initiator, found: Option<Found>) -> bool {
+    if !session.is_done() {
+        return found.is_none();
     }
-    Ok(bytes)
-}
-
-/// So many items: at each time from 0 on one, whose id is that byte 32 times.
-fn line(alloc: Global, count: u8) -> Result<Vec<Item>, AllocError> {
-    let mut items = Vec::new(alloc);
-    for byte in 0..count {
-        items.push(item(u64::from(byte), byte))?;
+    match found {
+        Some(found) => is_found(&session.outcome(), found),
+        None => false,
     }
-    Ok(items)
 }
 
-#[test]
-fn empty_lists(rt: HostRuntime) -> Result<(), Fail> {
-    let roll = Roll::from_items(rt.alloc(), &[])?;
-    let (mut session, ask) = Initiator::start(rt.alloc(), &roll, 60_000, 10)?;
-    assert_eq!(rt; ask.as_slice(), b"\x61\x00\x00\x02\x00".as_slice());
-    assert!(rt; !session.is_done());
-    assert!(rt; matches!(session.take(b"\x61\x00\x00\x02\x00")?, Next::Done));
-    assert!(rt; session.is_done());
-    assert!(rt; matches!(session.take(b"\x61"), Err(InitFault::Spent)));
-    assert!(rt; session.is_done());
-    Ok(())
-}
-
-#[test]
-fn another_version_ends_a_session(rt: HostRuntime) -> Result<(), Fail> {
-    let roll = Roll::from_items(rt.alloc(), &[item(1, 1)])?;
-    let (mut session, _) = Initiator::start(rt.alloc(), &roll, 60_000, 10)?;
-    assert!(rt;
-        matches!(
-            session.take(b"\x62"),
-            Err(InitFault::Bad(CodecFault::Version(0x62)))
-        )
-    );
-    assert!(rt; matches!(session.take(b"\x61"), Err(InitFault::Spent)));
-    assert!(rt; !session.is_done());
-    Ok(())
-}
-
-#[test]
-fn a_fingerprint_that_differs_is_asked_again(rt: HostRuntime) -> Result<(), Fail> {
-    let roll = Roll::from_items(rt.alloc(), &[])?;
-    let (mut session, _) = Initiator::start(rt.alloc(), &roll, 60_000, 10)?;
-    let mut first = listed(rt.alloc(), b"\x61\x06\x00\x02\x01", &[1])?;
-    first.extend_from_slice(b"\x00\x00\x01")?;
-    first.extend_from_slice(&[0x77; 16])?;
-    let Next::Ask(ask) = session.take(&first)? else {
-        return Err(Fail::from("done"));
+/// Whether a session over the roll, with messages of at most so many bytes, goes so.
+fn goes(alloc: Global, roll: &Roll, limit: usize, course: &Course) -> bool
+    requires { 4096 ≤ limit }
+{
+    let Ok((mut session, ask)) = Initiator::start(alloc, roll, limit, course.most) else {
+        return false;
     };
-    assert_eq!(rt;
-        ask.as_slice(),
-        b"\x61\x06\x00\x00\x00\x00\x02\x00".as_slice()
+    if session.is_done() || ask.len() != course.asked.0 || !ask.starts_with(course.asked.1) {
+        return false;
+    }
+    for (reply, step) in course.replies {
+        if !leads_to(&mut session, reply, *step) {
+            return false;
+        }
+    }
+    ends_with(session, course.found)
+}
+
+/// The ask after a reply, if there is one, in a session with messages of at most 4,096 bytes.
+fn second_ask(alloc: Global, roll: &Roll, reply: &[u8]) -> Result<Option<Vec<u8>>, InitFault> {
+    let (mut session, _) = Initiator::start(alloc, roll, 4_096, 1_000)?;
+    match session.take(reply)? {
+        Next::Ask(ask) => Ok(Some(ask)),
+        Next::Done => Ok(None),
+    }
+}
+
+#[test]
+fn empty_lists(rt: HostRuntime) {
+    let course = Course {
+        most: 10,
+        asked: (5, ASK_ALL),
+        replies: &[
+            (ASK_ALL, Step::Done),
+            (b"\x61", Step::Refused(InitFault::Spent)),
+        ],
+        found: Some(Found {
+            need: &[],
+            have: &[],
+            trusted: 0,
+        }),
+    };
+    let roll = line(rt.alloc(), 0).expect(&rt, "memory");
+    assert!(rt; goes(rt.alloc(), &roll, 60_000, &course));
+}
+
+#[test]
+fn another_version_ends_a_session(rt: HostRuntime) {
+    let roll = Roll::from_items(rt.alloc(), &[item(1, 1)]).expect(&rt, "memory");
+    let course = Course {
+        most: 10,
+        asked: (37, LISTS_ONE),
+        replies: &[
+            (
+                b"\x62",
+                Step::Refused(InitFault::Bad(CodecFault::Version(0x62))),
+            ),
+            (b"\x61", Step::Refused(InitFault::Spent)),
+        ],
+        found: None,
+    };
+    assert!(rt; goes(rt.alloc(), &roll, 60_000, &course));
+}
+
+#[test]
+fn a_fingerprint_that_differs_is_asked_again(rt: HostRuntime) {
+    let course = Course {
+        most: 10,
+        asked: (5, ASK_ALL),
+        replies: &[
+            (LISTS_AND_PRINTS, Step::Asks(ASKS_THE_REST)),
+            (LISTS_1_2, Step::Done),
+        ],
+        found: Some(Found {
+            need: &[1, 2],
+            have: &[],
+            trusted: 0,
+        }),
+    };
+    let roll = line(rt.alloc(), 0).expect(&rt, "memory");
+    assert!(rt; goes(rt.alloc(), &roll, 60_000, &course));
+}
+
+#[test]
+fn found(rt: HostRuntime) {
+    let roll = Roll::from_items(rt.alloc(), &[item(10, 0xaa), item(11, 0xbb)]).expect(
+        &rt, "memory",
     );
-    let second = listed(rt.alloc(), b"\x61\x00\x00\x02\x02", &[1, 2])?;
-    assert!(rt; matches!(session.take(&second)?, Next::Done));
-    assert!(rt; session.is_done());
-    Ok(())
+    let course = Course {
+        most: 10,
+        asked: (69, ASKS_AA_BB),
+        // An id that is listed twice counts once.
+        replies: &[(LISTS_AA_CC_CC, Step::Done)],
+        found: Some(Found {
+            need: &[0xcc],
+            have: &[0xbb],
+            trusted: 0,
+        }),
+    };
+    assert!(rt; goes(rt.alloc(), &roll, 60_000, &course));
 }
 
 #[test]
-fn found(rt: HostRuntime) -> Result<(), Fail> {
-    let roll = Roll::from_items(rt.alloc(), &[item(10, 0xaa), item(11, 0xbb)])?;
-    let (mut session, ask) = Initiator::start(rt.alloc(), &roll, 60_000, 10)?;
-    assert_eq!(rt;
-        ask.as_slice(),
-        listed(rt.alloc(), b"\x61\x00\x00\x02\x02", &[0xaa, 0xbb])?.as_slice()
-    );
-    // An id that is listed twice counts once.
-    let reply = listed(rt.alloc(), b"\x61\x00\x00\x02\x03", &[0xaa, 0xcc, 0xcc])?;
-    assert!(rt; matches!(session.take(&reply)?, Next::Done));
-    if !session.is_done() {
-        return Err(Fail::from("not done"));
+fn too_many_needed(rt: HostRuntime) {
+    let course = Course {
+        most: 1,
+        asked: (5, ASK_ALL),
+        replies: &[
+            (LISTS_1_2, Step::Refused(InitFault::NeedFull)),
+            (b"\x61", Step::Refused(InitFault::Spent)),
+        ],
+        found: None,
+    };
+    let roll = line(rt.alloc(), 0).expect(&rt, "memory");
+    assert!(rt; goes(rt.alloc(), &roll, 60_000, &course));
+}
+
+#[test]
+fn ids_to_offer_have_no_limit(rt: HostRuntime) {
+    let course = Course {
+        most: 0,
+        asked: (165, b"\x61\x00\x00\x02\x05"),
+        replies: &[(ASK_ALL, Step::Done)],
+        found: Some(Found {
+            need: &[],
+            have: &[0, 1, 2, 3, 4],
+            trusted: 0,
+        }),
+    };
+    let roll = line(rt.alloc(), 5).expect(&rt, "memory");
+    assert!(rt; goes(rt.alloc(), &roll, 60_000, &course));
+}
+
+#[test]
+fn first_asks(rt: HostRuntime) {
+    let cases: [(u8, usize, &[u8]); 2] = [
+        (31, 997, b"\x61\x00\x00\x02\x1f"),
+        (33, 305, b"\x61\x04\x00\x01"),
+    ];
+    for (count, len, front) in cases {
+        let course = Course {
+            most: 10,
+            asked: (len, front),
+            replies: &[],
+            found: None,
+        };
+        let roll = line(rt.alloc(), count).expect(&rt, "memory");
+        assert!(rt; goes(rt.alloc(), &roll, 60_000, &course));
     }
-    let outcome = session.outcome();
-    assert_eq!(rt; outcome.need.len(), 1);
-    assert!(rt; outcome.need.contains(&Id([0xcc; 32])));
-    assert_eq!(rt; outcome.have.len(), 1);
-    assert!(rt; outcome.have.contains(&Id([0xbb; 32])));
-    assert!(rt; outcome.trusted.is_empty());
-    Ok(())
 }
 
 #[test]
-fn too_many_needed(rt: HostRuntime) -> Result<(), Fail> {
-    let roll = Roll::from_items(rt.alloc(), &[])?;
-    let (mut session, _) = Initiator::start(rt.alloc(), &roll, 60_000, 1)?;
-    let reply = listed(rt.alloc(), b"\x61\x00\x00\x02\x02", &[1, 2])?;
-    assert!(rt; matches!(session.take(&reply), Err(InitFault::NeedFull)));
-    assert!(rt; matches!(session.take(b"\x61"), Err(InitFault::Spent)));
-    Ok(())
+fn skipped_fingerprints_are_trusted(rt: HostRuntime) {
+    let course = Course {
+        most: 10,
+        asked: (305, b"\x61\x03\x00\x01"),
+        replies: &[(b"\x61", Step::Done)],
+        found: Some(Found {
+            need: &[],
+            have: &[],
+            trusted: 16,
+        }),
+    };
+    let roll = line(rt.alloc(), 32).expect(&rt, "memory");
+    assert!(rt; goes(rt.alloc(), &roll, 60_000, &course));
 }
 
 #[test]
-fn ids_to_offer_have_no_limit(rt: HostRuntime) -> Result<(), Fail> {
-    let roll = Roll::from_items(rt.alloc(), &line(rt.alloc(), 5)?)?;
-    let (mut session, _) = Initiator::start(rt.alloc(), &roll, 60_000, 0)?;
-    assert!(rt; matches!(session.take(b"\x61\x00\x00\x02\x00")?, Next::Done));
-    if !session.is_done() {
-        return Err(Fail::from("not done"));
-    }
-    let outcome = session.outcome();
-    assert!(rt; outcome.have.len() == 5 && outcome.need.is_empty());
-    Ok(())
-}
-
-#[test]
-fn first_asks(rt: HostRuntime) -> Result<(), Fail> {
-    let few = Roll::from_items(rt.alloc(), &line(rt.alloc(), 31)?)?;
-    let (_, ask) = Initiator::start(rt.alloc(), &few, 60_000, 10)?;
-    assert_eq!(rt; ask.len(), 997);
-    assert!(rt; ask.starts_with(b"\x61\x00\x00\x02\x1f"));
-
-    let more = Roll::from_items(rt.alloc(), &line(rt.alloc(), 33)?)?;
-    let (_, ask) = Initiator::start(rt.alloc(), &more, 60_000, 10)?;
-    assert_eq!(rt; ask.len(), 305);
-    assert!(rt; ask.starts_with(b"\x61\x04\x00\x01"));
-    Ok(())
-}
-
-#[test]
-fn skipped_fingerprints_are_trusted(rt: HostRuntime) -> Result<(), Fail> {
-    let roll = Roll::from_items(rt.alloc(), &line(rt.alloc(), 32)?)?;
-    let (mut session, ask) = Initiator::start(rt.alloc(), &roll, 60_000, 10)?;
-    assert_eq!(rt; ask.len(), 305);
-    assert!(rt; ask.starts_with(b"\x61\x03\x00\x01"));
-    assert!(rt; matches!(session.take(b"\x61")?, Next::Done));
-    if !session.is_done() {
-        return Err(Fail::from("not done"));
-    }
-    let outcome = session.outcome();
-    assert!(rt; outcome.need.is_empty() && outcome.have.is_empty());
-    assert_eq!(rt; outcome.trusted.len(), 16);
-    Ok(())
-}
-
-/// A reply that says of the keys below time 5 what an empty roll has there, and then more.
-fn same_below(alloc: Global, roll: &Roll, more: &[u8]) -> Result<Vec<u8>, AllocError> {
-    let mut bytes = b"\x61\x06\x00\x01".to_vec(alloc)?;
-    bytes.extend_from_slice(&roll.print(0, 0))?;
-    bytes.extend_from_slice(more)?;
-    Ok(bytes)
-}
-
-#[test]
-fn a_fingerprint_that_is_repeated_is_trusted_once(rt: HostRuntime) -> Result<(), Fail> {
-    let alloc = rt.alloc();
-    let roll = Roll::from_items(alloc, &[])?;
-    let (mut session, _) = Initiator::start(alloc, &roll, 4_096, 10)?;
-    let first = same_below(alloc, &roll, b"\x00\x00\x01wwwwwwwwwwwwwwww")?;
-    assert!(rt; matches!(session.take(&first)?, Next::Ask(_)));
-    let second = same_below(alloc, &roll, b"\x00\x00\x02\x00")?;
-    assert!(rt; matches!(session.take(&second)?, Next::Done));
-    if !session.is_done() {
-        return Err(Fail::from("not done"));
-    }
-    assert_eq!(rt; session.outcome().trusted.len(), 1);
-    Ok(())
-}
-
-/// 400 items of distinct ids at the times from 0 on.
-fn many(alloc: Global) -> Result<Roll, Fail> {
-    let mut items = Vec::new(alloc);
-    for time in 0..400 {
-        let mut id = [7; 32];
-        id[0] = (time % 256) as u8;
-        id[1] = (time / 256) as u8;
-        items.push(Item { time, id: Id(id) })?;
-    }
-    Ok(Roll::from_items(alloc, &items)?)
+fn a_fingerprint_that_is_repeated_is_trusted_once(rt: HostRuntime) {
+    let course = Course {
+        most: 10,
+        asked: (5, ASK_ALL),
+        replies: &[
+            (SAME_AND_PRINTS, Step::Asks(ASKS_THE_REST)),
+            (SAME_AND_LISTS, Step::Done),
+        ],
+        found: Some(Found {
+            need: &[],
+            have: &[],
+            trusted: 1,
+        }),
+    };
+    let roll = line(rt.alloc(), 0).expect(&rt, "memory");
+    assert!(rt; goes(rt.alloc(), &roll, 4_096, &course));
 }
 
 /// The first part of a long list of ids, as another side answers that keeps within 4,096 bytes.
@@ -197,74 +257,94 @@ fn first_part(alloc: Global) -> Result<Vec<u8>, AllocError> {
     for byte in 0..124 {
         bytes.extend_from_slice(&[byte; 32])?;
     }
-    bytes.extend_from_slice(b"\x00\x00\x01")?;
-    bytes.extend_from_slice(&[0x77; 16])?;
+    bytes.extend_from_slice(b"\x00\x00\x01wwwwwwwwwwwwwwww")?;
     Ok(bytes)
 }
 
-#[test]
-fn asks_within_the_limit(rt: HostRuntime) -> Result<(), Fail> {
-    let alloc = rt.alloc();
-    let roll = many(alloc)?;
-    let (mut session, ask) = Initiator::start(alloc, &roll, 4_096, 1_000)?;
-    assert_eq!(rt; ask.len(), 305);
-    // Each of 400 stretches of one item is asked again: the ask is cut.
-    let mut reply = b"\x61".to_vec(alloc)?;
+/// Fingerprints of each of 400 stretches of one item, none the roll's own.
+fn four_hundred_prints(alloc: Global) -> Result<Vec<u8>, AllocError> {
+    let mut bytes = b"\x61".to_vec(alloc)?;
     for _ in 0..400 {
-        reply.extend_from_slice(b"\x02\x00\x01")?;
-        reply.extend_from_slice(&[0x77; 16])?;
+        bytes.extend_from_slice(b"\x02\x00\x01wwwwwwwwwwwwwwww")?;
     }
-    let Next::Ask(next) = session.take(&reply)? else {
-        return Err(Fail::from("done"));
-    };
-    assert!(rt; next.len() <= 4_096 && next.len() > 3_840);
-    assert!(rt; neg_codec::decode(alloc, &next).is_ok());
-    Ok(())
+    Ok(bytes)
+}
+
+/// Whether the next ask is a message that is cut at 4,096 bytes.
+fn asks_to_the_limit(alloc: Global, roll: &Roll, reply: &[u8]) -> bool {
+    match second_ask(alloc, roll, reply) {
+        Ok(Some(ask)) => { ask.len() <= 4_096 && ask.len() > 3_840 && decode(alloc, &ask).is_ok() }
+        _ => false,
+    }
 }
 
 #[test]
-fn a_list_that_goes_on(rt: HostRuntime) -> Result<(), Fail> {
-    let alloc = rt.alloc();
-    let roll = Roll::from_items(alloc, &[])?;
-    let (mut session, _) = Initiator::start(alloc, &roll, 4_096, 1_000)?;
-    let Next::Ask(next) = session.take(&first_part(alloc)?)? else {
-        return Err(Fail::from("done"));
+fn asks_within_the_limit(rt: HostRuntime) {
+    // Each of 400 stretches of one item is asked again: the ask is cut.
+    let reply = four_hundred_prints(rt.alloc()).expect(&rt, "memory");
+    let roll = many(rt.alloc()).expect(&rt, "memory");
+    let course = Course {
+        most: 1_000,
+        asked: (305, b"\x61"),
+        replies: &[],
+        found: None,
     };
-    assert_eq!(rt;
-        next.as_slice(),
-        b"\x61\x7d\x00\x00\x00\x00\x02\x00".as_slice()
-    );
-    Ok(())
+    assert!(rt; goes(rt.alloc(), &roll, 4_096, &course));
+    assert!(rt; asks_to_the_limit(rt.alloc(), &roll, &reply));
+}
+
+/// Whether a session with a roll, with messages of at most 4,096 bytes, takes a step.
+fn steps(alloc: Global, roll: &Roll, reply: &[u8], step: Step) -> bool {
+    match Initiator::start(alloc, roll, 4_096, 1_000) {
+        Ok((mut session, _)) => leads_to(&mut session, reply, step),
+        Err(_) => false,
+    }
 }
 
 #[test]
-fn replies_that_are_cut_off(rt: HostRuntime) -> Result<(), Fail> {
-    let alloc = rt.alloc();
-    let roll = Roll::from_items(alloc, &[])?;
-    let whole = first_part(alloc)?;
+fn a_list_that_goes_on(rt: HostRuntime) {
+    let reply = first_part(rt.alloc()).expect(&rt, "memory");
+    let roll = line(rt.alloc(), 0).expect(&rt, "memory");
+    let next = Step::Asks(b"\x61\x7d\x00\x00\x00\x00\x02\x00");
+    assert!(rt; steps(rt.alloc(), &roll, &reply, next));
+}
+
+/// Whether a reply is taken where it is a message, and else ends the session for the reader's fault.
+fn is_judged(alloc: Global, roll: &Roll, reply: &[u8]) -> bool {
+    let Err(fault) = decode(alloc, reply) else {
+        return second_ask(alloc, roll, reply).is_ok();
+    };
+    match Initiator::start(alloc, roll, 4_096, 1_000) {
+        Ok((mut session, _)) => {
+            leads_to(&mut session, reply, Step::Refused(InitFault::Bad(fault)))
+                && leads_to(&mut session, b"\x61", Step::Refused(InitFault::Spent))
+        }
+        Err(_) => false,
+    }
+}
+
+/// The first length at which a part of a reply is judged otherwise.
+fn first_misjudged(alloc: Global, roll: &Roll, whole: &[u8]) -> Option<usize> {
+    for (len, _) in whole.iter().enumerate() {
+        if !is_judged(alloc, roll, &whole[..len]) {
+            return Some(len);
+        }
+    }
+    None
+}
+
+#[test]
+fn replies_that_are_cut_off(rt: HostRuntime) {
+    let whole = first_part(rt.alloc()).expect(&rt, "memory");
+    let roll = line(rt.alloc(), 0).expect(&rt, "memory");
+    assert_eq!(rt; first_misjudged(rt.alloc(), &roll, &whole), None);
     let others: [&[u8]; 4] = [
         b"\x61\x00\x00\x00\x00",
         b"\x61\x06\x01\x02\x00\x01\x01\x01\x00",
         b"\x61\x06\x01\x02\x00\x01\x01\x02\x00",
         b"\x61\x00\x01\xff\x00",
     ];
-    let mut replies = Vec::new(alloc);
-    for (len, _) in whole.iter().enumerate() {
-        replies.push(&whole[..len])?;
+    for reply in others {
+        assert!(rt; is_judged(rt.alloc(), &roll, reply), "{reply:?}");
     }
-    for other in others {
-        replies.push(other)?;
-    }
-    for reply in replies.as_slice() {
-        let (mut session, _) = Initiator::start(alloc, &roll, 4_096, 1_000)?;
-        let given = session.take(reply);
-        match neg_codec::decode(alloc, reply) {
-            Ok(_) => assert!(rt; given.is_ok()),
-            Err(fault) => {
-                assert!(rt; given.err() == Some(InitFault::Bad(fault)));
-                assert!(rt; matches!(session.take(b"\x61"), Err(InitFault::Spent)));
-            }
-        }
-    }
-    Ok(())
 }

@@ -9,6 +9,8 @@ mod asks;
 #[cfg(test)]
 mod drafts;
 #[cfg(test)]
+mod fixtures;
+#[cfg(test)]
 mod messages;
 #[cfg(test)]
 mod numbers;

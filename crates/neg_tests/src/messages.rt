@@ -1,144 +1,181 @@
+use crate::fixtures::{Told, are_told, at};
 use neg_codec::{Bound, CodecFault, Id, Item, Key, Message, Payload, Range, decode, encode};
+use std::alloc::{AllocError, Global};
 use std::process::Abort;
 use std::test::*;
 
-/// A bound at a time and the first bytes of an id.
-fn at(time: u32, front: [u8; 3]) -> Bound {
+fn payload(alloc: Global, told: Told) -> Result<Payload, AllocError> {
+    match told {
+        Told::Skip => Ok(Payload::Skip),
+        Told::Print(print) => Ok(Payload::Print(*print)),
+        Told::Ids(bytes) => {
+            let mut ids = Vec::new(alloc);
+            for byte in bytes {
+                ids.push(Id([*byte; 32]))?;
+            }
+            Ok(Payload::Ids(ids))
+        }
+    }
+}
+
+fn ranges(alloc: Global, told: &[(Bound, Told)]) -> Result<Vec<Range>, AllocError> {
+    let mut ranges = Vec::new(alloc);
+    for (upper, told) in told {
+        let payload = payload(alloc, *told)?;
+        ranges.push(Range {
+            upper: *upper,
+            payload,
+        })?;
+    }
+    Ok(ranges)
+}
+
+fn is_text_of(alloc: Global, message: &Message, bytes: &[u8]) -> bool {
+    match encode(alloc, message) {
+        Ok(text) => text.as_slice() == bytes,
+        Err(_) => false,
+    }
+}
+
+/// Whether a message of the ranges is written so.
+fn is_written(alloc: Global, told: &[(Bound, Told)], bytes: &[u8]) -> Result<bool, AllocError> {
+    match Message::of(ranges(alloc, told)?) {
+        Ok(message) => Ok(is_text_of(alloc, &message, bytes)),
+        Err(_) => Ok(false),
+    }
+}
+
+/// Whether the ranges are read from the bytes.
+fn is_read(alloc: Global, told: &[(Bound, Told)], bytes: &[u8]) -> bool {
+    match decode(alloc, bytes) {
+        Ok(message) => are_told(message.ranges(), told),
+        Err(_) => false,
+    }
+}
+
+fn is_both(alloc: Global, told: &[(Bound, Told)], bytes: &[u8]) -> bool {
+    is_written(alloc, told, bytes) == Ok(true) && is_read(alloc, told, bytes)
+}
+
+/// Whether the ranges are no message for a fault, and are handed back.
+fn is_refused(
+    alloc: Global,
+    told: &[(Bound, Told)],
+    fault: CodecFault,
+) -> Result<bool, AllocError> {
+    match Message::of(ranges(alloc, told)?) {
+        Ok(_) => Ok(false),
+        Err((found, back)) => Ok(found == fault && are_told(&back, told)),
+    }
+}
+
+/// The bound at a time and an id of zeros and a last byte 80.
+fn at_last(time: u32) -> Bound {
     let mut id = [0; 32];
-    id[..3].copy_from_slice(&front);
+    id[31] = 0x80;
     Bound::At(Key::new(u64::from(time), Id(id)))
 }
 
-fn skip(upper: Bound) -> Range {
-    Range {
-        upper,
-        payload: Payload::Skip,
+#[test]
+fn messages_are_written_and_read(rt: HostRuntime) {
+    let alloc = rt.alloc();
+    let top = Bound::At(Key::new(u64::MAX - 1, Id([0; 32])));
+    assert!(rt; is_both(alloc, &[], b"\x61"));
+    assert!(rt; is_both(alloc, &[(at(5, [0; 3]), Told::Skip)], b"\x61\x06\x00\x00"));
+    assert!(rt;
+        is_both(
+            alloc,
+            &[(top, Told::Skip)],
+            b"\x61\x81\xff\xff\xff\xff\xff\xff\xff\xff\x7f\x00\x00"
+        )
+    );
+    assert!(rt;
+        is_both(
+            alloc,
+            &[(Bound::Infinite, Told::Ids(&[1]))],
+            b"\x61\x00\x00\x02\x01\x01\x01\x01\x01\x01\x01\x01\x01\x01\x01\x01\x01\x01\x01\x01\x01\x01\x01\x01\x01\x01\x01\x01\x01\x01\x01\x01\x01\x01\x01\x01\x01"
+        )
+    );
+    assert!(rt;
+        is_both(
+            alloc,
+            &[
+                (at_last(0), Told::Skip),
+                (at_last(1_700_000_000), Told::Skip)
+            ],
+            b"\x61\x01\x20\x00\x00\x00\x00\x00\x00\x00\x00\x00\x00\x00\x00\x00\x00\x00\x00\x00\x00\x00\x00\x00\x00\x00\x00\x00\x00\x00\x00\x00\x00\x00\x80\x00\x86\xaa\xcf\xe2\x01\x20\x00\x00\x00\x00\x00\x00\x00\x00\x00\x00\x00\x00\x00\x00\x00\x00\x00\x00\x00\x00\x00\x00\x00\x00\x00\x00\x00\x00\x00\x00\x00\x80\x00"
+        )
+    );
+}
+
+#[test]
+fn all_payloads(rt: HostRuntime) {
+    let print = [0, 1, 2, 3, 4, 5, 6, 7, 8, 9, 10, 11, 12, 13, 14, 15];
+    let told = [
+        (at(10, [0xaa, 0, 0xab]), Told::Print(&print)),
+        (Bound::At(Key::new(10, Id([0xbb; 32]))), Told::Skip),
+        (at(16394, [0; 3]), Told::Ids(&[])),
+        (Bound::Infinite, Told::Ids(&[7, 9])),
+    ];
+    let bytes =
+        b"\x61\x0b\x03\xaa\x00\xab\x01\x00\x01\x02\x03\x04\x05\x06\x07\x08\x09\x0a\x0b\x0c\x0d\x0e\x0f\x01\x20\xbb\xbb\xbb\xbb\xbb\xbb\xbb\xbb\xbb\xbb\xbb\xbb\xbb\xbb\xbb\xbb\xbb\xbb\xbb\xbb\xbb\xbb\xbb\xbb\xbb\xbb\xbb\xbb\xbb\xbb\xbb\xbb\x00\x81\x80\x01\x00\x02\x00\x00\x00\x02\x02\x07\x07\x07\x07\x07\x07\x07\x07\x07\x07\x07\x07\x07\x07\x07\x07\x07\x07\x07\x07\x07\x07\x07\x07\x07\x07\x07\x07\x07\x07\x07\x07\x09\x09\x09\x09\x09\x09\x09\x09\x09\x09\x09\x09\x09\x09\x09\x09\x09\x09\x09\x09\x09\x09\x09\x09\x09\x09\x09\x09\x09\x09\x09\x09";
+    assert!(rt; is_both(rt.alloc(), &told, bytes));
+}
+
+#[test]
+fn other_spellings(rt: HostRuntime) {
+    let cases: [(&[(Bound, Told)], &[u8]); 2] = [
+        (
+            &[
+                (at(5, [2, 0, 0]), Told::Skip),
+                (at(5, [2, 0, 0]), Told::Skip),
+            ],
+            b"\x61\x06\x01\x02\x00\x01\x01\x02\x00",
+        ),
+        (&[(Bound::Infinite, Told::Skip)], b"\x61\x00\x01\xff\x00"),
+    ];
+    for (told, bytes) in cases {
+        assert!(rt; is_read(rt.alloc(), told, bytes));
     }
 }
 
-fn is_both(rt: &(impl AllocGlobal + Abort), ranges: Vec<Range>, bytes: &[u8]) -> Result<(), Fail> {
-    let message = Message::of(ranges).ok().ok_or("ranges")?;
-    let text = encode(rt.alloc(), &message).ok().ok_or("memory")?;
-    assert_eq!(rt; text.as_slice(), bytes);
-    let again = decode(rt.alloc(), bytes).ok().ok_or("bytes")?;
-    assert!(rt; again.ranges() == message.ranges());
-    Ok(())
+fn refusal(alloc: Global, bytes: &[u8]) -> Option<CodecFault> {
+    decode(alloc, bytes).err()
 }
 
 #[test]
-fn messages_are_written_and_read(rt: HostRuntime) -> Result<(), Fail> {
-    let alloc = rt.alloc();
-    is_both(&rt, Vec::new(alloc), b"\x61")?;
-    let one = vec![in alloc; skip(at(5, [0; 3]))].ok().ok_or("memory")?;
-    is_both(&rt, one, b"\x61\x06\x00\x00")?;
-    let top = Bound::At(Key::new(u64::MAX - 1, Id([0; 32])));
-    let one = vec![in alloc; skip(top)].ok().ok_or("memory")?;
-    is_both(
-        &rt,
-        one,
-        b"\x61\x81\xff\xff\xff\xff\xff\xff\xff\xff\x7f\x00\x00",
-    )?;
-    let ids = vec![in alloc; Id([1; 32])].ok().ok_or("memory")?;
-    let one = vec![in alloc;
-        Range {
-            upper: Bound::Infinite,
-            payload: Payload::Ids(ids)
-        },
-    ]
-    .ok()
-    .ok_or("memory")?;
-    is_both(
-        &rt,
-        one,
-        b"\x61\x00\x00\x02\x01\x01\x01\x01\x01\x01\x01\x01\x01\x01\x01\x01\x01\x01\x01\x01\x01\x01\x01\x01\x01\x01\x01\x01\x01\x01\x01\x01\x01\x01\x01\x01\x01",
-    )?;
-    let mut last = [0; 32];
-    last[31] = 0x80;
-    let two = vec![in alloc;
-        skip(Bound::At(Key::new(0, Id(last)))),
-        skip(Bound::At(Key::new(1_700_000_000, Id(last)))),
-    ]
-    .ok()
-    .ok_or("memory")?;
-    is_both(
-        &rt,
-        two,
-        b"\x61\x01\x20\x00\x00\x00\x00\x00\x00\x00\x00\x00\x00\x00\x00\x00\x00\x00\x00\x00\x00\x00\x00\x00\x00\x00\x00\x00\x00\x00\x00\x00\x00\x00\x80\x00\x86\xaa\xcf\xe2\x01\x20\x00\x00\x00\x00\x00\x00\x00\x00\x00\x00\x00\x00\x00\x00\x00\x00\x00\x00\x00\x00\x00\x00\x00\x00\x00\x00\x00\x00\x00\x00\x00\x80\x00",
-    )
-}
-
-#[test]
-fn all_payloads(rt: HostRuntime) -> Result<(), Fail> {
-    let alloc = rt.alloc();
-    let print = Payload::Print([0, 1, 2, 3, 4, 5, 6, 7, 8, 9, 10, 11, 12, 13, 14, 15]);
-    let ids = vec![in alloc; Id([7; 32]), Id([9; 32])]
-        .ok()
-        .ok_or("memory")?;
-    let four = vec![in alloc;
-        Range {
-            upper: at(10, [0xaa, 0, 0xab]),
-            payload: print
-        },
-        skip(Bound::At(Key::new(10, Id([0xbb; 32])))),
-        Range {
-            upper: at(16394, [0; 3]),
-            payload: Payload::Ids(Vec::new(alloc))
-        },
-        Range {
-            upper: Bound::Infinite,
-            payload: Payload::Ids(ids)
-        },
-    ]
-    .ok()
-    .ok_or("memory")?;
-    is_both(
-        &rt,
-        four,
-        b"\x61\x0b\x03\xaa\x00\xab\x01\x00\x01\x02\x03\x04\x05\x06\x07\x08\x09\x0a\x0b\x0c\x0d\x0e\x0f\x01\x20\xbb\xbb\xbb\xbb\xbb\xbb\xbb\xbb\xbb\xbb\xbb\xbb\xbb\xbb\xbb\xbb\xbb\xbb\xbb\xbb\xbb\xbb\xbb\xbb\xbb\xbb\xbb\xbb\xbb\xbb\xbb\xbb\x00\x81\x80\x01\x00\x02\x00\x00\x00\x02\x02\x07\x07\x07\x07\x07\x07\x07\x07\x07\x07\x07\x07\x07\x07\x07\x07\x07\x07\x07\x07\x07\x07\x07\x07\x07\x07\x07\x07\x07\x07\x07\x07\x09\x09\x09\x09\x09\x09\x09\x09\x09\x09\x09\x09\x09\x09\x09\x09\x09\x09\x09\x09\x09\x09\x09\x09\x09\x09\x09\x09\x09\x09\x09\x09",
-    )
-}
-
-#[test]
-fn other_spellings(rt: HostRuntime) -> Result<(), Fail> {
-    let alloc = rt.alloc();
-    let equal = decode(alloc, b"\x61\x06\x01\x02\x00\x01\x01\x02\x00")
-        .ok()
-        .ok_or("bytes")?;
-    assert!(rt; equal.ranges() == [skip(at(5, [2, 0, 0])), skip(at(5, [2, 0, 0]))].as_slice());
-    let infinite = decode(alloc, b"\x61\x00\x01\xff\x00").ok().ok_or("bytes")?;
-    assert!(rt; infinite.ranges() == [skip(Bound::Infinite)].as_slice());
-    Ok(())
-}
-
-#[test]
-fn faults(rt: HostRuntime) -> Result<(), Fail> {
-    let alloc = rt.alloc();
-    let cases = [
+fn faults(rt: HostRuntime) {
+    let cases: [(&[u8], CodecFault); 10] = [
         (
-            &b"\x61\x02\x00\x00\x81\xff\xff\xff\xff\xff\xff\xff\xff\x7f\x00\x00"[..],
+            b"\x61\x02\x00\x00\x81\xff\xff\xff\xff\xff\xff\xff\xff\x7f\x00\x00",
             CodecFault::TimeTooLarge(4),
         ),
-        (&b"\x61\x00\x00\x00\x00"[..], CodecFault::AfterInfinity(4)),
+        (b"\x61\x00\x00\x00\x00", CodecFault::AfterInfinity(4)),
         (
-            &b"\x61\x06\x01\x02\x00\x01\x01\x01\x00"[..],
+            b"\x61\x06\x01\x02\x00\x01\x01\x01\x00",
             CodecFault::Descending(5),
         ),
-        (&b"\x61\x05"[..], CodecFault::Varint(2)),
-        (&b"\x62"[..], CodecFault::Version(0x62)),
-        (&b"\x61\x00\x00\x03"[..], CodecFault::Mode(3)),
-        (&b"\x61\x00\x21\x00"[..], CodecFault::PrefixLength(2)),
-        (&b"\x61\x80\x00"[..], CodecFault::Varint(1)),
-        (&b"\x61\x00\x00\x01\x00"[..], CodecFault::Truncated(4)),
-        (&b"\x61\x01\x02\xff"[..], CodecFault::Truncated(3)),
+        (b"\x61\x05", CodecFault::Varint(2)),
+        (b"\x62", CodecFault::Version(0x62)),
+        (b"\x61\x00\x00\x03", CodecFault::Mode(3)),
+        (b"\x61\x00\x21\x00", CodecFault::PrefixLength(2)),
+        (b"\x61\x80\x00", CodecFault::Varint(1)),
+        (b"\x61\x00\x00\x01\x00", CodecFault::Truncated(4)),
+        (b"\x61\x01\x02\xff", CodecFault::Truncated(3)),
     ];
     for (bytes, fault) in cases {
-        assert!(rt; decode(alloc, bytes).err() == Some(fault));
+        assert!(rt; refusal(rt.alloc(), bytes) == Some(fault));
     }
-    let long = vec![in alloc; 0x61; 1_048_577].ok().ok_or("memory")?;
-    assert!(rt; decode(alloc, &long).err() == Some(CodecFault::TooLong));
-    let longest = vec![in alloc; 0x61; 1_048_576].ok().ok_or("memory")?;
-    assert!(rt; decode(alloc, &longest).err() == Some(CodecFault::PrefixLength(2)));
-    Ok(())
+}
+
+#[test]
+fn the_longest_message(rt: HostRuntime) {
+    let long = vec![in rt.alloc(); 0x61; 1_048_577].expect(&rt, "memory");
+    assert!(rt; refusal(rt.alloc(), &long) == Some(CodecFault::TooLong));
+    assert!(rt;
+        long.len() == 1_048_577
+            && refusal(rt.alloc(), &long[1..]) == Some(CodecFault::PrefixLength(2))
+    );
 }
 
 #[test]
@@ -152,64 +189,65 @@ fn a_cut_message(rt: HostRuntime) {
             2..=4 => Some(CodecFault::Varint(len)),
             _ => Some(CodecFault::Truncated(5)),
         };
-        assert!(rt;
-            decode(rt.alloc(), &whole[..len]).err() == fault,
-            "at {len}"
-        );
+        assert!(rt; refusal(rt.alloc(), &whole[..len]) == fault, "at {len}");
     }
-    assert!(rt; decode(rt.alloc(), whole).is_ok());
+    assert!(rt; refusal(rt.alloc(), whole).is_none());
 }
 
 #[test]
-fn ranges_out_of_place(rt: HostRuntime) -> Result<(), Fail> {
-    let alloc = rt.alloc();
-    let two = vec![in alloc; skip(Bound::Infinite), skip(Bound::Infinite)]
-        .ok()
-        .ok_or("memory")?;
-    let refused = Message::of(two).err().ok_or("taken")?;
-    assert!(rt; refused.0 == CodecFault::AfterInfinity(1));
-    assert!(rt; refused.1.as_slice() == [skip(Bound::Infinite), skip(Bound::Infinite)].as_slice());
-    let two = vec![in alloc; skip(Bound::Infinite), skip(at(1, [0; 3]))]
-        .ok()
-        .ok_or("memory")?;
-    assert!(rt; Message::of(two).err().ok_or("taken")?.0 == CodecFault::Descending(1));
-    let four = vec![in alloc;
-        skip(at(1, [0; 3])),
-        skip(at(2, [0; 3])),
-        skip(at(1, [9; 3])),
-        skip(at(1, [0; 3])),
-    ]
-    .ok()
-    .ok_or("memory")?;
-    assert!(rt; Message::of(four).err().ok_or("taken")?.0 == CodecFault::Descending(2));
-    Ok(())
+fn ranges_out_of_place(rt: HostRuntime) {
+    let cases: [(&[(Bound, Told)], CodecFault); 3] = [
+        (
+            &[(Bound::Infinite, Told::Skip), (Bound::Infinite, Told::Skip)],
+            CodecFault::AfterInfinity(1),
+        ),
+        (
+            &[(Bound::Infinite, Told::Skip), (at(1, [0; 3]), Told::Skip)],
+            CodecFault::Descending(1),
+        ),
+        (
+            &[
+                (at(1, [0; 3]), Told::Skip),
+                (at(2, [0; 3]), Told::Skip),
+                (at(1, [9; 3]), Told::Skip),
+                (at(1, [0; 3]), Told::Skip),
+            ],
+            CodecFault::Descending(2),
+        ),
+    ];
+    for (told, fault) in cases {
+        assert!(rt; is_refused(rt.alloc(), told, fault) == Ok(true));
+    }
+}
+
+/// Whether bounds ascend, each above all before it, and their edges too.
+fn ascend(bounds: &[Bound]) -> bool {
+    for (i, low) in bounds.iter().enumerate() {
+        for (j, high) in bounds.iter().enumerate() {
+            if low.is_below(high) != (i < j) || low.edge().compare(&high.edge()) != i.cmp(&j) {
+                return false;
+            }
+        }
+    }
+    true
 }
 
 #[test]
 fn order(rt: HostRuntime) {
-    let items = [
-        (0, [0; 3]),
-        (1, [0; 3]),
-        (1, [0, 0, 1]),
-        (1, [1, 0, 0]),
-        (2, [0; 3]),
-    ];
-    for (i, a) in items.iter().enumerate() {
-        for (j, b) in items.iter().enumerate() {
-            let low = at(a.0, a.1);
-            let high = at(b.0, b.1);
-            assert!(rt; low.is_below(&high) == (i < j), "{i} {j}");
-            assert!(rt; low.edge().compare(&high.edge()) == i.cmp(&j), "{i} {j}");
-        }
-        assert!(rt; at(a.0, a.1).is_below(&Bound::Infinite));
-    }
+    let zero = Item {
+        time: 0,
+        id: Id([0; 32]),
+    };
     assert!(rt;
-        Bound::lowest().edge()
-            == Item {
-                time: 0,
-                id: Id([0; 32])
-            }
+        ascend(&[
+            at(0, [0; 3]),
+            at(1, [0; 3]),
+            at(1, [0, 0, 1]),
+            at(1, [1, 0, 0]),
+            at(2, [0; 3]),
+            Bound::Infinite
+        ])
     );
-    assert!(rt; Bound::Infinite.time() == u64::MAX);
+    assert!(rt; Bound::lowest().edge() == zero && Bound::Infinite.time() == u64::MAX);
     assert!(rt; *Id([5; 32]).as_bytes() == [5; 32]);
 }

@@ -1,40 +1,16 @@
+use crate::fixtures::{Told, are_prints, are_told, at, item, item_ending, line};
 use item_roll::{Chunk, Group, Roll, RollFault, minimal_bound};
-use neg_codec::{Bound, Id, Item, Key, Payload, Range};
+use neg_codec::{Bound, Id, Item, Key, Range};
 use neg_print::Sum;
+use std::alloc::{AllocError, Global};
 use std::process::Abort;
 use std::test::*;
 
-/// An item at a time, its id one byte 32 times.
-fn item(time: u64, byte: u8) -> Item {
-    Item {
-        time,
-        id: Id([byte; 32]),
-    }
-}
-
-/// An item at time 7, its id 31 bytes aa and a last one.
-fn late(last: u8) -> Item {
-    let mut id = [0xaa; 32];
-    id[31] = last;
-    Item {
-        time: 7,
-        id: Id(id),
-    }
-}
-
-/// Items at the times from 0 on, the id of each its time 32 times.
-fn line(rt: &impl AllocGlobal, len: u8) -> Result<Roll, Fail> {
-    let mut items = Vec::new(rt.alloc());
-    for at in 0..len {
-        items.push(item(u64::from(at), at))?;
-    }
-    Ok(Roll::from_items(rt.alloc(), &items)?)
-}
-
-/// The whole roll in ranges.
-fn whole(rt: &impl AllocGlobal, roll: &Roll) -> Result<Vec<Range>, Fail> {
+/// A whole roll of as many items in ranges.
+fn whole(alloc: Global, count: u8) -> Result<Vec<Range>, RollFault> {
+    let roll = line(alloc, count)?;
     let hi = roll.find(&Bound::Infinite);
-    Ok(roll.split(rt.alloc(), 0, hi, &Bound::Infinite)?)
+    Ok(roll.split(alloc, 0, hi, &Bound::Infinite)?)
 }
 
 const PRINTS_OF_32: [&[u8; 16]; 16] = [
@@ -75,156 +51,185 @@ const PRINTS_OF_33: [&[u8; 16]; 16] = [
     b"\x15\xe5\x2d\xde\x58\xa3\xe1\xe3\xe7\x13\xe9\xcd\x65\x24\xdd\x88",
 ];
 
-/// Sixteen fingerprints, each up to the time given, the last up to infinity.
-fn has_prints(rt: &impl Abort, ranges: &[Range], times: &[u32; 15], prints: &[&[u8; 16]; 16]) {
-    assert_eq!(rt; ranges.len(), 16);
-    for at in 0..16 {
-        let range = &ranges[at];
-        let upper = if at < 15 {
-            Bound::At(Key::new(u64::from(times[at]), Id([0; 32])))
-        } else {
-            Bound::Infinite
-        };
-        assert!(rt; range.upper == upper, "bound {at}");
-        assert!(rt; range.payload == Payload::Print(*prints[at]), "print {at}");
-    }
+#[test]
+fn a_piece_of_31_items_is_listed(rt: HostRuntime) {
+    let ranges = whole(rt.alloc(), 31).expect(&rt, "memory");
+    let ids = [
+        0, 1, 2, 3, 4, 5, 6, 7, 8, 9, 10, 11, 12, 13, 14, 15, 16, 17, 18, 19, 20, 21, 22, 23, 24,
+        25, 26, 27, 28, 29, 30,
+    ];
+    assert!(rt; are_told(&ranges, &[(Bound::Infinite, Told::Ids(&ids))]));
 }
 
 #[test]
-fn a_piece_of_31_items_is_listed(rt: HostRuntime) -> Result<(), Fail> {
-    let roll = line(&rt, 31)?;
-    let ranges = whole(&rt, &roll)?;
-    assert_eq!(rt; ranges.len(), 1);
-    assert!(rt; ranges[0].upper == Bound::Infinite);
-    match &ranges[0].payload {
-        Payload::Ids(list) => {
-            assert_eq!(rt; list.len(), 31);
-            for at in 0..31 {
-                assert!(rt; list[at] == Id([at as u8; 32]));
-            }
-        }
-        _ => assert!(rt; false, "no ids"),
-    }
-    Ok(())
-}
-
-#[test]
-fn larger_pieces_are_told_by_16_fingerprints(rt: HostRuntime) -> Result<(), Fail> {
-    let roll = line(&rt, 32)?;
+fn larger_pieces_are_told_by_16_fingerprints(rt: HostRuntime) {
+    let ranges = whole(rt.alloc(), 32).expect(&rt, "memory");
     let times = [2, 4, 6, 8, 10, 12, 14, 16, 18, 20, 22, 24, 26, 28, 30];
-    has_prints(&rt, &whole(&rt, &roll)?, &times, &PRINTS_OF_32);
-    let roll = line(&rt, 33)?;
+    assert!(rt; are_prints(&ranges, &times, &PRINTS_OF_32));
+    let ranges = whole(rt.alloc(), 33).expect(&rt, "memory");
     let times = [3, 5, 7, 9, 11, 13, 15, 17, 19, 21, 23, 25, 27, 29, 31];
-    has_prints(&rt, &whole(&rt, &roll)?, &times, &PRINTS_OF_33);
-    Ok(())
+    assert!(rt; are_prints(&ranges, &times, &PRINTS_OF_33));
 }
 
 /// The minimal bound between two items, which are in order.
-fn between(rt: &impl Abort, first: Item, second: Item) -> Bound {
-    assert!(rt; first.is_below(&second));
-    assert!(rt; first.time < u64::MAX);
-    assert!(rt; second.time < u64::MAX);
-    minimal_bound(&first, &second)
+fn between(first: Item, second: Item) -> Option<Bound> {
+    if first.is_below(&second) && first.time < u64::MAX && second.time < u64::MAX {
+        Some(minimal_bound(&first, &second))
+    } else {
+        None
+    }
 }
 
 #[test]
 fn shortest_bounds(rt: HostRuntime) {
     let mut front = [0; 32];
     front[0] = 0xaa;
+    let second = item_ending(7, 0xaa, 2);
     for (first, want) in [
-        (late(1), late(2).id),
+        (item_ending(7, 0xaa, 1), second.id),
         (item(6, 0xff), Id([0; 32])),
         (item(7, 9), Id(front)),
     ] {
-        let bound = between(&rt, first, late(2));
-        assert!(rt; bound == Bound::At(Key::new(7, want)));
+        assert!(rt; between(first, second) == Some(Bound::At(Key::new(7, want))));
     }
 }
 
+/// Whether a roll has just these items, in this order.
+fn is_roll_of(roll: &Roll, items: &[Item]) -> bool {
+    for (at, item) in items.iter().enumerate() {
+        if at >= roll.len() || roll.get(at) != *item {
+            return false;
+        }
+    }
+    roll.len() == items.len()
+}
+
+/// Whether a roll takes or refuses each of these items as told.
+fn takes(roll: &mut Roll, cases: &[(Item, Result<(), RollFault>)]) -> bool {
+    for (item, want) in cases {
+        if roll.insert(*item) != *want {
+            return false;
+        }
+    }
+    true
+}
+
+/// Why there is no roll of these items.
+fn refusal(alloc: Global, items: &[Item]) -> Option<RollFault> {
+    Roll::from_items(alloc, items).err()
+}
+
 #[test]
-fn items_are_taken_and_refused(rt: HostRuntime) -> Result<(), Fail> {
+fn items_are_taken_and_refused(rt: HostRuntime) {
     let alloc = rt.alloc();
     let top = u64::MAX - 1;
-    let items = [item(top, 3), item(5, 2), item(5, 1), item(0, 9), item(6, 1)];
-    let mut roll = Roll::from_items(alloc, &items)?;
-    assert_eq!(rt; roll.len(), 5);
-    for (at, want) in [item(0, 9), item(5, 1), item(5, 2), item(6, 1), item(top, 3)]
-        .iter()
-        .enumerate()
-    {
-        assert!(rt; at < roll.len() && roll.get(at) == *want, "item {at}");
-    }
-    assert!(rt; Roll::from_items(alloc, &[]).is_ok());
-    let cases = [
+    let cases: [(&[Item], Option<RollFault>); 3] = [
+        (&[], None),
         (
-            [item(1, 1), item(u64::MAX, 2), item(1, 1)],
-            RollFault::Infinity,
+            &[item(1, 1), item(u64::MAX, 2), item(1, 1)],
+            Some(RollFault::Infinity),
         ),
-        ([item(1, 1), item(2, 2), item(1, 1)], RollFault::Present),
+        (
+            &[item(1, 1), item(2, 2), item(1, 1)],
+            Some(RollFault::Present),
+        ),
     ];
     for (items, want) in cases {
-        assert!(rt; Roll::from_items(alloc, &items).err() == Some(want));
+        assert!(rt; refusal(alloc, items) == want, "{want:?}");
     }
-    assert!(rt; roll.insert(item(u64::MAX, 0)) == Err(RollFault::Infinity));
-    assert!(rt; roll.insert(item(5, 2)) == Err(RollFault::Present));
-    assert_eq!(rt; roll.len(), 5);
-    roll.insert(item(5, 3))?;
-    roll.insert(item(0, 0))?;
-    roll.insert(item(top, 4))?;
-    assert_eq!(rt; roll.len(), 8);
+    let items = [item(top, 3), item(5, 2), item(5, 1), item(0, 9), item(6, 1)];
+    let mut roll = Roll::from_items(alloc, &items).expect(&rt, "memory");
+    let refused = [
+        (item(u64::MAX, 0), Err(RollFault::Infinity)),
+        (item(5, 2), Err(RollFault::Present)),
+    ];
+    let sorted = [item(0, 9), item(5, 1), item(5, 2), item(6, 1), item(top, 3)];
     assert!(rt;
-        roll.get(0) == item(0, 0) && roll.get(4) == item(5, 3) && roll.get(7) == item(top, 4)
+        is_roll_of(&roll, &sorted) && takes(&mut roll, &refused) && is_roll_of(&roll, &sorted)
     );
-    Ok(())
+    let taken = [
+        (item(5, 3), Ok(())),
+        (item(0, 0), Ok(())),
+        (item(top, 4), Ok(())),
+    ];
+    let sorted = [
+        item(0, 0),
+        item(0, 9),
+        item(5, 1),
+        item(5, 2),
+        item(5, 3),
+        item(6, 1),
+        item(top, 3),
+        item(top, 4),
+    ];
+    assert!(rt; takes(&mut roll, &taken) && is_roll_of(&roll, &sorted));
 }
 
-#[test]
-fn places_fingerprints_and_ids(rt: HostRuntime) -> Result<(), Fail> {
-    let roll = line(&rt, 33)?;
-    for (time, front, want) in [
-        (0, 0, 0),
-        (0, 1, 1),
-        (7, 8, 8),
-        (7, 0, 7),
-        (32, 33, 33),
-        (99, 0, 33),
-    ] {
-        let mut id = [0; 32];
-        id[0] = front;
-        assert_eq!(rt;
-            roll.find(&Bound::At(Key::new(time, Id(id)))),
-            want,
-            "{time} {front}"
-        );
+fn are_ids_of(ids: &[Id], items: &[Item]) -> bool {
+    for (id, item) in ids.iter().zip(items) {
+        if *id != item.id {
+            return false;
+        }
     }
-    assert_eq!(rt; roll.find(&Bound::Infinite), 33);
-    assert_eq!(rt; roll.len(), 33);
-    let print = roll.print(3, 20);
-    let want = b"\xf2\x84\x21\x34\xed\xf9\x71\x36\xc0\x5e\xda\xfb\xed\xa6\xa3\x46";
-    assert_eq!(rt; print.as_slice(), want.as_slice());
-    let ids = roll.ids(rt.alloc(), 3, 5)?;
-    assert_eq!(rt; ids.len(), 2);
-    assert!(rt; ids[0] == Id([3; 32]) && ids[1] == Id([4; 32]));
-    assert!(rt; roll.ids(rt.alloc(), 33, 33)?.is_empty());
-    Ok(())
+    ids.len() == items.len()
+}
+
+/// Whether the ids of a roll from a place on are those of the items.
+fn has_ids(alloc: Global, roll: &Roll, from: usize, items: &[Item]) -> bool {
+    if from > roll.len() || items.len() > roll.len() - from {
+        return false;
+    }
+    match roll.ids(alloc, from, from + items.len()) {
+        Ok(ids) => are_ids_of(&ids, items),
+        Err(_) => false,
+    }
 }
 
 #[test]
-fn a_full_roll_takes_no_more(rt: HostRuntime) -> Result<(), Fail> {
-    let alloc = rt.alloc();
+fn places_fingerprints_and_ids(rt: HostRuntime) {
+    let roll = line(rt.alloc(), 33).expect(&rt, "memory");
+    let cases = [
+        (at(0, [0; 3]), 0),
+        (at(0, [1, 0, 0]), 1),
+        (at(7, [8, 0, 0]), 8),
+        (at(7, [0; 3]), 7),
+        (at(32, [33, 0, 0]), 33),
+        (at(99, [0; 3]), 33),
+        (Bound::Infinite, 33),
+    ];
+    for (bound, want) in cases {
+        assert!(rt; roll.find(&bound) == want, "{want}");
+    }
+    let print = b"\xf2\x84\x21\x34\xed\xf9\x71\x36\xc0\x5e\xda\xfb\xed\xa6\xa3\x46";
+    assert!(rt; roll.len() == 33 && roll.print(3, 20) == *print);
+    assert!(rt;
+        has_ids(rt.alloc(), &roll, 3, &[item(3, 3), item(4, 4)])
+            && has_ids(rt.alloc(), &roll, 33, &[])
+    );
+}
+
+/// One item more than a roll takes, the last time first.
+fn too_many(alloc: Global) -> Result<Vec<Item>, AllocError> {
     let mut items = Vec::new(alloc);
     for at in 0..1_000_001_u64 {
         items.push(item(1_000_001 - at, (at % 256) as u8))?;
     }
-    assert!(rt; Roll::from_items(alloc, &items).err() == Some(RollFault::Full));
-    items.push(item(1, 0x40))?;
-    assert!(rt; Roll::from_items(alloc, &items).err() == Some(RollFault::Present));
+    Ok(items)
+}
+
+#[test]
+fn a_full_roll_takes_no_more(rt: HostRuntime) {
+    let mut items = too_many(rt.alloc()).expect(&rt, "memory");
+    assert!(rt; refusal(rt.alloc(), &items) == Some(RollFault::Full));
+    assert!(rt; items.push(item(1, 0x40)).is_ok());
+    assert!(rt; refusal(rt.alloc(), &items) == Some(RollFault::Present));
     items.truncate(1_000_000);
-    let mut roll = Roll::from_items(alloc, &items)?;
-    assert_eq!(rt; roll.len(), 1_000_000);
-    assert!(rt; roll.insert(item(0, 0)) == Err(RollFault::Full));
-    assert!(rt; roll.insert(item(1_000_001, 0)) == Err(RollFault::Present));
-    Ok(())
+    let mut roll = Roll::from_items(rt.alloc(), &items).expect(&rt, "memory");
+    let refused = [
+        (item(0, 0), Err(RollFault::Full)),
+        (item(1_000_001, 0), Err(RollFault::Present)),
+    ];
+    assert!(rt; roll.len() == 1_000_000 && takes(&mut roll, &refused));
 }
 
 /// An item at a time, whose id ends with the time's bytes.
@@ -268,9 +273,6 @@ fn group_len(group: &Group, items: &[Item], from: usize) -> Option<usize> {
 
 /// Whether a roll has these items, one by one and in its chunks.
 fn has_items(roll: &Roll, items: &[Item]) -> bool {
-    if roll.len() != items.len() {
-        return false;
-    }
     let mut from = 0;
     let mut chunks: usize = 0;
     for entry in roll.groups() {
@@ -285,15 +287,7 @@ fn has_items(roll: &Roll, items: &[Item]) -> bool {
         }
         chunks = chunks.saturating_add(parts);
     }
-    if chunks != roll.chunks() {
-        return false;
-    }
-    for at in 0..items.len() {
-        if at >= roll.len() || roll.get(at) != items[at] {
-            return false;
-        }
-    }
-    from == items.len()
+    chunks == roll.chunks() && from == items.len() && is_roll_of(roll, items)
 }
 
 /// Whether the fingerprints between all these places are those of the items there.
@@ -311,58 +305,84 @@ fn has_all_prints(roll: &Roll, items: &[Item], places: &[usize]) -> bool {
     true
 }
 
-#[test]
-fn chunks_of_1025_items(rt: HostRuntime) -> Result<(), Fail> {
-    let mut items = Vec::new(rt.alloc());
-    for time in 0..1025 {
+/// Items at the times from 0 on.
+fn timed_line(alloc: Global, len: u64) -> Result<Vec<Item>, AllocError> {
+    let mut items = Vec::new(alloc);
+    for time in 0..len {
         items.push(timed(time))?;
     }
-    let roll = Roll::from_items(rt.alloc(), &items)?;
-    assert!(rt; roll.chunks() >= 3);
-    assert!(rt; roll.chunk(0).is_some() && roll.chunk(roll.chunks()).is_none());
-    assert!(rt; has_items(&roll, &items));
-    let places = [0, 1, 3, 255, 257, 500, 511, 512, 513, 540, 900, 1024, 1025];
-    assert!(rt; has_all_prints(&roll, &items, &places));
-    assert!(rt; roll.len() == 1025 && items.len() == 1025);
-    let ids = roll.ids(rt.alloc(), 500, 600)?;
-    assert!(rt; ids.len() == 100 && ids[0] == items[500].id && ids[99] == items[599].id);
-    Ok(())
+    Ok(items)
 }
 
 #[test]
-fn a_share_stays_as_it_was(rt: HostRuntime) -> Result<(), Fail> {
-    let alloc = rt.alloc();
-    let (mut before, mut after) = (Vec::new(alloc), Vec::new(alloc));
-    for time in 0..1625_u64 {
-        after.push(timed(time))?;
-        if time % 2 == 0 || time >= 1200 {
-            before.push(timed(time))?;
+fn chunks_of_1025_items(rt: HostRuntime) {
+    let items = timed_line(rt.alloc(), 1025).expect(&rt, "memory");
+    let roll = Roll::from_items(rt.alloc(), &items).expect(&rt, "memory");
+    assert!(rt;
+        roll.chunks() >= 3
+            && roll.chunk(0).is_some()
+            && roll.chunk(roll.chunks()).is_none()
+            && has_items(&roll, &items)
+    );
+    let places = [0, 1, 3, 255, 257, 500, 511, 512, 513, 540, 900, 1024, 1025];
+    assert!(rt; has_all_prints(&roll, &items, &places));
+    assert!(rt; items.len() == 1025 && has_ids(rt.alloc(), &roll, 500, &items[500..600]));
+}
+
+/// Those of these items that stand at an even time or from 1200 on.
+fn thinned(alloc: Global, items: &[Item]) -> Result<Vec<Item>, AllocError> {
+    let mut some = Vec::new(alloc);
+    for item in items {
+        if item.time % 2 == 0 || item.time >= 1200 {
+            some.push(*item)?;
         }
     }
-    let mut roll = Roll::from_items(alloc, &before)?;
-    let share = roll.share(alloc)?;
+    Ok(some)
+}
+
+/// Fills in the odd times below 1200, in no order.
+fn fill_in(roll: &mut Roll) -> Result<(), RollFault> {
     for at in 0..600 {
         roll.insert(timed(1 + (at * 7 % 600) * 2))?;
     }
-    assert!(rt; has_items(&share, &before));
-    assert!(rt; has_items(&roll, &after));
+    Ok(())
+}
+
+/// Whether a roll has these items, and their fingerprints.
+fn is_whole(roll: &Roll, items: &[Item]) -> bool {
     let places = [0, 2, 200, 255, 256, 700, 1000, 1025, 1300, 1624, 1625];
-    assert!(rt; has_all_prints(&share, &before, &places));
-    assert!(rt; has_all_prints(&roll, &after, &places));
+    has_items(roll, items) && has_all_prints(roll, items, &places)
+}
+
+/// Whether a share stays as it was while the roll is filled in.
+fn stays(alloc: Global, roll: &mut Roll, before: &[Item], after: &[Item]) -> bool {
+    match roll.share(alloc) {
+        Ok(share) => fill_in(roll) == Ok(()) && is_whole(&share, before) && is_whole(roll, after),
+        Err(_) => false,
+    }
+}
+
+#[test]
+fn a_share_stays_as_it_was(rt: HostRuntime) {
+    let after = timed_line(rt.alloc(), 1625).expect(&rt, "memory");
+    let before = thinned(rt.alloc(), &after).expect(&rt, "memory");
+    let mut roll = Roll::from_items(rt.alloc(), &before).expect(&rt, "memory");
+    assert!(rt; stays(rt.alloc(), &mut roll, &before, &after));
+}
+
+/// Puts the items of 1100 times into a roll, the last first.
+fn put_one_by_one(roll: &mut Roll) -> Result<(), RollFault> {
+    for time in 0..1100 {
+        roll.insert(timed(1099 - time))?;
+    }
     Ok(())
 }
 
 #[test]
-fn items_one_by_one(rt: HostRuntime) -> Result<(), Fail> {
-    let alloc = rt.alloc();
-    let mut roll = Roll::from_items(alloc, &[])?;
-    let mut items = Vec::new(alloc);
-    for time in 0..1100 {
-        items.push(timed(time))?;
-        roll.insert(timed(1099 - time))?;
-    }
-    assert!(rt; has_items(&roll, &items));
-    assert!(rt; roll.insert(timed(512)) == Err(RollFault::Present));
-    assert!(rt; has_items(&roll, &items));
-    Ok(())
+fn items_one_by_one(rt: HostRuntime) {
+    let items = timed_line(rt.alloc(), 1100).expect(&rt, "memory");
+    let mut roll = Roll::from_items(rt.alloc(), &[]).expect(&rt, "memory");
+    let refused = [(timed(512), Err(RollFault::Present))];
+    assert!(rt; put_one_by_one(&mut roll) == Ok(()) && has_items(&roll, &items));
+    assert!(rt; takes(&mut roll, &refused) && has_items(&roll, &items));
 }

@@ -1,53 +1,40 @@
 //! Sessions with peers of the tests, and with rolls in this process.
 
-ghost use Rattle.std.specs.Prelude.{◌≡◌, ◌≤◌, IfOk};
-ghost use Rattle.neg_session.specs.Ran.{IsRight};
+ghost use Rattle.std.specs.Prelude.{◌≤◌, ◌<◌, ◌^◌, ◌-◌};
 
 mod peers;
 
+use crate::fixtures::{
+    ASK_ALL, ASKS_AA_BB, ASKS_THE_REST, Found, LISTS_AND_PRINTS, LISTS_ONE, is_found, item,
+};
 use item_roll::Roll;
-use neg_codec::{CodecFault, Id, Item};
+use neg_codec::{CodecFault, Item};
 use neg_session::{
-    LocalPeer, Outcome, Peer, PeerFault, SessionFault, SessionLimits, reconcile_with, roll_explains,
+    LocalPeer, Outcome, Pair, Peer, PeerFault, SessionFault, SessionLimits, reconcile_with,
 };
 use peers::Scripted;
 use std::alloc::Global;
-use std::collections::BTreeSet;
 use std::process::Abort;
-use std::test::Fail;
 
-/// Asks for all ids, and lists none.
-const ASK_ALL: &[u8] = b"\x61\x00\x00\x02\x00";
-/// Lists the id 01..01: 37 bytes.
-const LISTS_ONE: &[u8] =
-    b"\x61\x00\x00\x02\x01\x01\x01\x01\x01\x01\x01\x01\x01\x01\x01\x01\x01\x01\x01\x01\x01\x01\x01\x01\x01\x01\x01\x01\x01\x01\x01\x01\x01\x01\x01\x01\x01";
 /// Lists the ids 02..02 and 03..03.
 const LISTS_TWO: &[u8] =
     b"\x61\x00\x00\x02\x02\x02\x02\x02\x02\x02\x02\x02\x02\x02\x02\x02\x02\x02\x02\x02\x02\x02\x02\x02\x02\x02\x02\x02\x02\x02\x02\x02\x02\x02\x02\x02\x02\x03\x03\x03\x03\x03\x03\x03\x03\x03\x03\x03\x03\x03\x03\x03\x03\x03\x03\x03\x03\x03\x03\x03\x03\x03\x03\x03\x03\x03\x03\x03\x03";
 /// The fingerprint 77..77 of all: 20 bytes.
 const PRINTS: &[u8] =
     b"\x61\x00\x00\x01\x77\x77\x77\x77\x77\x77\x77\x77\x77\x77\x77\x77\x77\x77\x77\x77";
-/// Lists the id 01..01 below the time 5, and the fingerprint 77..77 of the rest.
-const LISTS_AND_PRINTS: &[u8] =
-    b"\x61\x06\x00\x02\x01\x01\x01\x01\x01\x01\x01\x01\x01\x01\x01\x01\x01\x01\x01\x01\x01\x01\x01\x01\x01\x01\x01\x01\x01\x01\x01\x01\x01\x01\x01\x01\x01\x00\x00\x01\x77\x77\x77\x77\x77\x77\x77\x77\x77\x77\x77\x77\x77\x77\x77\x77";
-/// Skips what is below the time 5, and lists no id of the rest.
-const ASKS_THE_REST: &[u8] = b"\x61\x06\x00\x00\x00\x00\x02\x00";
-/// Lists the id aa..aa.
-const ASKS_AA: &[u8] =
-    b"\x61\x00\x00\x02\x01\xaa\xaa\xaa\xaa\xaa\xaa\xaa\xaa\xaa\xaa\xaa\xaa\xaa\xaa\xaa\xaa\xaa\xaa\xaa\xaa\xaa\xaa\xaa\xaa\xaa\xaa\xaa\xaa\xaa\xaa\xaa\xaa";
-/// Lists the ids aa..aa and bb..bb.
-const ASKS_AA_BB: &[u8] =
-    b"\x61\x00\x00\x02\x02\xaa\xaa\xaa\xaa\xaa\xaa\xaa\xaa\xaa\xaa\xaa\xaa\xaa\xaa\xaa\xaa\xaa\xaa\xaa\xaa\xaa\xaa\xaa\xaa\xaa\xaa\xaa\xaa\xaa\xaa\xaa\xaa\xbb\xbb\xbb\xbb\xbb\xbb\xbb\xbb\xbb\xbb\xbb\xbb\xbb\xbb\xbb\xbb\xbb\xbb\xbb\xbb\xbb\xbb\xbb\xbb\xbb\xbb\xbb\xbb\xbb\xbb\xbb\xbb";
 /// Lists the ids aa..aa and cc..cc.
 const LISTS_AA_CC: &[u8] =
     b"\x61\x00\x00\x02\x02\xaa\xaa\xaa\xaa\xaa\xaa\xaa\xaa\xaa\xaa\xaa\xaa\xaa\xaa\xaa\xaa\xaa\xaa\xaa\xaa\xaa\xaa\xaa\xaa\xaa\xaa\xaa\xaa\xaa\xaa\xaa\xaa\xcc\xcc\xcc\xcc\xcc\xcc\xcc\xcc\xcc\xcc\xcc\xcc\xcc\xcc\xcc\xcc\xcc\xcc\xcc\xcc\xcc\xcc\xcc\xcc\xcc\xcc\xcc\xcc\xcc\xcc\xcc\xcc";
+/// Lists the id aa..aa.
+const ASKS_AA: &[u8] =
+    b"\x61\x00\x00\x02\x01\xaa\xaa\xaa\xaa\xaa\xaa\xaa\xaa\xaa\xaa\xaa\xaa\xaa\xaa\xaa\xaa\xaa\xaa\xaa\xaa\xaa\xaa\xaa\xaa\xaa\xaa\xaa\xaa\xaa\xaa\xaa\xaa";
 
-fn item(time: u64, byte: u8) -> Item {
-    Item {
-        time,
-        id: Id([byte; 32]),
-    }
-}
+/// The id 01..01 is needed.
+const ONE_NEEDED: Found = Found {
+    need: &[0x01],
+    have: &[],
+    trusted: 0,
+};
 
 fn limits(rounds: u32, need: usize, log: usize) -> SessionLimits
     requires rounds { rounds ≤ 4096 }
@@ -62,291 +49,281 @@ fn limits(rounds: u32, need: usize, log: usize) -> SessionLimits
     }
 }
 
-/// A session with a list in this process. What it finds is right for that list.
-fn meet(
-    alloc: Global,
-    mine: &Roll,
-    theirs: Roll,
-    limits: &SessionLimits,
-) -> Result<(Outcome, LocalPeer), SessionFault>
-    ensures { IfOk result (λ r. IsRight mine.now theirs r.0) }
-{
-    let mut peer = LocalPeer::new(alloc, theirs, 60_000);
-    let outcome = reconcile_with(alloc, &mut peer, mine, limits)?;
-    roll_explains();
-    Ok((outcome, peer))
-}
-
-fn is_set(rt: &impl Abort, set: &BTreeSet<Id>, ids: &[u8]) {
-    assert_eq!(rt; set.len(), ids.len());
-    for byte in ids {
-        assert!(rt; set.contains(&Id([*byte; 32])), "{byte}");
-    }
-}
-
-/// Two lists, the messages of their session, and what it finds.
+/// How a session goes.
 #[derive(Clone, Copy)]
-struct Meeting<'a> {
+struct Course<'a> {
     mine: &'a [Item],
-    theirs: &'a [Item],
-    asked: &'a [u8],
-    answered: &'a [u8],
-    need: &'a [u8],
-    have: &'a [u8],
-}
-
-#[test]
-fn rolls_meet(rt: HostRuntime) -> Result<(), Fail> {
-    let alloc = rt.alloc();
-    let meetings = [
-        Meeting {
-            mine: &[],
-            theirs: &[],
-            asked: ASK_ALL,
-            answered: ASK_ALL,
-            need: &[],
-            have: &[],
-        },
-        Meeting {
-            mine: &[],
-            theirs: &[item(5, 0x01)],
-            asked: ASK_ALL,
-            answered: LISTS_ONE,
-            need: &[0x01],
-            have: &[],
-        },
-        Meeting {
-            mine: &[item(10, 0xaa), item(11, 0xbb)],
-            theirs: &[item(10, 0xaa), item(12, 0xcc)],
-            asked: ASKS_AA_BB,
-            answered: LISTS_AA_CC,
-            need: &[0xcc],
-            have: &[0xbb],
-        },
-    ];
-    for meeting in meetings {
-        let mine = Roll::from_items(alloc, meeting.mine)?;
-        let theirs = Roll::from_items(alloc, meeting.theirs)?;
-        let (outcome, peer) = meet(alloc, &mine, theirs, &SessionLimits::default())?;
-        is_set(&rt, &outcome.need, meeting.need);
-        is_set(&rt, &outcome.have, meeting.have);
-        assert!(rt; outcome.trusted.is_empty());
-        assert_eq!(rt; peer.pairs().len(), 1);
-        let pair = &peer.pairs()[0];
-        assert_eq!(rt; pair.asked.as_slice(), meeting.asked);
-        assert_eq!(rt; pair.answered.as_slice(), meeting.answered);
-        assert_eq!(rt; peer.failures(), 0);
-    }
-    Ok(())
-}
-
-#[test]
-fn limits_are_tested(rt: HostRuntime) -> Result<(), Fail> {
-    let alloc = rt.alloc();
-    let cases = [
-        (limits(4096, 0, 67_108_864), Some(SessionFault::NeedFull), 1),
-        (limits(4096, 1, 67_108_864), None, 1),
-        (limits(4096, 1, 36), Some(SessionFault::LogFull), 1),
-        (limits(4096, 1, 37), None, 1),
-        (limits(0, 1, 37), Some(SessionFault::Rounds), 0),
-        (limits(1, 1, 37), None, 1),
-    ];
-    for (limits, fault, pairs) in cases {
-        let mine = Roll::from_items(alloc, &[])?;
-        let theirs = Roll::from_items(alloc, &[item(5, 0x01)])?;
-        let mut peer = LocalPeer::new(alloc, theirs, 4096);
-        let ended = reconcile_with(alloc, &mut peer, &mine, &limits);
-        assert!(rt; ended.err() == fault, "{limits:?}");
-        assert_eq!(rt; peer.pairs().len(), pairs);
-        assert_eq!(rt; peer.failures(), 0);
-    }
-    Ok(())
-}
-
-/// What a peer answers, and how the session ends.
-#[derive(Clone, Copy)]
-struct Case<'a> {
-    mine: &'a [Item],
-    /// Its answers, in turn.
-    answers: &'a [&'a [u8]],
-    /// What comes after them: a fault, or else the last answer again.
-    then: Option<PeerFault>,
     limits: SessionLimits,
-    fault: SessionFault,
+    /// What is found, or the fault that ends it.
+    ended: Result<Found<'a>, SessionFault>,
     /// The questions that were answered.
     asked: &'a [&'a [u8]],
     failures: u64,
 }
 
-fn is_case(rt: &(impl AllocGlobal + Abort), case: &Case) -> Result<(), Fail> {
-    let alloc = rt.alloc();
-    let mine = Roll::from_items(alloc, case.mine)?;
-    let mut peer = Scripted::new(alloc, case.answers, case.then);
-    let ended = reconcile_with(alloc, &mut peer, &mine, &case.limits);
-    assert!(rt; ended.err() == Some(case.fault), "{:?}", case.fault);
-    assert_eq!(rt; peer.pairs().len(), case.asked.len(), "{:?}", case.fault);
-    for (pair, asked) in peer.pairs().iter().zip(case.asked) {
-        assert_eq!(rt; pair.asked.as_slice(), *asked);
+fn is_end(ended: Result<Outcome, SessionFault>, wanted: Result<Found, SessionFault>) -> bool {
+    match ended {
+        Ok(outcome) => match wanted {
+            Ok(found) => is_found(&outcome, found),
+            Err(_) => false,
+        },
+        Err(fault) => wanted.err() == Some(fault),
     }
-    assert_eq!(rt; peer.failures(), case.failures);
-    Ok(())
+}
+
+fn are_asked(pairs: &[Pair], asked: &[&[u8]]) -> bool {
+    for (pair, asked) in pairs.iter().zip(asked) {
+        if pair.asked.as_slice() != *asked {
+            return false;
+        }
+    }
+    pairs.len() == asked.len()
+}
+
+fn are_answered(pairs: &[Pair], answered: &[&[u8]]) -> bool {
+    for (pair, answered) in pairs.iter().zip(answered) {
+        if pair.answered.as_slice() != *answered {
+            return false;
+        }
+    }
+    pairs.len() == answered.len()
+}
+
+/// Whether a session with a peer goes so.
+fn goes<P: Peer>(alloc: Global, peer: &mut P, course: &Course) -> bool
+    requires { P.faults peer.old < 2 ^ 64 - 1 }
+{
+    let Ok(mine) = Roll::from_items(alloc, course.mine) else {
+        return false;
+    };
+    let ended = reconcile_with(alloc, peer, &mine, &course.limits);
+    is_end(ended, course.ended)
+        && are_asked(peer.pairs(), course.asked)
+        && peer.failures() == course.failures
+}
+
+/// Whether a session goes so with a roll of these items, which gives these answers of at most so many bytes.
+fn goes_with_roll(
+    alloc: Global,
+    theirs: &[Item],
+    limit: usize,
+    answered: &[&[u8]],
+    course: &Course,
+) -> bool
+    requires { 4096 ≤ limit }
+{
+    let Ok(theirs) = Roll::from_items(alloc, theirs) else {
+        return false;
+    };
+    let mut peer = LocalPeer::new(alloc, theirs, limit);
+    goes(alloc, &mut peer, course) && are_answered(peer.pairs(), answered)
+}
+
+/// Whether a session goes so with a peer that gives these answers, and then fails or repeats the last.
+fn goes_by_script(
+    alloc: Global,
+    answers: &[&[u8]],
+    then: Option<PeerFault>,
+    course: &Course,
+) -> bool {
+    goes(alloc, &mut Scripted::new(alloc, answers, then), course)
 }
 
 #[test]
-fn peers_that_repeat(rt: HostRuntime) -> Result<(), Fail> {
-    let case = Case {
+fn rolls_meet(rt: HostRuntime) {
+    let none = Course {
         mine: &[],
-        answers: &[PRINTS],
-        then: None,
+        limits: SessionLimits::default(),
+        ended: Ok(Found {
+            need: &[],
+            have: &[],
+            trusted: 0,
+        }),
+        asked: &[ASK_ALL],
+        failures: 0,
+    };
+    let one = Course {
+        ended: Ok(ONE_NEEDED),
+        ..none
+    };
+    let some = Course {
+        mine: &[item(10, 0xaa), item(11, 0xbb)],
+        ended: Ok(Found {
+            need: &[0xcc],
+            have: &[0xbb],
+            trusted: 0,
+        }),
+        asked: &[ASKS_AA_BB],
+        ..none
+    };
+    let meetings: [(&[Item], &[u8], Course); 3] = [
+        (&[], ASK_ALL, none),
+        (&[item(5, 0x01)], LISTS_ONE, one),
+        (&[item(10, 0xaa), item(12, 0xcc)], LISTS_AA_CC, some),
+    ];
+    for (theirs, answer, course) in meetings {
+        assert!(rt; goes_with_roll(rt.alloc(), theirs, 60_000, &[answer], &course));
+    }
+}
+
+#[test]
+fn limits_are_tested(rt: HostRuntime) {
+    let theirs = [item(5, 0x01)];
+    let cases = [
+        (limits(4096, 0, 67_108_864), Err(SessionFault::NeedFull)),
+        (limits(4096, 1, 67_108_864), Ok(ONE_NEEDED)),
+        (limits(4096, 1, 36), Err(SessionFault::LogFull)),
+        (limits(4096, 1, 37), Ok(ONE_NEEDED)),
+        (limits(1, 1, 37), Ok(ONE_NEEDED)),
+    ];
+    for (limits, ended) in cases {
+        let course = Course {
+            mine: &[],
+            limits,
+            ended,
+            asked: &[ASK_ALL],
+            failures: 0,
+        };
+        assert!(rt; goes_with_roll(rt.alloc(), &theirs, 4096, &[LISTS_ONE], &course));
+    }
+    let course = Course {
+        mine: &[],
+        limits: limits(0, 1, 37),
+        ended: Err(SessionFault::Rounds),
+        asked: &[],
+        failures: 0,
+    };
+    assert!(rt; goes_with_roll(rt.alloc(), &theirs, 4096, &[], &course));
+}
+
+#[test]
+fn peers_that_repeat(rt: HostRuntime) {
+    let course = Course {
+        mine: &[],
         limits: limits(3, 200_000, 67_108_864),
-        fault: SessionFault::Rounds,
+        ended: Err(SessionFault::Rounds),
         asked: &[ASK_ALL, ASK_ALL, ASK_ALL],
         failures: 0,
     };
-    is_case(&rt, &case)?;
-    let case = Case {
-        mine: &[item(10, 0xaa)],
-        answers: &[PRINTS],
-        then: None,
-        limits: limits(2, 200_000, 67_108_864),
-        fault: SessionFault::Rounds,
-        asked: &[ASKS_AA, ASKS_AA],
-        failures: 0,
-    };
-    is_case(&rt, &case)?;
-    let case = Case {
-        mine: &[],
-        answers: &[PRINTS],
-        then: None,
-        limits: limits(4096, 200_000, 59),
-        fault: SessionFault::LogFull,
-        asked: &[ASK_ALL, ASK_ALL, ASK_ALL],
-        failures: 0,
-    };
-    is_case(&rt, &case)?;
-    Ok(())
+    let courses = [
+        course,
+        Course {
+            mine: &[item(10, 0xaa)],
+            limits: limits(2, 200_000, 67_108_864),
+            asked: &[ASKS_AA, ASKS_AA],
+            ..course
+        },
+        Course {
+            limits: limits(4096, 200_000, 59),
+            ended: Err(SessionFault::LogFull),
+            ..course
+        },
+    ];
+    for course in courses {
+        assert!(rt; goes_by_script(rt.alloc(), &[PRINTS], None, &course));
+    }
 }
 
 #[test]
-fn peers_that_lie(rt: HostRuntime) -> Result<(), Fail> {
-    let case = Case {
+fn peers_that_lie(rt: HostRuntime) {
+    let course = Course {
         mine: &[],
-        answers: &[LISTS_AND_PRINTS],
-        then: None,
         limits: limits(3, 1, 67_108_864),
-        fault: SessionFault::Rounds,
+        ended: Err(SessionFault::Rounds),
         asked: &[ASK_ALL, ASKS_THE_REST, ASKS_THE_REST],
         failures: 0,
     };
-    is_case(&rt, &case)?;
-    let case = Case {
-        mine: &[],
-        answers: &[LISTS_AND_PRINTS, LISTS_TWO],
-        then: None,
+    assert!(rt; goes_by_script(rt.alloc(), &[LISTS_AND_PRINTS], None, &course));
+    let course = Course {
         limits: limits(4096, 2, 67_108_864),
-        fault: SessionFault::NeedFull,
+        ended: Err(SessionFault::NeedFull),
         asked: &[ASK_ALL, ASKS_THE_REST],
-        failures: 0,
+        ..course
     };
-    is_case(&rt, &case)?;
-    Ok(())
+    assert!(rt; goes_by_script(rt.alloc(), &[LISTS_AND_PRINTS, LISTS_TWO], None, &course));
 }
 
 #[test]
-fn peers_that_fail(rt: HostRuntime) -> Result<(), Fail> {
-    let most = limits(4096, 200_000, 67_108_864);
-    let case = Case {
+fn peers_that_fail(rt: HostRuntime) {
+    let course = Course {
         mine: &[],
-        answers: &[],
-        then: Some(PeerFault::Failed),
-        limits: most,
-        fault: SessionFault::PeerFailed,
+        limits: limits(4096, 200_000, 67_108_864),
+        ended: Err(SessionFault::PeerFailed),
         asked: &[],
         failures: 1,
     };
-    is_case(&rt, &case)?;
-    let case = Case {
-        mine: &[],
-        answers: &[PRINTS],
-        then: Some(PeerFault::Failed),
-        limits: most,
-        fault: SessionFault::PeerFailed,
+    assert!(rt; goes_by_script(rt.alloc(), &[], Some(PeerFault::Failed), &course));
+    let later = Course {
         asked: &[ASK_ALL],
-        failures: 1,
+        ..course
     };
-    is_case(&rt, &case)?;
-    let case = Case {
-        mine: &[],
-        answers: &[],
-        then: Some(PeerFault::Memory),
-        limits: most,
-        fault: SessionFault::Memory,
-        asked: &[],
+    assert!(rt; goes_by_script(rt.alloc(), &[PRINTS], Some(PeerFault::Failed), &later));
+    let memory = Course {
+        ended: Err(SessionFault::Memory),
         failures: 0,
+        ..course
     };
-    is_case(&rt, &case)?;
-    Ok(())
+    assert!(rt; goes_by_script(rt.alloc(), &[], Some(PeerFault::Memory), &memory));
 }
 
 #[test]
-fn answers_that_are_no_messages(rt: HostRuntime) -> Result<(), Fail> {
-    let cases = [
-        (&b""[..], CodecFault::Empty),
-        (&b"\x62"[..], CodecFault::Version(0x62)),
-        (&b"\xff\x00"[..], CodecFault::Version(0xff)),
-        (&b"\x61\x00\x00\x01"[..], CodecFault::Truncated(4)),
-        (&b"\x61\x05"[..], CodecFault::Varint(2)),
-        (&b"\x61\x00\x00\x03"[..], CodecFault::Mode(3)),
-        (&b"\x61\x00\x00\x00\x00"[..], CodecFault::AfterInfinity(4)),
+fn answers_that_are_no_messages(rt: HostRuntime) {
+    let cases: [(&[u8], CodecFault); 8] = [
+        (b"", CodecFault::Empty),
+        (b"\x62", CodecFault::Version(0x62)),
+        (b"\xff\x00", CodecFault::Version(0xff)),
+        (b"\x61\x00\x00\x01", CodecFault::Truncated(4)),
+        (b"\x61\x05", CodecFault::Varint(2)),
+        (b"\x61\x00\x00\x03", CodecFault::Mode(3)),
+        (b"\x61\x00\x00\x00\x00", CodecFault::AfterInfinity(4)),
         (
-            &b"\x61\x06\x01\x02\x00\x01\x01\x01\x00"[..],
+            b"\x61\x06\x01\x02\x00\x01\x01\x01\x00",
             CodecFault::Descending(5),
         ),
     ];
     for (answer, fault) in cases {
-        let case = Case {
+        let second = Course {
             mine: &[],
-            answers: &[PRINTS, answer],
-            then: None,
             limits: limits(4096, 200_000, 67_108_864),
-            fault: SessionFault::Bad(fault),
+            ended: Err(SessionFault::Bad(fault)),
             asked: &[ASK_ALL, ASK_ALL],
             failures: 0,
         };
-        is_case(&rt, &case)?;
-        let case = Case {
-            answers: &[answer],
+        let first = Course {
             asked: &[ASK_ALL],
-            ..case
+            ..second
         };
-        is_case(&rt, &case)?;
+        assert!(rt; goes_by_script(rt.alloc(), &[PRINTS, answer], None, &second));
+        assert!(rt; goes_by_script(rt.alloc(), &[answer], None, &first));
     }
-    Ok(())
 }
 
 #[test]
-fn a_roll_is_asked(rt: HostRuntime) -> Result<(), Fail> {
+fn a_roll_is_asked(rt: HostRuntime) {
     let alloc = rt.alloc();
-    let theirs = Roll::from_items(alloc, &[item(5, 0x01)])?;
+    let theirs = Roll::from_items(alloc, &[item(5, 0x01)]).expect(&rt, "memory");
     let mut peer = LocalPeer::new(alloc, theirs, 4096);
     assert!(rt; peer.ask(b"\x61\x05").err() == Some(PeerFault::Failed));
-    assert!(rt; peer.pairs().is_empty());
-    assert_eq!(rt; peer.failures(), 1);
-    let version = peer.ask(b"\x62\x00\x00\x02\x00")?;
-    assert_eq!(rt; version.as_slice(), b"\x61".as_slice());
-    let answer = peer.ask(ASK_ALL)?;
-    assert_eq!(rt; answer.as_slice(), LISTS_ONE);
-    assert_eq!(rt; peer.pairs().len(), 2);
-    let pair = &peer.pairs()[1];
-    assert_eq!(rt; pair.asked.as_slice(), ASK_ALL);
-    assert_eq!(rt; pair.answered.as_slice(), LISTS_ONE);
-    assert_eq!(rt; peer.failures(), 1);
-    Ok(())
+    assert!(rt; peer.pairs().is_empty() && peer.failures() == 1);
+    let version = peer.ask(b"\x62\x00\x00\x02\x00").expect(&rt, "an answer");
+    let answer = peer.ask(ASK_ALL).expect(&rt, "an answer");
+    assert!(rt; version.as_slice() == b"\x61".as_slice() && answer.as_slice() == LISTS_ONE);
+    assert!(rt;
+        are_asked(peer.pairs(), &[b"\x62\x00\x00\x02\x00", ASK_ALL])
+            && are_answered(peer.pairs(), &[b"\x61", LISTS_ONE])
+            && peer.failures() == 1
+    );
+}
+
+fn has_text(alloc: Global, fault: SessionFault, text: &str) -> bool {
+    match format!(in alloc; "{fault}") {
+        Ok(printed) => printed.as_str() == text,
+        Err(_) => false,
+    }
 }
 
 #[test]
-fn faults_have_numbers_and_texts(rt: HostRuntime) -> Result<(), Fail> {
-    let alloc = rt.alloc();
+fn faults_have_numbers_and_texts(rt: HostRuntime) {
     let faults = [
         (SessionFault::PeerFailed, 1, "the peer failed"),
         (
@@ -360,9 +337,10 @@ fn faults_have_numbers_and_texts(rt: HostRuntime) -> Result<(), Fail> {
         (SessionFault::Memory, 6, "out of memory"),
     ];
     for (fault, number, text) in faults {
-        assert_eq!(rt; fault.number(), number);
-        assert_eq!(rt; format!(in alloc; "{fault}")?.as_str(), text);
+        assert!(rt;
+            fault.number() == number && has_text(rt.alloc(), fault, text),
+            "{number}"
+        );
     }
-    assert_eq!(rt; SessionLimits::default(), limits(4096, 200_000, 67_108_864));
-    Ok(())
+    assert!(rt; SessionLimits::default() == limits(4096, 200_000, 67_108_864));
 }
