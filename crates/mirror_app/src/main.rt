@@ -3,8 +3,6 @@
 
 mod jobs;
 mod settled;
-#[cfg(test)]
-mod tests;
 mod usage;
 mod words;
 
