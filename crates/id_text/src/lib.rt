@@ -8,6 +8,3 @@ mod parsing;
 pub use digits::digits_of;
 pub use numbers::parse_number;
 pub use parsing::parse_id;
-
-#[cfg(test)]
-mod tests;

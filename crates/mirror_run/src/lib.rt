@@ -20,6 +20,3 @@ pub use placing::place_items;
 pub use recon::{reconcile, run_recon};
 pub use refusal::{LineFault, Refusal};
 pub use rolls::read_rolls;
-
-#[cfg(test)]
-mod tests;

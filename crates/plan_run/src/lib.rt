@@ -12,6 +12,3 @@ mod writing;
 pub use checking::{least_of, run_check};
 pub use laws::{faulty_lines_fail, faulty_texts_fail, least_texts_pass, planned_texts_pass};
 pub use planning::{plan_of, run_plan};
-
-#[cfg(test)]
-mod tests;

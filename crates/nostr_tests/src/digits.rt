@@ -1,6 +1,6 @@
 //! Ids and their digits.
 
-use crate::{digits_of, parse_id};
+use id_text::{digits_of, parse_id};
 use neg_codec::Id;
 use std::test::*;
 

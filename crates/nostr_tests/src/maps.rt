@@ -1,5 +1,6 @@
-//! Tests of the map.
-use crate::IdMap;
+//! Maps from ids to places.
+
+use id_map::IdMap;
 use neg_codec::Id;
 use std::process::Abort;
 use std::test::Fail;
