@@ -59,11 +59,14 @@ impl Write for Narrow {
     }
 }
 
-const LISTS: &str = "mine\n11 bbbbbbbbbbbbbbbbbbbbbbbbbbbbbbbbbbbbbbbbbbbbbbbbbbbbbbbbbbbbbbbb\ntheirs\n";
+const LISTS: &str =
+    "mine\n11 bbbbbbbbbbbbbbbbbbbbbbbbbbbbbbbbbbbbbbbbbbbbbbbbbbbbbbbbbbbbbbbb\ntheirs\n";
 
-const FOUND: &str = "ask 6100000201bbbbbbbbbbbbbbbbbbbbbbbbbbbbbbbbbbbbbbbbbbbbbbbbbbbbbbbbbbbbbbbb\nreply 6100000200\nneed 0\nhave 1\n- bbbbbbbbbbbbbbbbbbbbbbbbbbbbbbbbbbbbbbbbbbbbbbbbbbbbbbbbbbbbbbbb\ntrusted 0\n";
+const FOUND: &str =
+    "ask 6100000201bbbbbbbbbbbbbbbbbbbbbbbbbbbbbbbbbbbbbbbbbbbbbbbbbbbbbbbbbbbbbbbb\nreply 6100000200\nneed 0\nhave 1\n- bbbbbbbbbbbbbbbbbbbbbbbbbbbbbbbbbbbbbbbbbbbbbbbbbbbbbbbbbbbbbbbb\ntrusted 0\n";
 
-const PLAN: &str = "nostr-plan 1\noffer 0a0a0a0a0a0a0a0a0a0a0a0a0a0a0a0a0a0a0a0a0a0a0a0a0a0a0a0a0a0a0a0a 0\ngive 0a0a0a0a0a0a0a0a0a0a0a0a0a0a0a0a0a0a0a0a0a0a0a0a0a0a0a0a0a0a0a0a 0\ngroup 0\n";
+const PLAN: &str =
+    "nostr-plan 1\noffer 0a0a0a0a0a0a0a0a0a0a0a0a0a0a0a0a0a0a0a0a0a0a0a0a0a0a0a0a0a0a0a0a 0\ngive 0a0a0a0a0a0a0a0a0a0a0a0a0a0a0a0a0a0a0a0a0a0a0a0a0a0a0a0a0a0a0a0a 0\ngroup 0\n";
 
 /// A job, what it reads, and what it writes of that.
 #[derive(Clone, Copy)]
@@ -155,7 +158,10 @@ fn reads_and_writes_fail_in_turn(rt: HostRuntime) -> Result<(), Fail> {
 #[test]
 fn texts_of_refusals(rt: HostRuntime) -> Result<(), Fail> {
     for (refusal, want) in [
-        (Refusal::Line(1_000_002, LineFault::Full), "line 1000002: full"),
+        (
+            Refusal::Line(1_000_002, LineFault::Full),
+            "line 1000002: full",
+        ),
         (Refusal::Session(4), "session 4"),
         (Refusal::Memory, "memory"),
     ] {
