@@ -1,14 +1,12 @@
-ghost use Rattle.std.specs.Prelude.{◌≤◌};
-
 use crate::fixtures::{
-    ASK_ALL, ASKS_AA_BB, ASKS_THE_REST, Found, LISTS_AND_PRINTS, LISTS_ONE, is_found, item, line,
-    many,
+    ASK_ALL, ASKS_AA_BB, ASKS_THE_REST, Found, LISTS_AND_PRINTS, LISTS_ONE, Mine, is_found, line,
+    many, roll_of,
 };
 use item_roll::Roll;
 use neg_codec::{CodecFault, decode};
 use neg_initiator::{InitFault, Initiator, Next};
 use std::alloc::{AllocError, Global};
-use std::process::Abort;
+use std::test::Fail;
 
 /// Lists the ids 01..01 and 02..02.
 const LISTS_1_2: &[u8] =
@@ -34,17 +32,155 @@ enum Step<'a> {
 }
 
 /// How a session goes.
-#[derive(Clone, Copy)]
-struct Course<'a> {
+struct Course {
+    mine: Mine,
+    /// How long a message may be.
+    limit: usize,
     /// How many ids may be needed.
     most: usize,
     /// How long the first ask is, and how it begins.
-    asked: (usize, &'a [u8]),
+    asked: (usize, &'static [u8]),
     /// The replies, and what each leads to.
-    replies: &'a [(&'a [u8], Step<'a>)],
+    replies: &'static [(&'static [u8], Step<'static>)],
     /// What is found, where the session is done.
-    found: Option<Found<'a>>,
+    found: Option<Found<'static>>,
 }
+
+const NOTHING: Found = Found {
+    need: &[],
+    have: &[],
+    trusted: 0,
+};
+
+static COURSES: [Course; 10] = [
+    // Two empty lists. A session that is done takes no more.
+    Course {
+        mine: Mine::Line(0),
+        limit: 60_000,
+        most: 10,
+        asked: (5, ASK_ALL),
+        replies: &[
+            (ASK_ALL, Step::Done),
+            (b"\x61", Step::Refused(InitFault::Spent)),
+        ],
+        found: Some(NOTHING),
+    },
+    // Another version ends a session.
+    Course {
+        mine: Mine::Items(&[(1, 1, 1)]),
+        limit: 60_000,
+        most: 10,
+        asked: (37, LISTS_ONE),
+        replies: &[
+            (
+                b"\x62",
+                Step::Refused(InitFault::Bad(CodecFault::Version(0x62))),
+            ),
+            (b"\x61", Step::Refused(InitFault::Spent)),
+        ],
+        found: None,
+    },
+    // A fingerprint that differs is asked again.
+    Course {
+        mine: Mine::Line(0),
+        limit: 60_000,
+        most: 10,
+        asked: (5, ASK_ALL),
+        replies: &[
+            (LISTS_AND_PRINTS, Step::Asks(ASKS_THE_REST)),
+            (LISTS_1_2, Step::Done),
+        ],
+        found: Some(Found {
+            need: &[1, 2],
+            have: &[],
+            trusted: 0,
+        }),
+    },
+    // An id that is listed twice counts once.
+    Course {
+        mine: Mine::Items(&[(10, 0xaa, 0xaa), (11, 0xbb, 0xbb)]),
+        limit: 60_000,
+        most: 10,
+        asked: (69, ASKS_AA_BB),
+        replies: &[(LISTS_AA_CC_CC, Step::Done)],
+        found: Some(Found {
+            need: &[0xcc],
+            have: &[0xbb],
+            trusted: 0,
+        }),
+    },
+    // More ids are needed than may be.
+    Course {
+        mine: Mine::Line(0),
+        limit: 60_000,
+        most: 1,
+        asked: (5, ASK_ALL),
+        replies: &[
+            (LISTS_1_2, Step::Refused(InitFault::NeedFull)),
+            (b"\x61", Step::Refused(InitFault::Spent)),
+        ],
+        found: None,
+    },
+    // Ids to offer have no limit.
+    Course {
+        mine: Mine::Line(5),
+        limit: 60_000,
+        most: 0,
+        asked: (165, b"\x61\x00\x00\x02\x05"),
+        replies: &[(ASK_ALL, Step::Done)],
+        found: Some(Found {
+            need: &[],
+            have: &[0, 1, 2, 3, 4],
+            trusted: 0,
+        }),
+    },
+    // 31 items are listed, 33 are told by fingerprints.
+    Course {
+        mine: Mine::Line(31),
+        limit: 60_000,
+        most: 10,
+        asked: (997, b"\x61\x00\x00\x02\x1f"),
+        replies: &[],
+        found: None,
+    },
+    Course {
+        mine: Mine::Line(33),
+        limit: 60_000,
+        most: 10,
+        asked: (305, b"\x61\x04\x00\x01"),
+        replies: &[],
+        found: None,
+    },
+    // Fingerprints that are skipped are trusted.
+    Course {
+        mine: Mine::Line(32),
+        limit: 60_000,
+        most: 10,
+        asked: (305, b"\x61\x03\x00\x01"),
+        replies: &[(b"\x61", Step::Done)],
+        found: Some(Found {
+            need: &[],
+            have: &[],
+            trusted: 16,
+        }),
+    },
+    // A fingerprint that is repeated is trusted once.
+    Course {
+        mine: Mine::Line(0),
+        limit: 4_096,
+        most: 10,
+        asked: (5, ASK_ALL),
+        replies: &[
+            (SAME_AND_PRINTS, Step::Asks(ASKS_THE_REST)),
+            (SAME_AND_LISTS, Step::Done),
+        ],
+        found: Some(Found {
+            need: &[],
+            have: &[],
+            trusted: 1,
+        }),
+    },
+];
 
 fn leads_to(session: &mut Initiator, reply: &[u8], step: Step) -> bool {
     match session.take(reply) {
@@ -65,11 +201,12 @@ fn ends_with(session: Initiator, found: Option<Found>) -> bool {
     }
 }
 
-/// Whether a session over the roll, with messages of at most so many bytes, goes so.
-fn goes(alloc: Global, roll: &Roll, limit: usize, course: &Course) -> bool
-    requires { 4096 ≤ limit }
-{
-    let Ok((mut session, ask)) = Initiator::start(alloc, roll, limit, course.most) else {
+/// Whether a session over a roll goes so.
+fn goes_over(alloc: Global, roll: &Roll, course: &Course) -> bool {
+    if course.limit < 4_096 {
+        return false;
+    }
+    let Ok((mut session, ask)) = Initiator::start(alloc, roll, course.limit, course.most) else {
         return false;
     };
     if session.is_done() || ask.len() != course.asked.0 || !ask.starts_with(course.asked.1) {
@@ -83,6 +220,21 @@ fn goes(alloc: Global, roll: &Roll, limit: usize, course: &Course) -> bool
     ends_with(session, course.found)
 }
 
+fn goes(alloc: Global, course: &Course) -> bool {
+    match roll_of(alloc, course.mine) {
+        Ok(roll) => goes_over(alloc, &roll, course),
+        Err(_) => false,
+    }
+}
+
+#[test]
+fn sessions_go(rt: HostRuntime) -> Result<(), Fail> {
+    for (place, course) in COURSES.iter().enumerate() {
+        assert!(rt; goes(rt.alloc(), course), "{place}");
+    }
+    Ok(())
+}
+
 /// The ask after a reply, if there is one, in a session with messages of at most 4,096 bytes.
 fn second_ask(alloc: Global, roll: &Roll, reply: &[u8]) -> Result<Option<Vec<u8>>, InitFault> {
     let (mut session, _) = Initiator::start(alloc, roll, 4_096, 1_000)?;
@@ -90,165 +242,6 @@ fn second_ask(alloc: Global, roll: &Roll, reply: &[u8]) -> Result<Option<Vec<u8>
         Next::Ask(ask) => Ok(Some(ask)),
         Next::Done => Ok(None),
     }
-}
-
-#[test]
-fn empty_lists(rt: HostRuntime) {
-    let course = Course {
-        most: 10,
-        asked: (5, ASK_ALL),
-        replies: &[
-            (ASK_ALL, Step::Done),
-            (b"\x61", Step::Refused(InitFault::Spent)),
-        ],
-        found: Some(Found {
-            need: &[],
-            have: &[],
-            trusted: 0,
-        }),
-    };
-    let roll = line(rt.alloc(), 0).expect(&rt, "memory");
-    assert!(rt; goes(rt.alloc(), &roll, 60_000, &course));
-}
-
-#[test]
-fn another_version_ends_a_session(rt: HostRuntime) {
-    let roll = Roll::from_items(rt.alloc(), &[item(1, 1)]).expect(&rt, "memory");
-    let course = Course {
-        most: 10,
-        asked: (37, LISTS_ONE),
-        replies: &[
-            (
-                b"\x62",
-                Step::Refused(InitFault::Bad(CodecFault::Version(0x62))),
-            ),
-            (b"\x61", Step::Refused(InitFault::Spent)),
-        ],
-        found: None,
-    };
-    assert!(rt; goes(rt.alloc(), &roll, 60_000, &course));
-}
-
-#[test]
-fn a_fingerprint_that_differs_is_asked_again(rt: HostRuntime) {
-    let course = Course {
-        most: 10,
-        asked: (5, ASK_ALL),
-        replies: &[
-            (LISTS_AND_PRINTS, Step::Asks(ASKS_THE_REST)),
-            (LISTS_1_2, Step::Done),
-        ],
-        found: Some(Found {
-            need: &[1, 2],
-            have: &[],
-            trusted: 0,
-        }),
-    };
-    let roll = line(rt.alloc(), 0).expect(&rt, "memory");
-    assert!(rt; goes(rt.alloc(), &roll, 60_000, &course));
-}
-
-#[test]
-fn found(rt: HostRuntime) {
-    let roll = Roll::from_items(rt.alloc(), &[item(10, 0xaa), item(11, 0xbb)]).expect(
-        &rt, "memory",
-    );
-    let course = Course {
-        most: 10,
-        asked: (69, ASKS_AA_BB),
-        // An id that is listed twice counts once.
-        replies: &[(LISTS_AA_CC_CC, Step::Done)],
-        found: Some(Found {
-            need: &[0xcc],
-            have: &[0xbb],
-            trusted: 0,
-        }),
-    };
-    assert!(rt; goes(rt.alloc(), &roll, 60_000, &course));
-}
-
-#[test]
-fn too_many_needed(rt: HostRuntime) {
-    let course = Course {
-        most: 1,
-        asked: (5, ASK_ALL),
-        replies: &[
-            (LISTS_1_2, Step::Refused(InitFault::NeedFull)),
-            (b"\x61", Step::Refused(InitFault::Spent)),
-        ],
-        found: None,
-    };
-    let roll = line(rt.alloc(), 0).expect(&rt, "memory");
-    assert!(rt; goes(rt.alloc(), &roll, 60_000, &course));
-}
-
-#[test]
-fn ids_to_offer_have_no_limit(rt: HostRuntime) {
-    let course = Course {
-        most: 0,
-        asked: (165, b"\x61\x00\x00\x02\x05"),
-        replies: &[(ASK_ALL, Step::Done)],
-        found: Some(Found {
-            need: &[],
-            have: &[0, 1, 2, 3, 4],
-            trusted: 0,
-        }),
-    };
-    let roll = line(rt.alloc(), 5).expect(&rt, "memory");
-    assert!(rt; goes(rt.alloc(), &roll, 60_000, &course));
-}
-
-#[test]
-fn first_asks(rt: HostRuntime) {
-    let cases: [(u8, usize, &[u8]); 2] = [
-        (31, 997, b"\x61\x00\x00\x02\x1f"),
-        (33, 305, b"\x61\x04\x00\x01"),
-    ];
-    for (count, len, front) in cases {
-        let course = Course {
-            most: 10,
-            asked: (len, front),
-            replies: &[],
-            found: None,
-        };
-        let roll = line(rt.alloc(), count).expect(&rt, "memory");
-        assert!(rt; goes(rt.alloc(), &roll, 60_000, &course));
-    }
-}
-
-#[test]
-fn skipped_fingerprints_are_trusted(rt: HostRuntime) {
-    let course = Course {
-        most: 10,
-        asked: (305, b"\x61\x03\x00\x01"),
-        replies: &[(b"\x61", Step::Done)],
-        found: Some(Found {
-            need: &[],
-            have: &[],
-            trusted: 16,
-        }),
-    };
-    let roll = line(rt.alloc(), 32).expect(&rt, "memory");
-    assert!(rt; goes(rt.alloc(), &roll, 60_000, &course));
-}
-
-#[test]
-fn a_fingerprint_that_is_repeated_is_trusted_once(rt: HostRuntime) {
-    let course = Course {
-        most: 10,
-        asked: (5, ASK_ALL),
-        replies: &[
-            (SAME_AND_PRINTS, Step::Asks(ASKS_THE_REST)),
-            (SAME_AND_LISTS, Step::Done),
-        ],
-        found: Some(Found {
-            need: &[],
-            have: &[],
-            trusted: 1,
-        }),
-    };
-    let roll = line(rt.alloc(), 0).expect(&rt, "memory");
-    assert!(rt; goes(rt.alloc(), &roll, 4_096, &course));
 }
 
 /// The first part of a long list of ids, as another side answers that keeps within 4,096 bytes.
@@ -278,19 +271,12 @@ fn asks_to_the_limit(alloc: Global, roll: &Roll, reply: &[u8]) -> bool {
     }
 }
 
-#[test]
-fn asks_within_the_limit(rt: HostRuntime) {
-    // Each of 400 stretches of one item is asked again: the ask is cut.
-    let reply = four_hundred_prints(rt.alloc()).expect(&rt, "memory");
-    let roll = many(rt.alloc()).expect(&rt, "memory");
-    let course = Course {
-        most: 1_000,
-        asked: (305, b"\x61"),
-        replies: &[],
-        found: None,
-    };
-    assert!(rt; goes(rt.alloc(), &roll, 4_096, &course));
-    assert!(rt; asks_to_the_limit(rt.alloc(), &roll, &reply));
+/// Whether each of 400 stretches of one item is asked again, in an ask that is cut.
+fn cuts_its_ask(alloc: Global) -> Option<bool> {
+    let reply = four_hundred_prints(alloc).ok()?;
+    let roll = many(alloc).ok()?;
+    let (session, ask) = Initiator::start(alloc, &roll, 4_096, 1_000).ok()?;
+    Some(!session.is_done() && ask.len() == 305 && asks_to_the_limit(alloc, &roll, &reply))
 }
 
 /// Whether a session with a roll, with messages of at most 4,096 bytes, takes a step.
@@ -299,14 +285,6 @@ fn steps(alloc: Global, roll: &Roll, reply: &[u8], step: Step) -> bool {
         Ok((mut session, _)) => leads_to(&mut session, reply, step),
         Err(_) => false,
     }
-}
-
-#[test]
-fn a_list_that_goes_on(rt: HostRuntime) {
-    let reply = first_part(rt.alloc()).expect(&rt, "memory");
-    let roll = line(rt.alloc(), 0).expect(&rt, "memory");
-    let next = Step::Asks(b"\x61\x7d\x00\x00\x00\x00\x02\x00");
-    assert!(rt; steps(rt.alloc(), &roll, &reply, next));
 }
 
 /// Whether a reply is taken where it is a message, and else ends the session for the reader's fault.
@@ -323,28 +301,35 @@ fn is_judged(alloc: Global, roll: &Roll, reply: &[u8]) -> bool {
     }
 }
 
-/// The first length at which a part of a reply is judged otherwise.
-fn first_misjudged(alloc: Global, roll: &Roll, whole: &[u8]) -> Option<usize> {
+/// Replies with ranges out of their places.
+static MISPLACED: [&[u8]; 4] = [
+    b"\x61\x00\x00\x00\x00",
+    b"\x61\x06\x01\x02\x00\x01\x01\x01\x00",
+    b"\x61\x06\x01\x02\x00\x01\x01\x02\x00",
+    b"\x61\x00\x01\xff\x00",
+];
+
+/// Whether a list that goes on is asked for its rest, and each of its beginnings and each misplaced reply is judged.
+fn judges_all(alloc: Global) -> Option<bool> {
+    let whole = first_part(alloc).ok()?;
+    let roll = line(alloc, 0).ok()?;
+    let next = Step::Asks(b"\x61\x7d\x00\x00\x00\x00\x02\x00");
     for (len, _) in whole.iter().enumerate() {
-        if !is_judged(alloc, roll, &whole[..len]) {
-            return Some(len);
+        if !is_judged(alloc, &roll, &whole[..len]) {
+            return Some(false);
         }
     }
-    None
+    for reply in MISPLACED {
+        if !is_judged(alloc, &roll, reply) {
+            return Some(false);
+        }
+    }
+    Some(steps(alloc, &roll, &whole, next))
 }
 
 #[test]
-fn replies_that_are_cut_off(rt: HostRuntime) {
-    let whole = first_part(rt.alloc()).expect(&rt, "memory");
-    let roll = line(rt.alloc(), 0).expect(&rt, "memory");
-    assert_eq!(rt; first_misjudged(rt.alloc(), &roll, &whole), None);
-    let others: [&[u8]; 4] = [
-        b"\x61\x00\x00\x00\x00",
-        b"\x61\x06\x01\x02\x00\x01\x01\x01\x00",
-        b"\x61\x06\x01\x02\x00\x01\x01\x02\x00",
-        b"\x61\x00\x01\xff\x00",
-    ];
-    for reply in others {
-        assert!(rt; is_judged(rt.alloc(), &roll, reply), "{reply:?}");
-    }
+fn long_replies(rt: HostRuntime) -> Result<(), Fail> {
+    assert!(rt; cuts_its_ask(rt.alloc()) == Some(true));
+    assert!(rt; judges_all(rt.alloc()) == Some(true));
+    Ok(())
 }

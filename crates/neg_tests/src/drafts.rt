@@ -5,7 +5,6 @@ use item_roll::Roll;
 use neg_codec::{Bound, Message, Payload, Range, encode};
 use neg_draft::{Draft, is_own_print};
 use std::alloc::{AllocError, Global};
-use std::process::Abort;
 use std::test::*;
 
 /// How a stretch is told.
@@ -85,9 +84,8 @@ fn tells(
     }
 }
 
-#[test]
-fn a_message_from_front_to_back(rt: HostRuntime) {
-    let roll = line(rt.alloc(), 40).expect(&rt, "memory");
+/// Whether a message is written from front to back, where what is skipped at its end isn't.
+fn writes_forward(alloc: Global, roll: &Roll) -> bool {
     let parts = [
         (Part::Skip, 3, 3),
         (Part::Skip, 5, 5),
@@ -102,7 +100,7 @@ fn a_message_from_front_to_back(rt: HostRuntime) {
         (upto(10), Told::Skip),
         (upto(12), Told::Ids(&[10, 11])),
     ];
-    assert!(rt; tells(rt.alloc(), &roll, &parts, &expected));
+    tells(alloc, roll, &parts, &expected) && tells(alloc, roll, &[(Part::Skip, END, END)], &[])
 }
 
 /// What a range of a message that is cut says: of ids how many.
@@ -151,46 +149,32 @@ fn claims(
     }
 }
 
-#[test]
-fn a_message_that_is_cut(rt: HostRuntime) {
-    let roll = many(rt.alloc()).expect(&rt, "memory");
-    // (what is skipped and told, the ranges then)
-    let cases: [(&[(Part, u32, u32)], &[(u32, Claim)]); 5] = [
-        // 124 ids fit, and 122 behind a Skip
-        (
-            &[(Part::Ids, 400, END)],
-            &[(124, Claim::Ids(124)), (END, Claim::Print)],
-        ),
-        (
-            &[(Part::Skip, 124, 124), (Part::Ids, 400, END)],
-            &[
-                (124, Claim::Skip),
-                (246, Claim::Ids(122)),
-                (END, Claim::Print),
-            ],
-        ),
-        // just as many as fit
-        (&[(Part::Ids, 124, 124)], &[(124, Claim::Ids(124))]),
-        (
-            &[(Part::Ids, 125, END)],
-            &[(124, Claim::Ids(124)), (END, Claim::Print)],
-        ),
-        (
-            &[(Part::Skip, 368, 368), (Part::Ids, 400, 400)],
-            &[(368, Claim::Skip), (400, Claim::Ids(32))],
-        ),
-    ];
-    for (parts, expected) in cases {
-        assert!(rt; claims(rt.alloc(), &roll, parts, expected));
-    }
-}
-
-#[test]
-fn nothing_told(rt: HostRuntime) {
-    let roll = line(rt.alloc(), 0).expect(&rt, "memory");
-    let parts = [(Part::Skip, END, END)];
-    assert!(rt; tells(rt.alloc(), &roll, &parts, &[]));
-}
+/// What is skipped and told, and the ranges then.
+static CUT: [(&[(Part, u32, u32)], &[(u32, Claim)]); 5] = [
+    // 124 ids fit, and 122 behind a Skip
+    (
+        &[(Part::Ids, 400, END)],
+        &[(124, Claim::Ids(124)), (END, Claim::Print)],
+    ),
+    (
+        &[(Part::Skip, 124, 124), (Part::Ids, 400, END)],
+        &[
+            (124, Claim::Skip),
+            (246, Claim::Ids(122)),
+            (END, Claim::Print),
+        ],
+    ),
+    // just as many as fit
+    (&[(Part::Ids, 124, 124)], &[(124, Claim::Ids(124))]),
+    (
+        &[(Part::Ids, 125, END)],
+        &[(124, Claim::Ids(124)), (END, Claim::Print)],
+    ),
+    (
+        &[(Part::Skip, 368, 368), (Part::Ids, 400, 400)],
+        &[(368, Claim::Skip), (400, Claim::Ids(32))],
+    ),
+];
 
 /// Whether the split of the whole is sixteen fingerprints, each up to a time, and the last up to infinity.
 fn tells_prints(alloc: Global, roll: &Roll, times: &[u32; 15], prints: &[&[u8; 16]; 16]) -> bool {
@@ -201,9 +185,8 @@ fn tells_prints(alloc: Global, roll: &Roll, times: &[u32; 15], prints: &[&[u8; 1
     }
 }
 
-#[test]
-fn sixteen_fingerprints(rt: HostRuntime) {
-    let roll = line(rt.alloc(), 40).expect(&rt, "memory");
+/// Whether 40 items are told by sixteen fingerprints.
+fn tells_sixteen(alloc: Global, roll: &Roll) -> bool {
     let times = [3, 6, 9, 12, 15, 18, 21, 24, 26, 28, 30, 32, 34, 36, 38];
     let prints = [
         b"\xc2\x05\x5e\x4b\x53\x3b\x89\x74\x50\xa2\xf7\xab\xc1\x4a\x36\x88",
@@ -223,7 +206,7 @@ fn sixteen_fingerprints(rt: HostRuntime) {
         b"\x16\xd3\x26\xae\x01\xc5\x3d\xb8\x9e\x5e\xcd\x79\xd9\x6a\xa0\x42",
         b"\x3c\xe0\x89\x0e\x0e\x3b\x24\xcb\x66\x29\x49\x52\x68\xf0\x52\x99",
     ];
-    assert!(rt; tells_prints(rt.alloc(), &roll, &times, &prints));
+    tells_prints(alloc, roll, &times, &prints)
 }
 
 /// Whether a fingerprint is the roll's own between two times, where they don't descend.
@@ -235,21 +218,30 @@ fn is_own(roll: &Roll, from: u32, to: u32, print: &[u8; 16]) -> Option<bool> {
     Some(is_own_print(roll, &lower, &upper, print))
 }
 
-#[test]
-fn own_fingerprints(rt: HostRuntime) {
-    let roll = line(rt.alloc(), 40).expect(&rt, "memory");
+/// Whether fingerprints of 40 items are known as own ones, and others not.
+fn knows_its_own(roll: &Roll) -> bool {
     let of_two = b"\x7f\x2d\xa0\x89\xf1\xf5\x29\xe2\x16\x95\x15\x8e\x4a\x2d\x6f\x43";
     let of_none = b"\x7f\x9c\x9e\x31\xac\x82\x56\xca\x2f\x25\x85\x83\xdf\x26\x2d\xbc";
-    let cases = [
-        (5, 7, of_two, true),
-        (5, 8, of_two, false),
-        (4, 7, of_two, false),
-        (5, 5, of_none, true),
-    ];
-    for (from, to, print, expected) in cases {
-        assert!(rt;
-            is_own(&roll, from, to, print) == Some(expected),
-            "{from} {to}"
-        );
+    is_own(roll, 5, 7, of_two) == Some(true)
+        && is_own(roll, 5, 8, of_two) == Some(false)
+        && is_own(roll, 4, 7, of_two) == Some(false)
+        && is_own(roll, 5, 5, of_none) == Some(true)
+}
+
+#[test]
+fn messages_are_drafted(rt: HostRuntime) -> Result<(), Fail> {
+    let roll = line(rt.alloc(), 40)?;
+    assert!(rt; writes_forward(rt.alloc(), &roll));
+    assert!(rt; tells_sixteen(rt.alloc(), &roll));
+    assert!(rt; knows_its_own(&roll));
+    Ok(())
+}
+
+#[test]
+fn messages_are_cut(rt: HostRuntime) -> Result<(), Fail> {
+    let roll = many(rt.alloc())?;
+    for (place, (parts, expected)) in CUT.iter().enumerate() {
+        assert!(rt; claims(rt.alloc(), &roll, parts, expected), "{place}");
     }
+    Ok(())
 }

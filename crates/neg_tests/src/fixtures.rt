@@ -50,9 +50,35 @@ fn numbered(alloc: Global, count: u8) -> Result<Vec<Item>, AllocError> {
     Ok(items)
 }
 
+/// The items of a roll.
+#[derive(Clone, Copy)]
+pub enum Mine {
+    /// So many numbered items.
+    Line(u8),
+    /// Items by their times, the byte that their ids have 31 times, and the last byte of these.
+    Items(&'static [(u64, u8, u8)]),
+}
+
+fn items_of(alloc: Global, mine: Mine) -> Result<Vec<Item>, AllocError> {
+    let items = match mine {
+        Mine::Line(count) => return numbered(alloc, count),
+        Mine::Items(items) => items,
+    };
+    let mut all = Vec::new(alloc);
+    for (time, byte, last) in items {
+        all.push(item_ending(*time, *byte, *last))?;
+    }
+    Ok(all)
+}
+
+/// The roll of these items.
+pub fn roll_of(alloc: Global, mine: Mine) -> Result<Roll, RollFault> {
+    Roll::from_items(alloc, &items_of(alloc, mine)?)
+}
+
 /// So many items: at each time from 0 on one, whose id is that byte 32 times.
 pub fn line(alloc: Global, count: u8) -> Result<Roll, RollFault> {
-    Roll::from_items(alloc, &numbered(alloc, count)?)
+    roll_of(alloc, Mine::Line(count))
 }
 
 fn many_items(alloc: Global) -> Result<Vec<Item>, AllocError> {

@@ -1,7 +1,6 @@
 use crate::fixtures::{Told, are_told, at};
 use neg_codec::{Bound, CodecFault, Id, Item, Key, Message, Payload, Range, decode, encode};
 use std::alloc::{AllocError, Global};
-use std::process::Abort;
 use std::test::*;
 
 fn payload(alloc: Global, told: Told) -> Result<Payload, AllocError> {
@@ -76,40 +75,33 @@ fn at_last(time: u32) -> Bound {
     Bound::At(Key::new(u64::from(time), Id(id)))
 }
 
-#[test]
-fn messages_are_written_and_read(rt: HostRuntime) {
-    let alloc = rt.alloc();
+/// Whether messages of one kind of range each are written and read.
+fn are_both(alloc: Global) -> bool {
     let top = Bound::At(Key::new(u64::MAX - 1, Id([0; 32])));
-    assert!(rt; is_both(alloc, &[], b"\x61"));
-    assert!(rt; is_both(alloc, &[(at(5, [0; 3]), Told::Skip)], b"\x61\x06\x00\x00"));
-    assert!(rt;
-        is_both(
+    is_both(alloc, &[], b"\x61")
+        && is_both(alloc, &[(at(5, [0; 3]), Told::Skip)], b"\x61\x06\x00\x00")
+        && is_both(
             alloc,
             &[(top, Told::Skip)],
-            b"\x61\x81\xff\xff\xff\xff\xff\xff\xff\xff\x7f\x00\x00"
+            b"\x61\x81\xff\xff\xff\xff\xff\xff\xff\xff\x7f\x00\x00",
         )
-    );
-    assert!(rt;
-        is_both(
+        && is_both(
             alloc,
             &[(Bound::Infinite, Told::Ids(&[1]))],
-            b"\x61\x00\x00\x02\x01\x01\x01\x01\x01\x01\x01\x01\x01\x01\x01\x01\x01\x01\x01\x01\x01\x01\x01\x01\x01\x01\x01\x01\x01\x01\x01\x01\x01\x01\x01\x01\x01"
+            b"\x61\x00\x00\x02\x01\x01\x01\x01\x01\x01\x01\x01\x01\x01\x01\x01\x01\x01\x01\x01\x01\x01\x01\x01\x01\x01\x01\x01\x01\x01\x01\x01\x01\x01\x01\x01\x01",
         )
-    );
-    assert!(rt;
-        is_both(
+        && is_both(
             alloc,
             &[
                 (at_last(0), Told::Skip),
-                (at_last(1_700_000_000), Told::Skip)
+                (at_last(1_700_000_000), Told::Skip),
             ],
-            b"\x61\x01\x20\x00\x00\x00\x00\x00\x00\x00\x00\x00\x00\x00\x00\x00\x00\x00\x00\x00\x00\x00\x00\x00\x00\x00\x00\x00\x00\x00\x00\x00\x00\x00\x80\x00\x86\xaa\xcf\xe2\x01\x20\x00\x00\x00\x00\x00\x00\x00\x00\x00\x00\x00\x00\x00\x00\x00\x00\x00\x00\x00\x00\x00\x00\x00\x00\x00\x00\x00\x00\x00\x00\x00\x80\x00"
+            b"\x61\x01\x20\x00\x00\x00\x00\x00\x00\x00\x00\x00\x00\x00\x00\x00\x00\x00\x00\x00\x00\x00\x00\x00\x00\x00\x00\x00\x00\x00\x00\x00\x00\x00\x80\x00\x86\xaa\xcf\xe2\x01\x20\x00\x00\x00\x00\x00\x00\x00\x00\x00\x00\x00\x00\x00\x00\x00\x00\x00\x00\x00\x00\x00\x00\x00\x00\x00\x00\x00\x00\x00\x00\x00\x80\x00",
         )
-    );
 }
 
-#[test]
-fn all_payloads(rt: HostRuntime) {
+/// Whether a message with all payloads is written and read.
+fn has_all_payloads(alloc: Global) -> bool {
     let print = [0, 1, 2, 3, 4, 5, 6, 7, 8, 9, 10, 11, 12, 13, 14, 15];
     let told = [
         (at(10, [0xaa, 0, 0xab]), Told::Print(&print)),
@@ -119,83 +111,96 @@ fn all_payloads(rt: HostRuntime) {
     ];
     let bytes =
         b"\x61\x0b\x03\xaa\x00\xab\x01\x00\x01\x02\x03\x04\x05\x06\x07\x08\x09\x0a\x0b\x0c\x0d\x0e\x0f\x01\x20\xbb\xbb\xbb\xbb\xbb\xbb\xbb\xbb\xbb\xbb\xbb\xbb\xbb\xbb\xbb\xbb\xbb\xbb\xbb\xbb\xbb\xbb\xbb\xbb\xbb\xbb\xbb\xbb\xbb\xbb\xbb\xbb\x00\x81\x80\x01\x00\x02\x00\x00\x00\x02\x02\x07\x07\x07\x07\x07\x07\x07\x07\x07\x07\x07\x07\x07\x07\x07\x07\x07\x07\x07\x07\x07\x07\x07\x07\x07\x07\x07\x07\x07\x07\x07\x07\x09\x09\x09\x09\x09\x09\x09\x09\x09\x09\x09\x09\x09\x09\x09\x09\x09\x09\x09\x09\x09\x09\x09\x09\x09\x09\x09\x09\x09\x09\x09\x09";
-    assert!(rt; is_both(rt.alloc(), &told, bytes));
+    is_both(alloc, &told, bytes)
+}
+
+/// Whether bounds that are equal, or have id bytes at infinity, are read.
+fn reads_other_spellings(alloc: Global) -> bool {
+    let twice = [
+        (at(5, [2, 0, 0]), Told::Skip),
+        (at(5, [2, 0, 0]), Told::Skip),
+    ];
+    is_read(alloc, &twice, b"\x61\x06\x01\x02\x00\x01\x01\x02\x00")
+        && is_read(
+            alloc,
+            &[(Bound::Infinite, Told::Skip)],
+            b"\x61\x00\x01\xff\x00",
+        )
 }
 
 #[test]
-fn other_spellings(rt: HostRuntime) {
-    let cases: [(&[(Bound, Told)], &[u8]); 2] = [
-        (
-            &[
-                (at(5, [2, 0, 0]), Told::Skip),
-                (at(5, [2, 0, 0]), Told::Skip),
-            ],
-            b"\x61\x06\x01\x02\x00\x01\x01\x02\x00",
-        ),
-        (&[(Bound::Infinite, Told::Skip)], b"\x61\x00\x01\xff\x00"),
-    ];
-    for (told, bytes) in cases {
-        assert!(rt; is_read(rt.alloc(), told, bytes));
-    }
+fn messages_are_written_and_read(rt: HostRuntime) -> Result<(), Fail> {
+    assert!(rt; are_both(rt.alloc()));
+    assert!(rt; has_all_payloads(rt.alloc()));
+    assert!(rt; reads_other_spellings(rt.alloc()));
+    Ok(())
 }
 
 fn refusal(alloc: Global, bytes: &[u8]) -> Option<CodecFault> {
     decode(alloc, bytes).err()
 }
 
-#[test]
-fn faults(rt: HostRuntime) {
-    let cases: [(&[u8], CodecFault); 10] = [
-        (
-            b"\x61\x02\x00\x00\x81\xff\xff\xff\xff\xff\xff\xff\xff\x7f\x00\x00",
-            CodecFault::TimeTooLarge(4),
-        ),
-        (b"\x61\x00\x00\x00\x00", CodecFault::AfterInfinity(4)),
-        (
-            b"\x61\x06\x01\x02\x00\x01\x01\x01\x00",
-            CodecFault::Descending(5),
-        ),
-        (b"\x61\x05", CodecFault::Varint(2)),
-        (b"\x62", CodecFault::Version(0x62)),
-        (b"\x61\x00\x00\x03", CodecFault::Mode(3)),
-        (b"\x61\x00\x21\x00", CodecFault::PrefixLength(2)),
-        (b"\x61\x80\x00", CodecFault::Varint(1)),
-        (b"\x61\x00\x00\x01\x00", CodecFault::Truncated(4)),
-        (b"\x61\x01\x02\xff", CodecFault::Truncated(3)),
-    ];
-    for (bytes, fault) in cases {
-        assert!(rt; refusal(rt.alloc(), bytes) == Some(fault));
-    }
+static FAULTS: [(&[u8], CodecFault); 10] = [
+    (
+        b"\x61\x02\x00\x00\x81\xff\xff\xff\xff\xff\xff\xff\xff\x7f\x00\x00",
+        CodecFault::TimeTooLarge(4),
+    ),
+    (b"\x61\x00\x00\x00\x00", CodecFault::AfterInfinity(4)),
+    (
+        b"\x61\x06\x01\x02\x00\x01\x01\x01\x00",
+        CodecFault::Descending(5),
+    ),
+    (b"\x61\x05", CodecFault::Varint(2)),
+    (b"\x62", CodecFault::Version(0x62)),
+    (b"\x61\x00\x00\x03", CodecFault::Mode(3)),
+    (b"\x61\x00\x21\x00", CodecFault::PrefixLength(2)),
+    (b"\x61\x80\x00", CodecFault::Varint(1)),
+    (b"\x61\x00\x00\x01\x00", CodecFault::Truncated(4)),
+    (b"\x61\x01\x02\xff", CodecFault::Truncated(3)),
+];
+
+/// Whether a message of 1,048,577 bytes is too long, and one of a byte less isn't.
+fn takes_the_longest(alloc: Global) -> Option<bool> {
+    let long = vec![in alloc; 0x61; 1_048_577].ok()?;
+    let is_too_long = refusal(alloc, &long) == Some(CodecFault::TooLong);
+    let [_, rest @ ..] = long.as_slice() else {
+        return None;
+    };
+    Some(is_too_long && refusal(alloc, rest) == Some(CodecFault::PrefixLength(2)))
 }
 
-#[test]
-fn the_longest_message(rt: HostRuntime) {
-    let long = vec![in rt.alloc(); 0x61; 1_048_577].expect(&rt, "memory");
-    assert!(rt; refusal(rt.alloc(), &long) == Some(CodecFault::TooLong));
-    assert!(rt;
-        long.len() == 1_048_577
-            && refusal(rt.alloc(), &long[1..]) == Some(CodecFault::PrefixLength(2))
-    );
-}
+/// A message of one list, of the id 01..01.
+const ONE_ID: &[u8] =
+    b"\x61\x06\x00\x02\x01\x01\x01\x01\x01\x01\x01\x01\x01\x01\x01\x01\x01\x01\x01\x01\x01\x01\x01\x01\x01\x01\x01\x01\x01\x01\x01\x01\x01\x01\x01\x01\x01";
 
-#[test]
-fn a_cut_message(rt: HostRuntime) {
-    let whole =
-        b"\x61\x06\x00\x02\x01\x01\x01\x01\x01\x01\x01\x01\x01\x01\x01\x01\x01\x01\x01\x01\x01\x01\x01\x01\x01\x01\x01\x01\x01\x01\x01\x01\x01\x01\x01\x01\x01";
-    for (len, _) in whole.iter().enumerate() {
+/// Whether each beginning of the message is refused as it should be, and the whole isn't.
+fn refuses_beginnings(alloc: Global) -> bool {
+    for (len, _) in ONE_ID.iter().enumerate() {
         let fault = match len {
             0 => Some(CodecFault::Empty),
             1 => None,
             2..=4 => Some(CodecFault::Varint(len)),
             _ => Some(CodecFault::Truncated(5)),
         };
-        assert!(rt; refusal(rt.alloc(), &whole[..len]) == fault, "at {len}");
+        if refusal(alloc, &ONE_ID[..len]) != fault {
+            return false;
+        }
     }
-    assert!(rt; refusal(rt.alloc(), whole).is_none());
+    refusal(alloc, ONE_ID).is_none()
 }
 
 #[test]
-fn ranges_out_of_place(rt: HostRuntime) {
+fn faults(rt: HostRuntime) -> Result<(), Fail> {
+    for (bytes, fault) in FAULTS {
+        assert_eq!(rt; refusal(rt.alloc(), bytes), Some(fault));
+    }
+    assert!(rt; takes_the_longest(rt.alloc()) == Some(true));
+    assert!(rt; refuses_beginnings(rt.alloc()));
+    Ok(())
+}
+
+/// Whether ranges out of their places are refused and handed back.
+fn refuses_misplaced(alloc: Global) -> bool {
     let cases: [(&[(Bound, Told)], CodecFault); 3] = [
         (
             &[(Bound::Infinite, Told::Skip), (Bound::Infinite, Told::Skip)],
@@ -216,8 +221,11 @@ fn ranges_out_of_place(rt: HostRuntime) {
         ),
     ];
     for (told, fault) in cases {
-        assert!(rt; is_refused(rt.alloc(), told, fault) == Ok(true));
+        if is_refused(alloc, told, fault) != Ok(true) {
+            return false;
+        }
     }
+    true
 }
 
 /// Whether bounds ascend, each above all before it, and their edges too.
@@ -233,11 +241,12 @@ fn ascend(bounds: &[Bound]) -> bool {
 }
 
 #[test]
-fn order(rt: HostRuntime) {
+fn order(rt: HostRuntime) -> Result<(), Fail> {
     let zero = Item {
         time: 0,
         id: Id([0; 32]),
     };
+    assert!(rt; refuses_misplaced(rt.alloc()));
     assert!(rt;
         ascend(&[
             at(0, [0; 3]),
@@ -248,6 +257,10 @@ fn order(rt: HostRuntime) {
             Bound::Infinite
         ])
     );
-    assert!(rt; Bound::lowest().edge() == zero && Bound::Infinite.time() == u64::MAX);
-    assert!(rt; *Id([5; 32]).as_bytes() == [5; 32]);
+    assert!(rt;
+        Bound::lowest().edge() == zero
+            && Bound::Infinite.time() == u64::MAX
+            && *Id([5; 32]).as_bytes() == [5; 32]
+    );
+    Ok(())
 }

@@ -3,7 +3,6 @@ use item_roll::{Chunk, Group, Roll, RollFault, minimal_bound};
 use neg_codec::{Bound, Id, Item, Key, Range};
 use neg_print::Sum;
 use std::alloc::{AllocError, Global};
-use std::process::Abort;
 use std::test::*;
 
 /// A whole roll of as many items in ranges.
@@ -51,24 +50,21 @@ const PRINTS_OF_33: [&[u8; 16]; 16] = [
     b"\x15\xe5\x2d\xde\x58\xa3\xe1\xe3\xe7\x13\xe9\xcd\x65\x24\xdd\x88",
 ];
 
-#[test]
-fn a_piece_of_31_items_is_listed(rt: HostRuntime) {
-    let ranges = whole(rt.alloc(), 31).expect(&rt, "memory");
+/// Whether 31 items are listed, and 32 and 33 are told by 16 fingerprints.
+fn are_split(alloc: Global) -> Option<bool> {
     let ids = [
         0, 1, 2, 3, 4, 5, 6, 7, 8, 9, 10, 11, 12, 13, 14, 15, 16, 17, 18, 19, 20, 21, 22, 23, 24,
         25, 26, 27, 28, 29, 30,
     ];
-    assert!(rt; are_told(&ranges, &[(Bound::Infinite, Told::Ids(&ids))]));
-}
-
-#[test]
-fn larger_pieces_are_told_by_16_fingerprints(rt: HostRuntime) {
-    let ranges = whole(rt.alloc(), 32).expect(&rt, "memory");
-    let times = [2, 4, 6, 8, 10, 12, 14, 16, 18, 20, 22, 24, 26, 28, 30];
-    assert!(rt; are_prints(&ranges, &times, &PRINTS_OF_32));
-    let ranges = whole(rt.alloc(), 33).expect(&rt, "memory");
-    let times = [3, 5, 7, 9, 11, 13, 15, 17, 19, 21, 23, 25, 27, 29, 31];
-    assert!(rt; are_prints(&ranges, &times, &PRINTS_OF_33));
+    let of_32 = [2, 4, 6, 8, 10, 12, 14, 16, 18, 20, 22, 24, 26, 28, 30];
+    let of_33 = [3, 5, 7, 9, 11, 13, 15, 17, 19, 21, 23, 25, 27, 29, 31];
+    Some(
+        are_told(
+            &whole(alloc, 31).ok()?,
+            &[(Bound::Infinite, Told::Ids(&ids))],
+        ) && are_prints(&whole(alloc, 32).ok()?, &of_32, &PRINTS_OF_32)
+            && are_prints(&whole(alloc, 33).ok()?, &of_33, &PRINTS_OF_33),
+    )
 }
 
 /// The minimal bound between two items, which are in order.
@@ -80,8 +76,8 @@ fn between(first: Item, second: Item) -> Option<Bound> {
     }
 }
 
-#[test]
-fn shortest_bounds(rt: HostRuntime) {
+/// Whether the bounds between items are the shortest ones.
+fn are_shortest() -> bool {
     let mut front = [0; 32];
     front[0] = 0xaa;
     let second = item_ending(7, 0xaa, 2);
@@ -90,8 +86,18 @@ fn shortest_bounds(rt: HostRuntime) {
         (item(6, 0xff), Id([0; 32])),
         (item(7, 9), Id(front)),
     ] {
-        assert!(rt; between(first, second) == Some(Bound::At(Key::new(7, want))));
+        if between(first, second) != Some(Bound::At(Key::new(7, want))) {
+            return false;
+        }
     }
+    true
+}
+
+#[test]
+fn pieces_are_told(rt: HostRuntime) -> Result<(), Fail> {
+    assert!(rt; are_split(rt.alloc()) == Some(true));
+    assert!(rt; are_shortest());
+    Ok(())
 }
 
 /// Whether a roll has just these items, in this order.
@@ -119,34 +125,28 @@ fn refusal(alloc: Global, items: &[Item]) -> Option<RollFault> {
     Roll::from_items(alloc, items).err()
 }
 
-#[test]
-fn items_are_taken_and_refused(rt: HostRuntime) {
-    let alloc = rt.alloc();
+/// Whether lists of items are refused as they should be.
+fn refuses_lists(alloc: Global) -> bool {
+    let repeated = [item(1, 1), item(2, 2), item(1, 1)];
+    let endless = [item(1, 1), item(u64::MAX, 2), item(1, 1)];
+    refusal(alloc, &[]).is_none()
+        && refusal(alloc, &endless) == Some(RollFault::Infinity)
+        && refusal(alloc, &repeated) == Some(RollFault::Present)
+}
+
+/// Whether items are taken in their places, and refused with nothing changed.
+fn takes_in_order(alloc: Global) -> Option<bool> {
     let top = u64::MAX - 1;
-    let cases: [(&[Item], Option<RollFault>); 3] = [
-        (&[], None),
-        (
-            &[item(1, 1), item(u64::MAX, 2), item(1, 1)],
-            Some(RollFault::Infinity),
-        ),
-        (
-            &[item(1, 1), item(2, 2), item(1, 1)],
-            Some(RollFault::Present),
-        ),
-    ];
-    for (items, want) in cases {
-        assert!(rt; refusal(alloc, items) == want, "{want:?}");
-    }
     let items = [item(top, 3), item(5, 2), item(5, 1), item(0, 9), item(6, 1)];
-    let mut roll = Roll::from_items(alloc, &items).expect(&rt, "memory");
+    let mut roll = Roll::from_items(alloc, &items).ok()?;
     let refused = [
         (item(u64::MAX, 0), Err(RollFault::Infinity)),
         (item(5, 2), Err(RollFault::Present)),
     ];
     let sorted = [item(0, 9), item(5, 1), item(5, 2), item(6, 1), item(top, 3)];
-    assert!(rt;
-        is_roll_of(&roll, &sorted) && takes(&mut roll, &refused) && is_roll_of(&roll, &sorted)
-    );
+    let keeps = is_roll_of(&roll, &sorted)
+        && takes(&mut roll, &refused)
+        && is_roll_of(&roll, &sorted);
     let taken = [
         (item(5, 3), Ok(())),
         (item(0, 0), Ok(())),
@@ -162,7 +162,7 @@ fn items_are_taken_and_refused(rt: HostRuntime) {
         item(top, 3),
         item(top, 4),
     ];
-    assert!(rt; takes(&mut roll, &taken) && is_roll_of(&roll, &sorted));
+    Some(keeps && takes(&mut roll, &taken) && is_roll_of(&roll, &sorted))
 }
 
 fn are_ids_of(ids: &[Id], items: &[Item]) -> bool {
@@ -185,9 +185,8 @@ fn has_ids(alloc: Global, roll: &Roll, from: usize, items: &[Item]) -> bool {
     }
 }
 
-#[test]
-fn places_fingerprints_and_ids(rt: HostRuntime) {
-    let roll = line(rt.alloc(), 33).expect(&rt, "memory");
+/// Whether each bound is found at its place.
+fn finds_places(roll: &Roll) -> bool {
     let cases = [
         (at(0, [0; 3]), 0),
         (at(0, [1, 0, 0]), 1),
@@ -198,14 +197,30 @@ fn places_fingerprints_and_ids(rt: HostRuntime) {
         (Bound::Infinite, 33),
     ];
     for (bound, want) in cases {
-        assert!(rt; roll.find(&bound) == want, "{want}");
+        if roll.find(&bound) != want {
+            return false;
+        }
     }
+    true
+}
+
+/// Whether a roll of 33 items tells a fingerprint and ids.
+fn tells_33(alloc: Global, roll: &Roll) -> bool {
     let print = b"\xf2\x84\x21\x34\xed\xf9\x71\x36\xc0\x5e\xda\xfb\xed\xa6\xa3\x46";
-    assert!(rt; roll.len() == 33 && roll.print(3, 20) == *print);
-    assert!(rt;
-        has_ids(rt.alloc(), &roll, 3, &[item(3, 3), item(4, 4)])
-            && has_ids(rt.alloc(), &roll, 33, &[])
-    );
+    roll.len() == 33
+        && roll.print(3, 20) == *print
+        && has_ids(alloc, roll, 3, &[item(3, 3), item(4, 4)])
+        && has_ids(alloc, roll, 33, &[])
+}
+
+#[test]
+fn items_have_their_places(rt: HostRuntime) -> Result<(), Fail> {
+    assert!(rt; refuses_lists(rt.alloc()));
+    assert!(rt; takes_in_order(rt.alloc()) == Some(true));
+    let roll = line(rt.alloc(), 33)?;
+    assert!(rt; finds_places(&roll));
+    assert!(rt; tells_33(rt.alloc(), &roll));
+    Ok(())
 }
 
 /// One item more than a roll takes, the last time first.
@@ -217,19 +232,25 @@ fn too_many(alloc: Global) -> Result<Vec<Item>, AllocError> {
     Ok(items)
 }
 
-#[test]
-fn a_full_roll_takes_no_more(rt: HostRuntime) {
-    let mut items = too_many(rt.alloc()).expect(&rt, "memory");
-    assert!(rt; refusal(rt.alloc(), &items) == Some(RollFault::Full));
-    assert!(rt; items.push(item(1, 0x40)).is_ok());
-    assert!(rt; refusal(rt.alloc(), &items) == Some(RollFault::Present));
+/// Whether a roll of 1,000,000 items takes no more.
+fn is_full(alloc: Global) -> Option<bool> {
+    let mut items = too_many(alloc).ok()?;
+    let is_refused = refusal(alloc, &items) == Some(RollFault::Full);
+    items.push(item(1, 0x40)).ok()?;
+    let is_repeated = refusal(alloc, &items) == Some(RollFault::Present);
     items.truncate(1_000_000);
-    let mut roll = Roll::from_items(rt.alloc(), &items).expect(&rt, "memory");
+    let mut roll = Roll::from_items(alloc, &items).ok()?;
     let refused = [
         (item(0, 0), Err(RollFault::Full)),
         (item(1_000_001, 0), Err(RollFault::Present)),
     ];
-    assert!(rt; roll.len() == 1_000_000 && takes(&mut roll, &refused));
+    Some(is_refused && is_repeated && roll.len() == 1_000_000 && takes(&mut roll, &refused))
+}
+
+#[test]
+fn a_full_roll_takes_no_more(rt: HostRuntime) -> Result<(), Fail> {
+    assert!(rt; is_full(rt.alloc()) == Some(true));
+    Ok(())
 }
 
 /// An item at a time, whose id ends with the time's bytes.
@@ -314,19 +335,20 @@ fn timed_line(alloc: Global, len: u64) -> Result<Vec<Item>, AllocError> {
     Ok(items)
 }
 
-#[test]
-fn chunks_of_1025_items(rt: HostRuntime) {
-    let items = timed_line(rt.alloc(), 1025).expect(&rt, "memory");
-    let roll = Roll::from_items(rt.alloc(), &items).expect(&rt, "memory");
-    assert!(rt;
+/// Whether 1,025 items lie in chunks, with their fingerprints and ids.
+fn lie_in_chunks(alloc: Global) -> Option<bool> {
+    let items = timed_line(alloc, 1025).ok()?;
+    let roll = Roll::from_items(alloc, &items).ok()?;
+    let places = [0, 1, 3, 255, 257, 500, 511, 512, 513, 540, 900, 1024, 1025];
+    Some(
         roll.chunks() >= 3
             && roll.chunk(0).is_some()
             && roll.chunk(roll.chunks()).is_none()
             && has_items(&roll, &items)
-    );
-    let places = [0, 1, 3, 255, 257, 500, 511, 512, 513, 540, 900, 1024, 1025];
-    assert!(rt; has_all_prints(&roll, &items, &places));
-    assert!(rt; items.len() == 1025 && has_ids(rt.alloc(), &roll, 500, &items[500..600]));
+            && has_all_prints(&roll, &items, &places)
+            && items.len() == 1025
+            && has_ids(alloc, &roll, 500, &items[500..600]),
+    )
 }
 
 /// Those of these items that stand at an even time or from 1200 on.
@@ -362,12 +384,12 @@ fn stays(alloc: Global, roll: &mut Roll, before: &[Item], after: &[Item]) -> boo
     }
 }
 
-#[test]
-fn a_share_stays_as_it_was(rt: HostRuntime) {
-    let after = timed_line(rt.alloc(), 1625).expect(&rt, "memory");
-    let before = thinned(rt.alloc(), &after).expect(&rt, "memory");
-    let mut roll = Roll::from_items(rt.alloc(), &before).expect(&rt, "memory");
-    assert!(rt; stays(rt.alloc(), &mut roll, &before, &after));
+/// The same of a roll whose every second item is put in later.
+fn share_stays(alloc: Global) -> Option<bool> {
+    let after = timed_line(alloc, 1625).ok()?;
+    let before = thinned(alloc, &after).ok()?;
+    let mut roll = Roll::from_items(alloc, &before).ok()?;
+    Some(stays(alloc, &mut roll, &before, &after))
 }
 
 /// Puts the items of 1100 times into a roll, the last first.
@@ -378,11 +400,23 @@ fn put_one_by_one(roll: &mut Roll) -> Result<(), RollFault> {
     Ok(())
 }
 
-#[test]
-fn items_one_by_one(rt: HostRuntime) {
-    let items = timed_line(rt.alloc(), 1100).expect(&rt, "memory");
-    let mut roll = Roll::from_items(rt.alloc(), &[]).expect(&rt, "memory");
+/// Whether a roll into which items were put one by one has them.
+fn grows(alloc: Global) -> Option<bool> {
+    let items = timed_line(alloc, 1100).ok()?;
+    let mut roll = Roll::from_items(alloc, &[]).ok()?;
     let refused = [(timed(512), Err(RollFault::Present))];
-    assert!(rt; put_one_by_one(&mut roll) == Ok(()) && has_items(&roll, &items));
-    assert!(rt; takes(&mut roll, &refused) && has_items(&roll, &items));
+    Some(
+        put_one_by_one(&mut roll) == Ok(())
+            && has_items(&roll, &items)
+            && takes(&mut roll, &refused)
+            && has_items(&roll, &items),
+    )
+}
+
+#[test]
+fn chunks_are_shared(rt: HostRuntime) -> Result<(), Fail> {
+    assert!(rt; lie_in_chunks(rt.alloc()) == Some(true));
+    assert!(rt; share_stays(rt.alloc()) == Some(true));
+    assert!(rt; grows(rt.alloc()) == Some(true));
+    Ok(())
 }

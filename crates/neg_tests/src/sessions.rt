@@ -1,20 +1,19 @@
 //! Sessions with peers of the tests, and with rolls in this process.
 
-ghost use Rattle.std.specs.Prelude.{◌≤◌, ◌<◌, ◌^◌, ◌-◌};
+ghost use Rattle.std.specs.Prelude.{◌<◌, ◌^◌, ◌-◌};
 
 mod peers;
 
 use crate::fixtures::{
-    ASK_ALL, ASKS_AA_BB, ASKS_THE_REST, Found, LISTS_AND_PRINTS, LISTS_ONE, is_found, item,
+    ASK_ALL, ASKS_AA_BB, ASKS_THE_REST, Found, LISTS_AND_PRINTS, LISTS_ONE, Mine, is_found, roll_of,
 };
-use item_roll::Roll;
-use neg_codec::{CodecFault, Item};
+use neg_codec::CodecFault;
 use neg_session::{
     LocalPeer, Outcome, Pair, Peer, PeerFault, SessionFault, SessionLimits, reconcile_with,
 };
 use peers::Scripted;
 use std::alloc::Global;
-use std::process::Abort;
+use std::test::Fail;
 
 /// Lists the ids 02..02 and 03..03.
 const LISTS_TWO: &[u8] =
@@ -29,6 +28,12 @@ const LISTS_AA_CC: &[u8] =
 const ASKS_AA: &[u8] =
     b"\x61\x00\x00\x02\x01\xaa\xaa\xaa\xaa\xaa\xaa\xaa\xaa\xaa\xaa\xaa\xaa\xaa\xaa\xaa\xaa\xaa\xaa\xaa\xaa\xaa\xaa\xaa\xaa\xaa\xaa\xaa\xaa\xaa\xaa\xaa\xaa";
 
+const NOTHING: Found = Found {
+    need: &[],
+    have: &[],
+    trusted: 0,
+};
+
 /// The id 01..01 is needed.
 const ONE_NEEDED: Found = Found {
     need: &[0x01],
@@ -36,30 +41,233 @@ const ONE_NEEDED: Found = Found {
     trusted: 0,
 };
 
-fn limits(rounds: u32, need: usize, log: usize) -> SessionLimits
-    requires rounds { rounds ≤ 4096 }
-    requires need { need ≤ 200000 }
-    requires log { log ≤ 67108864 }
-{
-    SessionLimits {
+/// How many rounds there may be, how many ids needed, and how many bytes answered.
+type Limits = (u32, usize, usize);
+
+const MOST: Limits = (4_096, 200_000, 67_108_864);
+
+fn limits((rounds, need, log): Limits) -> Option<SessionLimits> {
+    if rounds > 4_096 || need > 200_000 || log > 67_108_864 {
+        return None;
+    }
+    Some(SessionLimits {
         limit: 60_000,
         rounds,
         need,
         log,
-    }
+    })
+}
+
+/// With whom a session is.
+#[derive(Clone, Copy)]
+enum With {
+    /// A roll of these items, which gives these answers of at most 4,096 bytes.
+    Roll(Mine, &'static [&'static [u8]]),
+    /// A peer that gives these answers, and then fails or repeats the last.
+    Script(&'static [&'static [u8]], Option<PeerFault>),
 }
 
 /// How a session goes.
 #[derive(Clone, Copy)]
-struct Course<'a> {
-    mine: &'a [Item],
-    limits: SessionLimits,
+struct Course {
+    mine: Mine,
+    limits: Limits,
     /// What is found, or the fault that ends it.
-    ended: Result<Found<'a>, SessionFault>,
+    ended: Result<Found<'static>, SessionFault>,
     /// The questions that were answered.
-    asked: &'a [&'a [u8]],
+    asked: &'static [&'static [u8]],
     failures: u64,
 }
+
+const NONE: Mine = Mine::Items(&[]);
+
+/// The item 5 01..01.
+const ONE: Mine = Mine::Items(&[(5, 1, 1)]);
+
+static COURSES: [(With, Course); 17] = [
+    // Rolls meet.
+    (
+        With::Roll(NONE, &[ASK_ALL]),
+        Course {
+            mine: NONE,
+            limits: MOST,
+            ended: Ok(NOTHING),
+            asked: &[ASK_ALL],
+            failures: 0,
+        },
+    ),
+    (
+        With::Roll(ONE, &[LISTS_ONE]),
+        Course {
+            mine: NONE,
+            limits: MOST,
+            ended: Ok(ONE_NEEDED),
+            asked: &[ASK_ALL],
+            failures: 0,
+        },
+    ),
+    (
+        With::Roll(
+            Mine::Items(&[(10, 0xaa, 0xaa), (12, 0xcc, 0xcc)]),
+            &[LISTS_AA_CC],
+        ),
+        Course {
+            mine: Mine::Items(&[(10, 0xaa, 0xaa), (11, 0xbb, 0xbb)]),
+            limits: MOST,
+            ended: Ok(Found {
+                need: &[0xcc],
+                have: &[0xbb],
+                trusted: 0,
+            }),
+            asked: &[ASKS_AA_BB],
+            failures: 0,
+        },
+    ),
+    // Limits that are just passed, and just kept.
+    (
+        With::Roll(ONE, &[LISTS_ONE]),
+        Course {
+            mine: NONE,
+            limits: (4_096, 0, 67_108_864),
+            ended: Err(SessionFault::NeedFull),
+            asked: &[ASK_ALL],
+            failures: 0,
+        },
+    ),
+    (
+        With::Roll(ONE, &[LISTS_ONE]),
+        Course {
+            mine: NONE,
+            limits: (4_096, 1, 67_108_864),
+            ended: Ok(ONE_NEEDED),
+            asked: &[ASK_ALL],
+            failures: 0,
+        },
+    ),
+    (
+        With::Roll(ONE, &[LISTS_ONE]),
+        Course {
+            mine: NONE,
+            limits: (4_096, 1, 36),
+            ended: Err(SessionFault::LogFull),
+            asked: &[ASK_ALL],
+            failures: 0,
+        },
+    ),
+    (
+        With::Roll(ONE, &[LISTS_ONE]),
+        Course {
+            mine: NONE,
+            limits: (4_096, 1, 37),
+            ended: Ok(ONE_NEEDED),
+            asked: &[ASK_ALL],
+            failures: 0,
+        },
+    ),
+    (
+        With::Roll(ONE, &[LISTS_ONE]),
+        Course {
+            mine: NONE,
+            limits: (1, 1, 37),
+            ended: Ok(ONE_NEEDED),
+            asked: &[ASK_ALL],
+            failures: 0,
+        },
+    ),
+    (
+        With::Roll(ONE, &[]),
+        Course {
+            mine: NONE,
+            limits: (0, 1, 37),
+            ended: Err(SessionFault::Rounds),
+            asked: &[],
+            failures: 0,
+        },
+    ),
+    // Peers that repeat.
+    (
+        With::Script(&[PRINTS], None),
+        Course {
+            mine: NONE,
+            limits: (3, 200_000, 67_108_864),
+            ended: Err(SessionFault::Rounds),
+            asked: &[ASK_ALL, ASK_ALL, ASK_ALL],
+            failures: 0,
+        },
+    ),
+    (
+        With::Script(&[PRINTS], None),
+        Course {
+            mine: Mine::Items(&[(10, 0xaa, 0xaa)]),
+            limits: (2, 200_000, 67_108_864),
+            ended: Err(SessionFault::Rounds),
+            asked: &[ASKS_AA, ASKS_AA],
+            failures: 0,
+        },
+    ),
+    (
+        With::Script(&[PRINTS], None),
+        Course {
+            mine: NONE,
+            limits: (4_096, 200_000, 59),
+            ended: Err(SessionFault::LogFull),
+            asked: &[ASK_ALL, ASK_ALL, ASK_ALL],
+            failures: 0,
+        },
+    ),
+    // Peers that lie.
+    (
+        With::Script(&[LISTS_AND_PRINTS], None),
+        Course {
+            mine: NONE,
+            limits: (3, 1, 67_108_864),
+            ended: Err(SessionFault::Rounds),
+            asked: &[ASK_ALL, ASKS_THE_REST, ASKS_THE_REST],
+            failures: 0,
+        },
+    ),
+    (
+        With::Script(&[LISTS_AND_PRINTS, LISTS_TWO], None),
+        Course {
+            mine: NONE,
+            limits: (4_096, 2, 67_108_864),
+            ended: Err(SessionFault::NeedFull),
+            asked: &[ASK_ALL, ASKS_THE_REST],
+            failures: 0,
+        },
+    ),
+    // Peers that fail.
+    (
+        With::Script(&[], Some(PeerFault::Failed)),
+        Course {
+            mine: NONE,
+            limits: MOST,
+            ended: Err(SessionFault::PeerFailed),
+            asked: &[],
+            failures: 1,
+        },
+    ),
+    (
+        With::Script(&[PRINTS], Some(PeerFault::Failed)),
+        Course {
+            mine: NONE,
+            limits: MOST,
+            ended: Err(SessionFault::PeerFailed),
+            asked: &[ASK_ALL],
+            failures: 1,
+        },
+    ),
+    (
+        With::Script(&[], Some(PeerFault::Memory)),
+        Course {
+            mine: NONE,
+            limits: MOST,
+            ended: Err(SessionFault::Memory),
+            asked: &[],
+            failures: 0,
+        },
+    ),
+];
 
 fn is_end(ended: Result<Outcome, SessionFault>, wanted: Result<Found, SessionFault>) -> bool {
     match ended {
@@ -90,230 +298,111 @@ fn are_answered(pairs: &[Pair], answered: &[&[u8]]) -> bool {
 }
 
 /// Whether a session with a peer goes so.
-fn goes<P: Peer>(alloc: Global, peer: &mut P, course: &Course) -> bool
+fn goes<P: Peer>(alloc: Global, peer: &mut P, course: &Course) -> Option<bool>
     requires { P.faults peer.old < 2 ^ 64 - 1 }
 {
-    let Ok(mine) = Roll::from_items(alloc, course.mine) else {
-        return false;
-    };
-    let ended = reconcile_with(alloc, peer, &mine, &course.limits);
-    is_end(ended, course.ended)
-        && are_asked(peer.pairs(), course.asked)
-        && peer.failures() == course.failures
+    let mine = roll_of(alloc, course.mine).ok()?;
+    let limits = limits(course.limits)?;
+    let ended = reconcile_with(alloc, peer, &mine, &limits);
+    Some(
+        is_end(ended, course.ended)
+            && are_asked(peer.pairs(), course.asked)
+            && peer.failures() == course.failures,
+    )
 }
 
-/// Whether a session goes so with a roll of these items, which gives these answers of at most so many bytes.
-fn goes_with_roll(
-    alloc: Global,
-    theirs: &[Item],
-    limit: usize,
-    answered: &[&[u8]],
-    course: &Course,
-) -> bool
-    requires { 4096 ≤ limit }
-{
-    let Ok(theirs) = Roll::from_items(alloc, theirs) else {
-        return false;
-    };
-    let mut peer = LocalPeer::new(alloc, theirs, limit);
-    goes(alloc, &mut peer, course) && are_answered(peer.pairs(), answered)
+fn goes_with(alloc: Global, with: With, course: &Course) -> Option<bool> {
+    match with {
+        With::Roll(theirs, answered) => {
+            let mut peer = LocalPeer::new(alloc, roll_of(alloc, theirs).ok()?, 4_096);
+            let goes = goes(alloc, &mut peer, course)?;
+            Some(goes && are_answered(peer.pairs(), answered))
+        }
+        With::Script(answers, then) => {
+            goes(alloc, &mut Scripted::new(alloc, answers, then), course)
+        }
+    }
 }
 
-/// Whether a session goes so with a peer that gives these answers, and then fails or repeats the last.
-fn goes_by_script(
+/// Answers that are no messages.
+static BAD: [(&[u8], CodecFault); 8] = [
+    (b"", CodecFault::Empty),
+    (b"\x62", CodecFault::Version(0x62)),
+    (b"\xff\x00", CodecFault::Version(0xff)),
+    (b"\x61\x00\x00\x01", CodecFault::Truncated(4)),
+    (b"\x61\x05", CodecFault::Varint(2)),
+    (b"\x61\x00\x00\x03", CodecFault::Mode(3)),
+    (b"\x61\x00\x00\x00\x00", CodecFault::AfterInfinity(4)),
+    (
+        b"\x61\x06\x01\x02\x00\x01\x01\x01\x00",
+        CodecFault::Descending(5),
+    ),
+];
+
+/// Whether a session ends by a fault where these are the answers.
+fn ends_bad(
     alloc: Global,
     answers: &[&[u8]],
-    then: Option<PeerFault>,
-    course: &Course,
-) -> bool {
-    goes(alloc, &mut Scripted::new(alloc, answers, then), course)
-}
-
-#[test]
-fn rolls_meet(rt: HostRuntime) {
-    let none = Course {
-        mine: &[],
-        limits: SessionLimits::default(),
-        ended: Ok(Found {
-            need: &[],
-            have: &[],
-            trusted: 0,
-        }),
-        asked: &[ASK_ALL],
+    fault: CodecFault,
+    asked: &'static [&'static [u8]],
+) -> Option<bool> {
+    let course = Course {
+        mine: NONE,
+        limits: MOST,
+        ended: Err(SessionFault::Bad(fault)),
+        asked,
         failures: 0,
     };
-    let one = Course {
-        ended: Ok(ONE_NEEDED),
-        ..none
-    };
-    let some = Course {
-        mine: &[item(10, 0xaa), item(11, 0xbb)],
-        ended: Ok(Found {
-            need: &[0xcc],
-            have: &[0xbb],
-            trusted: 0,
-        }),
-        asked: &[ASKS_AA_BB],
-        ..none
-    };
-    let meetings: [(&[Item], &[u8], Course); 3] = [
-        (&[], ASK_ALL, none),
-        (&[item(5, 0x01)], LISTS_ONE, one),
-        (&[item(10, 0xaa), item(12, 0xcc)], LISTS_AA_CC, some),
-    ];
-    for (theirs, answer, course) in meetings {
-        assert!(rt; goes_with_roll(rt.alloc(), theirs, 60_000, &[answer], &course));
-    }
+    goes(alloc, &mut Scripted::new(alloc, answers, None), &course)
 }
 
 #[test]
-fn limits_are_tested(rt: HostRuntime) {
-    let theirs = [item(5, 0x01)];
-    let cases = [
-        (limits(4096, 0, 67_108_864), Err(SessionFault::NeedFull)),
-        (limits(4096, 1, 67_108_864), Ok(ONE_NEEDED)),
-        (limits(4096, 1, 36), Err(SessionFault::LogFull)),
-        (limits(4096, 1, 37), Ok(ONE_NEEDED)),
-        (limits(1, 1, 37), Ok(ONE_NEEDED)),
-    ];
-    for (limits, ended) in cases {
-        let course = Course {
-            mine: &[],
-            limits,
-            ended,
-            asked: &[ASK_ALL],
-            failures: 0,
-        };
-        assert!(rt; goes_with_roll(rt.alloc(), &theirs, 4096, &[LISTS_ONE], &course));
-    }
-    let course = Course {
-        mine: &[],
-        limits: limits(0, 1, 37),
-        ended: Err(SessionFault::Rounds),
-        asked: &[],
-        failures: 0,
-    };
-    assert!(rt; goes_with_roll(rt.alloc(), &theirs, 4096, &[], &course));
-}
-
-#[test]
-fn peers_that_repeat(rt: HostRuntime) {
-    let course = Course {
-        mine: &[],
-        limits: limits(3, 200_000, 67_108_864),
-        ended: Err(SessionFault::Rounds),
-        asked: &[ASK_ALL, ASK_ALL, ASK_ALL],
-        failures: 0,
-    };
-    let courses = [
-        course,
-        Course {
-            mine: &[item(10, 0xaa)],
-            limits: limits(2, 200_000, 67_108_864),
-            asked: &[ASKS_AA, ASKS_AA],
-            ..course
-        },
-        Course {
-            limits: limits(4096, 200_000, 59),
-            ended: Err(SessionFault::LogFull),
-            ..course
-        },
-    ];
-    for course in courses {
-        assert!(rt; goes_by_script(rt.alloc(), &[PRINTS], None, &course));
-    }
-}
-
-#[test]
-fn peers_that_lie(rt: HostRuntime) {
-    let course = Course {
-        mine: &[],
-        limits: limits(3, 1, 67_108_864),
-        ended: Err(SessionFault::Rounds),
-        asked: &[ASK_ALL, ASKS_THE_REST, ASKS_THE_REST],
-        failures: 0,
-    };
-    assert!(rt; goes_by_script(rt.alloc(), &[LISTS_AND_PRINTS], None, &course));
-    let course = Course {
-        limits: limits(4096, 2, 67_108_864),
-        ended: Err(SessionFault::NeedFull),
-        asked: &[ASK_ALL, ASKS_THE_REST],
-        ..course
-    };
-    assert!(rt; goes_by_script(rt.alloc(), &[LISTS_AND_PRINTS, LISTS_TWO], None, &course));
-}
-
-#[test]
-fn peers_that_fail(rt: HostRuntime) {
-    let course = Course {
-        mine: &[],
-        limits: limits(4096, 200_000, 67_108_864),
-        ended: Err(SessionFault::PeerFailed),
-        asked: &[],
-        failures: 1,
-    };
-    assert!(rt; goes_by_script(rt.alloc(), &[], Some(PeerFault::Failed), &course));
-    let later = Course {
-        asked: &[ASK_ALL],
-        ..course
-    };
-    assert!(rt; goes_by_script(rt.alloc(), &[PRINTS], Some(PeerFault::Failed), &later));
-    let memory = Course {
-        ended: Err(SessionFault::Memory),
-        failures: 0,
-        ..course
-    };
-    assert!(rt; goes_by_script(rt.alloc(), &[], Some(PeerFault::Memory), &memory));
-}
-
-#[test]
-fn answers_that_are_no_messages(rt: HostRuntime) {
-    let cases: [(&[u8], CodecFault); 8] = [
-        (b"", CodecFault::Empty),
-        (b"\x62", CodecFault::Version(0x62)),
-        (b"\xff\x00", CodecFault::Version(0xff)),
-        (b"\x61\x00\x00\x01", CodecFault::Truncated(4)),
-        (b"\x61\x05", CodecFault::Varint(2)),
-        (b"\x61\x00\x00\x03", CodecFault::Mode(3)),
-        (b"\x61\x00\x00\x00\x00", CodecFault::AfterInfinity(4)),
-        (
-            b"\x61\x06\x01\x02\x00\x01\x01\x01\x00",
-            CodecFault::Descending(5),
-        ),
-    ];
-    for (answer, fault) in cases {
-        let second = Course {
-            mine: &[],
-            limits: limits(4096, 200_000, 67_108_864),
-            ended: Err(SessionFault::Bad(fault)),
-            asked: &[ASK_ALL, ASK_ALL],
-            failures: 0,
-        };
-        let first = Course {
-            asked: &[ASK_ALL],
-            ..second
-        };
-        assert!(rt; goes_by_script(rt.alloc(), &[PRINTS, answer], None, &second));
-        assert!(rt; goes_by_script(rt.alloc(), &[answer], None, &first));
-    }
-}
-
-#[test]
-fn a_roll_is_asked(rt: HostRuntime) {
+fn sessions_go(rt: HostRuntime) -> Result<(), Fail> {
     let alloc = rt.alloc();
-    let theirs = Roll::from_items(alloc, &[item(5, 0x01)]).expect(&rt, "memory");
-    let mut peer = LocalPeer::new(alloc, theirs, 4096);
-    assert!(rt; peer.ask(b"\x61\x05").err() == Some(PeerFault::Failed));
-    assert!(rt; peer.pairs().is_empty() && peer.failures() == 1);
-    let version = peer.ask(b"\x62\x00\x00\x02\x00").expect(&rt, "an answer");
-    let answer = peer.ask(ASK_ALL).expect(&rt, "an answer");
-    assert!(rt; version.as_slice() == b"\x61".as_slice() && answer.as_slice() == LISTS_ONE);
-    assert!(rt;
-        are_asked(peer.pairs(), &[b"\x62\x00\x00\x02\x00", ASK_ALL])
-            && are_answered(peer.pairs(), &[b"\x61", LISTS_ONE])
-            && peer.failures() == 1
-    );
+    for (place, (with, course)) in COURSES.iter().enumerate() {
+        assert_eq!(rt;
+            (place, goes_with(alloc, *with, course)),
+            (place, Some(true))
+        );
+    }
+    for (answer, fault) in BAD {
+        let first = ends_bad(alloc, &[answer], fault, &[ASK_ALL]);
+        let second = ends_bad(alloc, &[PRINTS, answer], fault, &[ASK_ALL, ASK_ALL]);
+        assert_eq!(rt; (first, second), (Some(true), Some(true)), "{fault:?}");
+    }
+    Ok(())
 }
+
+/// Whether a roll fails at a question that is no message, and answers one of another version and another one.
+fn is_asked(alloc: Global) -> Option<bool> {
+    let mut peer = LocalPeer::new(alloc, roll_of(alloc, ONE).ok()?, 4_096);
+    let fails = peer.ask(b"\x61\x05").err() == Some(PeerFault::Failed);
+    let keeps = peer.pairs().is_empty() && peer.failures() == 1;
+    let version = peer.ask(b"\x62\x00\x00\x02\x00").ok()?;
+    let answer = peer.ask(ASK_ALL).ok()?;
+    let answers = version.as_slice() == b"\x61".as_slice() && answer.as_slice() == LISTS_ONE;
+    Some(
+        fails
+            && keeps
+            && answers
+            && are_asked(peer.pairs(), &[b"\x62\x00\x00\x02\x00", ASK_ALL])
+            && are_answered(peer.pairs(), &[b"\x61", LISTS_ONE])
+            && peer.failures() == 1,
+    )
+}
+
+static FAULTS: [(SessionFault, u8, &str); 6] = [
+    (SessionFault::PeerFailed, 1, "the peer failed"),
+    (
+        SessionFault::Bad(CodecFault::Truncated(4)),
+        2,
+        "bad answer: byte 4: cut short",
+    ),
+    (SessionFault::Rounds, 3, "too many rounds"),
+    (SessionFault::NeedFull, 4, "too many ids are needed"),
+    (SessionFault::LogFull, 5, "too many bytes were answered"),
+    (SessionFault::Memory, 6, "out of memory"),
+];
 
 fn has_text(alloc: Global, fault: SessionFault, text: &str) -> bool {
     match format!(in alloc; "{fault}") {
@@ -323,24 +412,14 @@ fn has_text(alloc: Global, fault: SessionFault, text: &str) -> bool {
 }
 
 #[test]
-fn faults_have_numbers_and_texts(rt: HostRuntime) {
-    let faults = [
-        (SessionFault::PeerFailed, 1, "the peer failed"),
-        (
-            SessionFault::Bad(CodecFault::Truncated(4)),
-            2,
-            "bad answer: byte 4: cut short",
-        ),
-        (SessionFault::Rounds, 3, "too many rounds"),
-        (SessionFault::NeedFull, 4, "too many ids are needed"),
-        (SessionFault::LogFull, 5, "too many bytes were answered"),
-        (SessionFault::Memory, 6, "out of memory"),
-    ];
-    for (fault, number, text) in faults {
+fn peers_and_faults(rt: HostRuntime) -> Result<(), Fail> {
+    assert!(rt; is_asked(rt.alloc()) == Some(true));
+    for (fault, number, text) in FAULTS {
         assert!(rt;
             fault.number() == number && has_text(rt.alloc(), fault, text),
             "{number}"
         );
     }
-    assert!(rt; SessionLimits::default() == limits(4096, 200_000, 67_108_864));
+    assert!(rt; Some(SessionLimits::default()) == limits(MOST));
+    Ok(())
 }
