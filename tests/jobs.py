@@ -11,6 +11,65 @@ from told import by_id, done, event, program, read, same, settings, start, writt
 
 E = [event(1700000000 + n, "event %d" % n) for n in range(4)]
 
+FRONT = "events = 'it.jsonl'\nrelays = ['a:1', 'b:2']\n"
+
+# Lines behind the front, and the key that is told of them, where the run synchronises.
+WRONG = [
+    ("listen = 'a'", "listen"),
+    ("listen = ':1'", "listen"),
+    ("listen = 'a:'", "listen"),
+    ("listen = 'a:65536'", "listen"),
+    ("listen = 'a:01'", "listen"),
+    ("listen = 'a:+1'", "listen"),
+    ("listen = 'a: 1'", "listen"),
+    ("listen = 1", "listen"),
+    ("listen = 'a:1'", "conns"),
+    ("listen = 'a:1'\nconns = 0", "conns"),
+    ("conns = 1000001", "conns"),
+    ("conns = -1", "conns"),
+    ("conns = '1'", "conns"),
+    ("conns = 1.0", "conns"),
+    ("filter = '['", "filter"),
+    ("filter = '[]'", "filter"),
+    ("filter = '{\"kinds\":[65536]}'", "filter"),
+    ("filter = '{\"ids\":[\"AA\"]}'", "filter"),
+    ("filter = {}", "filter"),
+    ("workers = 0", "workers"),
+    ("workers = 5", "workers"),
+    ("workers = [1]", "workers"),
+    ("bases = [1]", "bases"),
+    ("bases = [1, 2, 3]", "bases"),
+    ("bases = [1, 1000000001]", "bases"),
+    ("bases = [-1, 1]", "bases"),
+    ("bases = 1", "bases"),
+    ("rounds = 0", "rounds"),
+    ("rounds = 17", "rounds"),
+    ("push_ms = 0", "push_ms"),
+    ("push_ms = 60001", "push_ms"),
+    ("timeout_ms = 0", "timeout_ms"),
+    ("timeout_ms = 3600001", "timeout_ms"),
+    ("timeout_ms = '1'\npush_ms = 0", "push_ms"),
+    ("push_ms = 0\nbases = []\nworkers = 9", "workers"),
+    ("push_ms = 0\nrounds = 0\nbases = []", "bases"),
+]
+
+# Whole settings, and what is told of them.
+REFUSED = [
+    ("sync", "events", ""),
+    ("sync", "events = 'e'\nevents = 'e'\n", ""),
+    ("serve", "", " events"),
+    ("serve", "events = 1", " events"),
+    ("serve", "events = 'e'", " listen"),
+    ("serve", "events = 'e'\nlisten = 'a:1'", " conns"),
+    ("serve", "events = 'e'\nlisten = 'a:1'\nconns = 1\npush_ms = 0", " push_ms"),
+    ("sync", "events = 'e'", " relays"),
+    ("sync", "events = 'e'\nrelays = []", " relays"),
+    ("sync", "events = 'e'\nrelays = ['a:1', 'b']", " relays"),
+    ("sync", "events = 'e'\nrelays = 'a:1'", " relays"),
+    ("sync", "events = 'e'\nrelays = [['a:1']]", " relays"),
+    ("sync", "events = 'e'\nrelays = [%s]" % ", ".join(["'a:1'"] * 257), " relays"),
+]
+
 
 def relays_of(path, folder, *held):
     """A relay for each list of events, and their addresses. Each serves two connections: a session, and one that fetches."""
@@ -83,16 +142,22 @@ def refusals_say_what_and_where(path, folder):
     refused("serve", "file line 2", events="\n{}\n", listen="127.0.0.1:0", conns=1)
     with socket.create_server(("127.0.0.1", 0)) as taken:
         refused("serve", "listen", listen="127.0.0.1:%d" % taken.getsockname()[1], conns=1)
-    with open(os.path.join(folder, "no.toml"), "w") as text:
-        text.write("events = \n")
-    same(done(path, "serve", os.path.join(folder, "no.toml")), (1, "", "refused: settings\n"))
     same(done(path, "sync", os.path.join(folder, "none.toml")), (1, "", "refused: read\n"))
+
+
+def wrong_settings_are_told(path, folder):
+    conf = os.path.join(folder, "it.toml")
+    cases = [("sync", FRONT + lines + "\n", " " + key) for lines, key in WRONG] + REFUSED
+    for job, text, told in cases + [("serve", "events = \n", "")]:
+        with open(conf, "w") as file:
+            file.write(text)
+        same((text, *done(path, job, conf)), (text, 1, "", "refused: settings%s\n" % told))
 
 
 def main():
     path = program()
     for part in (two_relays_are_mirrored, a_relay_that_is_away_touches_no_other, a_level_mirror_fetches_nothing,
-                 a_filter_and_bases_are_kept, refusals_say_what_and_where):
+                 a_filter_and_bases_are_kept, refusals_say_what_and_where, wrong_settings_are_told):
         with tempfile.TemporaryDirectory() as folder:
             part(path, folder)
         print(part.__name__.replace("_", " "))
