@@ -83,6 +83,13 @@ CHOICES = [
     ("2", ["base 0 2", "offer a 0 1", "offer b 0 1", "offer c 0 1"], "group 0 1", 3),
 ]
 
+# Lines of a plan of version 2, and what `check` tells.
+OVER_BASES = [
+    (["base 0 2", "offer a 0 1", "give a 1", "group 1"], "plan 6"),
+    (["base 0 2", "offer a 0 1", "give a 1", "group"], "plan 6"),
+    (["base 7 9", "group"], "plan 6"),
+]
+
 # Gives and groups for the offers `a 0`, `b 0 1`, `c 1 2`, and what `check` tells.
 CHECKS = [
     (["give a 0", "give b 1", "give c 2", "group 0 1 2"], "least 1"),
@@ -94,20 +101,79 @@ CHECKS = [
     (["give a 0", "give b 1", "give c 2", "group"], "plan 6"),
 ]
 
-# Texts that are no plan texts.
+# Texts that are no plan texts. Each of A to E stands for the id that repeats the byte 0a to 0e, Z for the first in upper case.
 NO_PLANS = [
     ("", "line 1: form"),
-    ("nostr-plan 1\n", "line 2: form"),
-    ("nostr-plan 2\ngroup\n", "line 2: form"),
+    ("\n", "line 1: form"),
+    ("nostr-plan 1", "line 1: form"),
+    ("nostr-plan 1 \ngroup\n", "line 1: form"),
+    ("nostr-plan 1\r\ngroup\n", "line 1: form"),
+    ("nostr-plan 0\ngroup\n", "line 1: form"),
     ("nostr-plan 3\ngroup\n", "line 1: form"),
+    ("nostr-plan 2\ngroup\n", "line 2: form"),
+    ("nostr-plan 2\n", "line 2: form"),
+    ("nostr-plan 2\nbase 0 0\ngroup\n", "line 2: form"),
+    ("nostr-plan 2\nbase 0 01\ngroup\n", "line 2: form"),
+    ("nostr-plan 2\nbase 256 1\ngroup\n", "line 2: form"),
+    ("nostr-plan 2\nbase 0\ngroup\n", "line 2: form"),
+    ("nostr-plan 2\nbase 0 1 1\ngroup\n", "line 2: form"),
+    ("nostr-plan 2\nbase 0 1000000000001\ngroup\n", "line 2: form"),
+    ("nostr-plan 2\nbase 0 18446744073709551617\ngroup\n", "line 2: form"),
+    ("nostr-plan 2\nbase 0 1\nbase 1 0\ngroup\n", "line 3: form"),
+    ("nostr-plan 2\nbase 0 1\n", "line 3: form"),
+    ("nostr-plan 2\nbase 0 1\ngroup\nbase 1 1\n", "line 4: form"),
+    ("nostr-plan 1\nbase 0 1\ngroup\n", "line 2: form"),
+    ("group\n", "line 1: form"),
+    ("nostr-plan 1\n", "line 2: form"),
     ("nostr-plan 1\ngroup", "line 2: form"),
-    ("nostr-plan 1\ngroup\ngroup\n", "line 3: form"),
+    ("nostr-plan 1\ngroup \n", "line 2: form"),
+    ("nostr-plan 1\n group\n", "line 2: form"),
+    ("nostr-plan 1\nGroup\n", "line 2: form"),
+    ("nostr-plan 1\ngroups\n", "line 2: form"),
+    ("nostr-plan 1\ngroup 0 \n", "line 2: form"),
+    ("nostr-plan 1\ngroup 0  1\n", "line 2: form"),
+    ("nostr-plan 1\ngroup\t0\n", "line 2: form"),
+    ("nostr-plan 1\ngroup 00\n", "line 2: form"),
+    ("nostr-plan 1\ngroup 07\n", "line 2: form"),
+    ("nostr-plan 1\ngroup +1\n", "line 2: form"),
     ("nostr-plan 1\ngroup 256\n", "line 2: form"),
-    ("nostr-plan 1\ngroup 1 1\n", "line 2: order"),
-    ("nostr-plan 1\ngroup 1 0\nmore\n", "line 3: form"),
+    ("nostr-plan 1\ngroup 99999999999999999999\n", "line 2: form"),
+    ("nostr-plan 1\ngroup 1a\n", "line 2: form"),
+    ("nostr-plan 1\ngroup\n\n", "line 3: form"),
+    ("nostr-plan 1\ngroup\ngroup\n", "line 3: form"),
+    ("nostr-plan 1\ngroup\nx", "line 3: form"),
+    ("nostr-plan 1\nnostr-plan 1\ngroup\n", "line 2: form"),
+    ("nostr-plan 1\noffer A 0\n", "line 3: form"),
+    ("nostr-plan 1\noffer A 0", "line 2: form"),
+    ("nostr-plan 1\noffer A\ngroup\n", "line 2: form"),
+    ("nostr-plan 1\noffer A \ngroup\n", "line 2: form"),
+    ("nostr-plan 1\noffer  A 0\ngroup\n", "line 2: form"),
+    ("nostr-plan 1\noffer Z 0\ngroup\n", "line 2: form"),
+    ("nostr-plan 1\noffer A0 0\ngroup\n", "line 2: form"),
+    ("nostr-plan 1\noffer 0a 0\ngroup\n", "line 2: form"),
+    ("nostr-plan 1\ngive A 0 1\ngroup\n", "line 2: form"),
+    ("nostr-plan 1\ngive A\ngroup\n", "line 2: form"),
+    ("nostr-plan 1\ngive A 0\noffer A 0\ngroup\n", "line 3: form"),
+    ("nostr-plan 1\noffer A 0\ngroup\ngive A 0\n", "line 4: form"),
+    ("nostr-plan 1\noffer A 0\ngive A 0\n", "line 4: form"),
+    ("nostr-plan 1\noffer B 0\noffer A 0\ngroup 256\n", "line 4: form"),
+    ("nostr-plan 2\nbase 1 1\nbase 0 1\ngroup\n", "line 3: order"),
+    ("nostr-plan 2\nbase 1 1\nbase 1 2\noffer A 1 0\ngroup\n", "line 3: order"),
+    ("nostr-plan 2\nbase 10 1\nbase 9 1\ngroup 2 1\n", "line 3: order"),
+    ("nostr-plan 2\nbase 0 1\noffer A 1 0\ngroup\n", "line 3: order"),
+    ("nostr-plan 1\noffer A 1 0\ngroup\n", "line 2: order"),
+    ("nostr-plan 1\noffer A 9 10 2\ngroup\n", "line 2: order"),
+    ("nostr-plan 1\noffer A 0 0\ngroup\n", "line 2: order"),
+    ("nostr-plan 1\noffer B 0\noffer A 0\ngroup\n", "line 3: order"),
+    ("nostr-plan 1\noffer A 0\noffer A 0\ngroup\n", "line 3: order"),
+    ("nostr-plan 1\noffer A 0\ngive B 0\ngive B 0\ngroup\n", "line 4: order"),
+    ("nostr-plan 1\noffer A 0\ngroup 2 1\n", "line 3: order"),
+    ("nostr-plan 1\noffer A 0\ngive B 0\ngive A 0\ngroup 2 1\n", "line 4: order"),
     ("nostr-plan 1\ngroup\udcff\n", "not UTF-8"),
     ("n" * (LONGEST + 1), "input too long"),
 ]
+
+LETTERS = {letter: "0" + letter.lower() for letter in "ABCDE"} | {"Z": "0A"}
 
 
 def ran(path, words, text):
@@ -181,6 +247,8 @@ def an_id_that_all_relays_offer(path):
     status, made, told = ran(path, "plan", text_of("1", *offers, "group"))
     same((status, told, made.startswith(text_of("1", *offers)), made.count("\n")), (0, "", True, 6))
     same((made.endswith("group" + all_relays + "\n"), ran(path, "check", made)), (True, (0, "least 1\n", "")))
+    text = text_of("1", "offer a" + all_relays, "give a 99", "group" + all_relays)
+    same(ran(path, "check", text), (0, "least 1\n", ""))
 
 
 def plans_that_are_wrong(path):
@@ -190,7 +258,10 @@ def plans_that_are_wrong(path):
             same(ran(path, "check", text), (0, wanted + "\n", ""))
         else:
             refused(path, "check", text, wanted)
-    for text, fault in NO_PLANS:
+    for lines, fault in OVER_BASES:
+        refused(path, "check", text_of("2", *lines), fault)
+    for pattern, fault in NO_PLANS:
+        text = "".join(LETTERS.get(letter, letter) * (32 if letter in LETTERS else 1) for letter in pattern)
         for job in "plan", "check":
             refused(path, job, text, fault)
 

@@ -110,15 +110,6 @@ static DONE: [(Step, Answer); 12] = [
     (Claim(0, 3), Refused(Refusal::NoCell)),
 ];
 
-static PLAYS: [Play; 6] = [
-    (&[0, 0], &FINISHED_ONCE),
-    (&[0, 0], &CLAIMED_AGAIN),
-    (&[0, 0, 1], &REFUSED_IN_ORDER),
-    (&[0, 1], &OVER_A_BASE),
-    (&[0, 1], &MISSED),
-    (&[0], &DONE),
-];
-
 fn with_base(relay: u16, load: u64) -> Bases {
     let mut bases = Bases::none();
     let _ = bases.set(relay, load);
@@ -163,7 +154,15 @@ fn is_answered(alloc: Global, lanes: &[u16], steps: &[(Step, Answer)]) -> Option
 
 #[test]
 fn rounds_are_played(rt: HostRuntime) -> Result<(), Fail> {
-    for (play, (lanes, steps)) in PLAYS.iter().enumerate() {
+    let plays: [Play; 6] = [
+        (&[0, 0], &FINISHED_ONCE),
+        (&[0, 0], &CLAIMED_AGAIN),
+        (&[0, 0, 1], &REFUSED_IN_ORDER),
+        (&[0, 1], &OVER_A_BASE),
+        (&[0, 1], &MISSED),
+        (&[0], &DONE),
+    ];
+    for (play, (lanes, steps)) in plays.iter().enumerate() {
         assert_eq!(rt;
             (play, is_answered(rt.alloc(), lanes, steps)),
             (play, Some(true))
