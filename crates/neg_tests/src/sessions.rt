@@ -376,15 +376,15 @@ fn sessions_go(rt: HostRuntime) -> Result<(), Fail> {
 /// Whether a roll fails at a question that is no message, and answers one of another version and another one.
 fn is_asked(alloc: Global) -> Option<bool> {
     let mut peer = LocalPeer::new(alloc, roll_of(alloc, ONE).ok()?, 4_096);
-    let fails = peer.ask(b"\x61\x05").err() == Some(PeerFault::Failed);
-    let keeps = peer.pairs().is_empty() && peer.failures() == 1;
+    let fault = peer.ask(b"\x61\x05").err();
+    if fault != Some(PeerFault::Failed) || !peer.pairs().is_empty() || peer.failures() != 1 {
+        return Some(false);
+    }
     let version = peer.ask(b"\x62\x00\x00\x02\x00").ok()?;
     let answer = peer.ask(ASK_ALL).ok()?;
-    let answers = version.as_slice() == b"\x61".as_slice() && answer.as_slice() == LISTS_ONE;
     Some(
-        fails
-            && keeps
-            && answers
+        version.as_slice() == b"\x61".as_slice()
+            && answer.as_slice() == LISTS_ONE
             && are_asked(peer.pairs(), &[b"\x62\x00\x00\x02\x00", ASK_ALL])
             && are_answered(peer.pairs(), &[b"\x61", LISTS_ONE])
             && peer.failures() == 1,
