@@ -3,7 +3,7 @@
 
     bench/recon.py [--baseline PATH] [--mirror PATH] [--items N,N,..] [--ppm P,P,..] [--limit LIMIT] [--runs R]
     bench/recon.py --shapes [--baseline PATH] ..      lists of which much differs
-    bench/recon.py --rolls [--repeat PATH]            inserts and shares, by `roll_repeat`
+    bench/recon.py --rolls [--calls PATH]             inserts and shares, by `calls rolls`
 
 Both sides have N items, of which P in a million differ. Messages have at most LIMIT bytes. Programs run in turn, R times
 each; the least wall time, the least processor time and the greatest peak of resident memory are shown, and whether the
@@ -17,9 +17,7 @@ import tempfile
 
 from inputs import items as write_items
 from inputs import made
-from measure import Refused, compared, numbers, once, same
-
-ROOT = os.path.dirname(os.path.dirname(os.path.abspath(__file__)))
+from measure import Refused, compared, numbers, once, program_of, same
 
 
 def item(number, time=None):
@@ -88,7 +86,7 @@ def rolls(options):
     """Inserts and shares: processor time in all, and for one."""
     shared = None
     for what, times in (("scattered", 440_000), ("ascending", 440_000), ("shares", 0), ("shares", 10_000)):
-        cost = min(once([options.repeat, what, str(times)], os.devnull, os.devnull)[1] for _ in range(options.runs))
+        cost = min(once([options.calls, "rolls", what, str(times)], os.devnull, os.devnull)[1] for _ in range(options.runs))
         if times == 0:
             shared = cost
             continue
@@ -99,8 +97,8 @@ def rolls(options):
 def main():
     parser = argparse.ArgumentParser(description=__doc__.split("\n")[0])
     parser.add_argument("--baseline", help="the plain program")
-    parser.add_argument("--mirror", default=os.path.join(ROOT, "crates", "mirror_app", "out", "mirror_app"))
-    parser.add_argument("--repeat", default=os.path.join(ROOT, "crates", "roll_repeat", "out", "roll_repeat"))
+    parser.add_argument("--mirror", default=program_of("mirror_app"))
+    parser.add_argument("--calls", default=program_of("calls"))
     parser.add_argument("--shapes", action="store_true")
     parser.add_argument("--rolls", action="store_true")
     parser.add_argument("--items", type=numbers, default=[10_000, 100_000, 440_000])

@@ -1,9 +1,9 @@
 #!/usr/bin/env python3
 """Measures the store: inserts, pins and choices.
 
-    bench/store.py [--baseline PATH] [--store PATH] [--events N,N,..] [--runs R]
+    bench/store.py [--baseline PATH] [--calls PATH] [--events N,N,..] [--runs R]
 
-The inputs are events as JSON, one a line, with right ids (`inputs.py`). `store_repeat reads` makes the events, inserts them
+The inputs are events as JSON, one a line, with right ids (`inputs.py`). `calls store reads` makes the events, inserts them
 into a store, pins all of them, those of 100 ids, of a day and of a kind, and chooses the newest 100; it tells its
 processor time for each. Each size runs R times; the least times and the greatest peak of resident memory are shown.
 
@@ -23,16 +23,16 @@ from inputs import made
 from measure import ended, numbers, program_of
 
 
-def repeated(store, source):
+def repeated(calls, source):
     """One run: what it cost, and for each thing measured how many events it gave, how often, and its time."""
     with open(source, "rb") as stdin:
         start = time.perf_counter()
-        child = subprocess.Popen([store, "reads"], stdin=stdin, stdout=subprocess.PIPE, stderr=subprocess.PIPE)
+        child = subprocess.Popen([calls, "store", "reads"], stdin=stdin, stdout=subprocess.PIPE, stderr=subprocess.PIPE)
         found = child.stdout.read().decode().splitlines()
         taken = child.stderr.read()
         child.stdout.close()
         child.stderr.close()
-        cost = ended(child, [store], start, taken)
+        cost = ended(child, [calls], start, taken)
     rows = {}
     for gave, told in zip(found, taken.decode().splitlines()):
         name, events = gave.rsplit(" ", 1)
@@ -44,7 +44,7 @@ def repeated(store, source):
 def main():
     parser = argparse.ArgumentParser(description=__doc__.split("\n")[0])
     parser.add_argument("--baseline", help="a plain program to compare with")
-    parser.add_argument("--store", default=program_of("store_repeat"))
+    parser.add_argument("--calls", default=program_of("calls"))
     parser.add_argument("--events", type=numbers, default=[200000, 1000000])
     parser.add_argument("--runs", type=int, default=2)
     options = parser.parse_args()
@@ -52,7 +52,7 @@ def main():
         source, written = (os.path.join(folder, name) for name in ("events", "written"))
         for events in options.events:
             made(write_events, source, events)
-            runs = [repeated(options.store, source) for _ in range(options.runs)]
+            runs = [repeated(options.calls, source) for _ in range(options.runs)]
             memory = max(cost[2] for cost, _ in runs) / 1024
             print("%d events of %.0f bytes" % (events, os.path.getsize(source) / events))
             print("  %-18s %10.2f us an event, %.0f MiB, %.0f bytes an event" % (

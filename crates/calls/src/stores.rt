@@ -1,0 +1,153 @@
+//! Stores: their desks, their readers, and what is pinned.
+
+ghost use Rattle.std.specs.Prelude.{◌≡◌};
+
+use crate::events::{event, event_id, filter};
+use crate::said::Said;
+use event_store::{
+    Blank, Desk, EventList, InsertFault, Naming, PinFault, Reader, StoreFault, open_small,
+    open_store,
+};
+use nostr_filter::Filter;
+use std::alloc::Global;
+use std::sync::Wait;
+
+/// The names of the calls over a store of two events.
+pub const NAMES: &[&str] = &[
+    "Desk::insert",
+    "Reader::pin",
+    "Snapshot::choose all",
+    "Snapshot::choose picked",
+];
+
+/// What the call of that name came to, over a store of two events.
+pub fn said_of<J: Naming, R: Wait>(
+    rt: &R,
+    alloc: Global,
+    name: &str,
+    desk: &mut Desk<J, &R>,
+    reader: &mut Reader<J>,
+) -> Option<Said> {
+    match name {
+        "Desk::insert" => insert(rt, alloc, desk, reader),
+        "Reader::pin" => pin(alloc, reader),
+        "Snapshot::choose all" => chosen(alloc, reader, "{}"),
+        "Snapshot::choose picked" => chosen(alloc, reader, r##"{"kinds":[1,7]}"##),
+        _ => None,
+    }
+}
+
+/// Opens a store with two readers.
+pub fn open<J: Naming, R: Wait>(rt: &R, alloc: Global, blank: Blank) -> Option<Said>
+    requires book { blank ≡ J.book }
+    requires most { J.most ≡ 1000000 }
+{
+    opening(alloc, open_store::<J, &R>(rt, alloc, blank, 2))
+}
+
+/// Opens a store of at most three events with two readers.
+pub fn open_for_three<J: Naming, R: Wait>(rt: &R, alloc: Global, blank: Blank) -> Option<Said>
+    requires book { blank ≡ J.book }
+    requires most { J.most ≡ 3 }
+{
+    opening(alloc, open_small::<J, &R>(rt, alloc, blank, 2, 3))
+}
+
+/// What the opening of a store with two readers came to.
+fn opening<J: Naming, R: Wait>(
+    alloc: Global,
+    opened: Result<(Desk<J, &R>, Vec<Reader<J>>), StoreFault>,
+) -> Option<Said> {
+    match opened {
+        Ok((_desk, mut readers)) => {
+            let has_two = readers.len() == 2;
+            Said::ample(has_two && publishes(alloc, &mut readers.pop()?, 0))
+        }
+        Err(StoreFault::Memory) => Said::memory(true),
+        Err(StoreFault::Place) => Said::allowed(true),
+        Err(StoreFault::Readers) => Said::wrong(),
+    }
+}
+
+/// A store of the first events, so many of them, and its reader.
+pub fn store<'a, J: Naming, R: Wait>(
+    rt: &'a R,
+    alloc: Global,
+    blank: Blank,
+    count: usize,
+) -> Option<(Desk<J, &'a R>, Reader<J>)>
+    requires book { blank ≡ J.book }
+    requires most { J.most ≡ 1000000 }
+{
+    let (mut desk, mut readers) = open_store::<J, &R>(rt, alloc, blank, 1).ok()?;
+    for at in 0..count {
+        desk.insert(rt, event(alloc, at)?).ok()?;
+    }
+    Some((desk, readers.pop()?))
+}
+
+/// Whether these are the first events, so many of them.
+fn are_first(events: &EventList, count: usize) -> bool {
+    for at in 0..events.len() {
+        if event_id(at) != Some(events.get(at).id()) {
+            return false;
+        }
+    }
+    events.len() == count
+}
+
+/// Whether the first events are published, so many of them, and no others.
+pub fn publishes<J: Naming>(alloc: Global, reader: &mut Reader<J>, count: usize) -> bool {
+    reader.pin(alloc, &Filter::all()).is_ok_and(|all| all.front() == count
+        && are_first(all.events(), count))
+}
+
+/// Inserts the third event, while the two before it are pinned.
+fn insert<J: Naming, R: Wait>(
+    rt: &R,
+    alloc: Global,
+    desk: &mut Desk<J, &R>,
+    reader: &mut Reader<J>,
+) -> Option<Said> {
+    let third = event(alloc, 2)?;
+    let before = reader.pin(alloc, &Filter::all()).ok()?;
+    let placed = desk.insert(rt, third);
+    let is_pin_kept = are_first(before.events(), 2);
+    match placed {
+        Ok(placed) => Said::ample(
+            is_pin_kept && placed.is_fresh() && placed.front() == 3 && publishes(alloc, reader, 3),
+        ),
+        Err((InsertFault::Memory, third)) => Said::memory(
+            is_pin_kept
+                && event_id(2) == Some(third.id())
+                && publishes(alloc, reader, 2)
+                && desk.insert(rt, third).is_ok()
+                && publishes(alloc, reader, 3),
+        ),
+        Err((InsertFault::Full(_), _third)) => Said::wrong(),
+    }
+}
+
+fn pin<J: Naming>(alloc: Global, reader: &mut Reader<J>) -> Option<Said> {
+    let filter = filter(alloc, r##"{"kinds":[7]}"##)?;
+    match reader.pin(alloc, &filter) {
+        Ok(pinned) => Said::ample(
+            pinned.front() == 2 && pinned.events().len() == 1 && pinned.roll().len() == 1,
+        ),
+        Err(PinFault::Memory) => Said::memory(publishes(alloc, reader, 2)),
+        Err(PinFault::Gone) => Said::allowed(publishes(alloc, reader, 2)),
+    }
+}
+
+/// Chooses among what is pinned by a filter that both events match.
+fn chosen<J: Naming>(alloc: Global, reader: &mut Reader<J>, pinned: &str) -> Option<Said> {
+    let filters = [
+        filter(alloc, r##"{"limit":1}"##)?,
+        filter(alloc, r##"{"until":9}"##)?,
+    ];
+    let pinned = reader.pin(alloc, &filter(alloc, pinned)?).ok()?;
+    match pinned.choose(alloc, &filters) {
+        Ok(places) => Said::ample(places.as_slice() == [1, 0].as_slice()),
+        Err(_) => Said::memory(are_first(pinned.events(), 2)),
+    }
+}

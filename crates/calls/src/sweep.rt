@@ -1,0 +1,117 @@
+//! Calls that can answer want of memory, each by itself, for runs in which one allocation is refused.
+
+ghost use Rattle.std.specs.Prelude.{◌≡◌};
+
+use crate::said::Said;
+use crate::{boards, conns, events, jobs, links, mirrors, plans, rolls, sessions, stores};
+use event_store::{Blank, Naming};
+use std::alloc::Global;
+use std::io;
+use std::io::Write;
+use std::marker::Brand;
+use std::sync::Wait;
+use std::thread::Threads;
+
+/// The names of the calls, in the order in which they are made.
+const ALL: [&[&str]; 12] = [
+    rolls::NAMES,
+    sessions::NAMES,
+    events::NAMES,
+    plans::NAMES,
+    &["open_store", "open_small"],
+    stores::NAMES,
+    conns::NAMES,
+    boards::NAMES,
+    &["sync_plan", "fetch_all"],
+    links::NAMES,
+    &["serve_conn"],
+    jobs::NAMES,
+];
+
+/// Makes the call of that name, or with no name all of them, and prints what each came to. Whether all are right.
+pub fn sweep<R: Print + Threads + Wait + Sync>(
+    rt: &R,
+    alloc: Global,
+    only: Option<&str>,
+) -> io::Result<bool> {
+    let mut is_right = true;
+    for names in ALL {
+        for name in names {
+            if only.is_none_or(|only| only == *name) {
+                let said = said_of(rt, alloc, name);
+                println!(rt; "{name}: {}", told(said))?;
+                is_right = is_right && !matches!(said, Some(Said::Wrong(_)));
+            }
+        }
+    }
+    Ok(is_right)
+}
+
+/// The word for what a call came to.
+fn told(said: Option<Said>) -> &'static str {
+    match said {
+        Some(Said::Ample) => "ample",
+        Some(Said::Memory) => "memory",
+        Some(Said::Allowed) => "allowed",
+        Some(Said::Wrong(what)) => what,
+        None => "outside",
+    }
+}
+
+/// What the call of that name came to; none where the refusal fell outside it.
+fn said_of<R: Threads + Wait + Sync>(rt: &R, alloc: Global, name: &str) -> Option<Said> {
+    if rolls::NAMES.contains(&name) {
+        rolls::said_of(alloc, name)
+    } else if sessions::NAMES.contains(&name) {
+        sessions::said_of(alloc, name)
+    } else if events::NAMES.contains(&name) {
+        events::said_of(alloc, name)
+    } else if plans::NAMES.contains(&name) {
+        plans::said_of(alloc, name)
+    } else if boards::NAMES.contains(&name) {
+        boards::said_of(alloc, name)
+    } else if links::NAMES.contains(&name) {
+        links::said_of(alloc, name)
+    } else {
+        match name {
+            "read_settings" => jobs::read(alloc),
+            "open_store" => stores::open::<Brand, R>(rt, alloc, Blank::new()),
+            "open_small" => stores::open_for_three::<Brand, R>(rt, alloc, Blank::new()),
+            _ => over_store::<Brand, R>(rt, alloc, Blank::new(), name),
+        }
+    }
+}
+
+/// How many events the store has over which the call of that name is made.
+fn held(name: &str) -> usize {
+    match name {
+        "fetch_all" | "insert_lines" => 0,
+        "write_lines" => 2,
+        _ if stores::NAMES.contains(&name) => 2,
+        _ => 1,
+    }
+}
+
+/// What the call of that name came to, of those over a store.
+fn over_store<J: Naming + Send + Sync, R: Threads + Wait + Sync>(
+    rt: &R,
+    alloc: Global,
+    blank: Blank,
+    name: &str,
+) -> Option<Said>
+    requires book { blank ≡ J.book }
+    requires most { J.most ≡ 1000000 }
+{
+    let (mut desk, mut reader) = stores::store::<J, R>(rt, alloc, blank, held(name))?;
+    match name {
+        "sync_plan" => mirrors::synced(rt, alloc, &mut reader),
+        "fetch_all" => mirrors::fetched(rt, alloc, desk, &mut reader),
+        "serve_conn" => links::served(rt, alloc, desk, &mut reader),
+        "insert_lines" => jobs::insert(rt, alloc, &mut desk, &mut reader),
+        "write_lines" => jobs::write(alloc, &mut reader),
+        _ if stores::NAMES.contains(&name) => {
+            stores::said_of(rt, alloc, name, &mut desk, &mut reader)
+        }
+        _ => conns::said_of(rt, alloc, name, &mut desk, &mut reader),
+    }
+}
