@@ -62,13 +62,13 @@ fn close(alloc: Global) -> Option<Said> {
     let (board, lane) = board(alloc)?;
     match board.close(lane) {
         Ok(cells) => Said::ample(cells.as_slice() == free.as_slice()),
-        Err((_refused, board, lane)) => Said::memory(
-            board.len() == 3
-                && lane.relay() == 0
-                && board
-                    .close(lane)
-                    .is_ok_and(|cells| cells.as_slice() == free.as_slice()),
-        ),
+        Err((_refused, board, lane)) => {
+            let is_kept = board.len() == 3 && lane.relay() == 0;
+            let Ok(cells) = board.close(lane) else {
+                return Said::wrong();
+            };
+            Said::memory(is_kept && cells.as_slice() == free.as_slice())
+        }
     }
 }
 

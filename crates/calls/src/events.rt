@@ -99,7 +99,7 @@ pub fn event_text(alloc: Global, front: &str, at: usize) -> Option<String> {
 
 /// The id of the event at a place in the list.
 pub fn event_id(at: usize) -> Option<Id> {
-    bytes32_of(IDS.get(at)?).map(Id)
+    Some(Id(bytes32_of(IDS.get(at)?)?))
 }
 
 fn parsed(alloc: Global, text: &str) -> Option<Value> {

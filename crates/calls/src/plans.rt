@@ -146,12 +146,13 @@ fn planned_next(alloc: Global) -> Option<Said> {
     }
     match next_plan(alloc, &mut table, &last, &cells, &Bases::none()) {
         Ok(next) => Said::ample(is_next(&table, &next)),
-        Err(_) => Said::memory(
-            has_left(&table)
-                && next_plan(alloc, &mut table, &last, &cells, &Bases::none()).is_ok_and(
-                    |next| is_next(&table, &next),
-                ),
-        ),
+        Err(_) => {
+            let has_left = has_left(&table);
+            let Ok(next) = next_plan(alloc, &mut table, &last, &cells, &Bases::none()) else {
+                return Said::wrong();
+            };
+            Said::memory(has_left && is_next(&table, &next))
+        }
     }
 }
 

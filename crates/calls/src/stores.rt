@@ -98,8 +98,10 @@ fn are_first(events: &EventList, count: usize) -> bool {
 
 /// Whether the first events are published, so many of them, and no others.
 pub fn publishes<J: Naming>(alloc: Global, reader: &mut Reader<J>, count: usize) -> bool {
-    reader.pin(alloc, &Filter::all()).is_ok_and(|all| all.front() == count
-        && are_first(all.events(), count))
+    let Ok(all) = reader.pin(alloc, &Filter::all()) else {
+        return false;
+    };
+    all.front() == count && are_first(all.events(), count)
 }
 
 /// Inserts the third event, while the two before it are pinned.

@@ -105,7 +105,7 @@ fn inserted<J: Naming, R: Wait>(
             Ok(placed) => Some(placed),
             Err((_fault, event)) => insert_again(rt, alloc, desk, reader, event, fresh),
         };
-        if placed.is_some_and(|placed| placed.is_fresh()) {
+        if matches!(&placed, Some(placed) if placed.is_fresh()) {
             fresh = fresh.saturating_add(1);
         }
     }

@@ -37,11 +37,12 @@ pub fn sweep<R: Print + Threads + Wait + Sync>(
     let mut is_right = true;
     for names in ALL {
         for name in names {
-            if only.is_none_or(|only| only == *name) {
-                let said = said_of(rt, alloc, name);
-                println!(rt; "{name}: {}", told(said))?;
-                is_right = is_right && !matches!(said, Some(Said::Wrong(_)));
+            if matches!(only, Some(only) if only != *name) {
+                continue;
             }
+            let said = said_of(rt, alloc, name);
+            println!(rt; "{name}: {}", told(said))?;
+            is_right = is_right && !matches!(said, Some(Said::Wrong(_)));
         }
     }
     Ok(is_right)
