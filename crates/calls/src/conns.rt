@@ -1,6 +1,7 @@
 //! Connections of a relay.
 
 use crate::events::{GIVEN, SENT, event, event_id, event_text};
+use crate::over::Call;
 use crate::said::Said;
 use crate::stores::publishes;
 use event_store::{Desk, Naming, Reader};
@@ -35,28 +36,28 @@ const LISTS_FIRST: &str =
 const DUPLICATE: &str =
     r##"["OK","c834e78ee1a16342ad8786756ffb00d078df09ccbc0c6d17605aafc6897bc7de",true,"duplicate: already have this event"]"##;
 
-/// What the call of that name came to, over a store of the first event.
+/// What a call on a connection came to, over a store of the first event.
 pub fn said_of<J: Naming, R: Wait>(
     rt: &R,
     alloc: Global,
-    name: &str,
+    call: Call,
     desk: &mut Desk<J, &R>,
     reader: &mut Reader<J>,
 ) -> Option<Said> {
     let conn = &mut Conn::new(alloc, RelayLimits::default());
-    match name {
-        "Conn::serve EVENT" => gives(alloc, conn, reader),
-        "Conn::serve REQ" => {
+    match call {
+        Call::Event => gives(alloc, conn, reader),
+        Call::Request => {
             let first = event_text(alloc, SENT, 0)?;
             says(alloc, conn, reader, REQUEST, &[first.as_str(), EOSE])
         }
-        "Conn::serve NEG-OPEN" => says(alloc, conn, reader, NEG_OPEN, &[LISTS_FIRST]),
-        "Conn::serve NEG-MSG" => {
+        Call::NegOpen => says(alloc, conn, reader, NEG_OPEN, &[LISTS_FIRST]),
+        Call::NegMsg => {
             conn.serve(reader, NEG_OPEN).ok()?;
             says(alloc, conn, reader, NEG_MSG, &[LISTS_FIRST])
         }
-        "Conn::stored" => stored(rt, alloc, desk, conn, reader),
-        "Conn::catch_up" => catch_up(rt, alloc, desk, conn, reader),
+        Call::Stored => stored(rt, alloc, desk, conn, reader),
+        Call::CatchUp => catch_up(rt, alloc, desk, conn, reader),
         _ => None,
     }
 }

@@ -19,6 +19,7 @@ mod filling;
 mod jobs;
 mod links;
 mod mirrors;
+mod over;
 mod plans;
 mod rolls;
 mod said;

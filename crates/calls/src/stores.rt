@@ -20,23 +20,6 @@ pub const NAMES: &[&str] = &[
     "Snapshot::choose picked",
 ];
 
-/// What the call of that name came to, over a store of two events.
-pub fn said_of<J: Naming, R: Wait>(
-    rt: &R,
-    alloc: Global,
-    name: &str,
-    desk: &mut Desk<J, &R>,
-    reader: &mut Reader<J>,
-) -> Option<Said> {
-    match name {
-        "Desk::insert" => insert(rt, alloc, desk, reader),
-        "Reader::pin" => pin(alloc, reader),
-        "Snapshot::choose all" => chosen(alloc, reader, "{}"),
-        "Snapshot::choose picked" => chosen(alloc, reader, r##"{"kinds":[1,7]}"##),
-        _ => None,
-    }
-}
-
 /// Opens a store with two readers.
 pub fn open<J: Naming, R: Wait>(rt: &R, alloc: Global, blank: Blank) -> Option<Said>
     requires book { blank ≡ J.book }
@@ -105,7 +88,7 @@ pub fn publishes<J: Naming>(alloc: Global, reader: &mut Reader<J>, count: usize)
 }
 
 /// Inserts the third event, while the two before it are pinned.
-fn insert<J: Naming, R: Wait>(
+pub fn insert<J: Naming, R: Wait>(
     rt: &R,
     alloc: Global,
     desk: &mut Desk<J, &R>,
@@ -130,7 +113,8 @@ fn insert<J: Naming, R: Wait>(
     }
 }
 
-fn pin<J: Naming>(alloc: Global, reader: &mut Reader<J>) -> Option<Said> {
+/// Pins one of the two events.
+pub fn pin<J: Naming>(alloc: Global, reader: &mut Reader<J>) -> Option<Said> {
     let filter = filter(alloc, r##"{"kinds":[7]}"##)?;
     match reader.pin(alloc, &filter) {
         Ok(pinned) => Said::ample(
@@ -142,7 +126,7 @@ fn pin<J: Naming>(alloc: Global, reader: &mut Reader<J>) -> Option<Said> {
 }
 
 /// Chooses among what is pinned by a filter that both events match.
-fn chosen<J: Naming>(alloc: Global, reader: &mut Reader<J>, pinned: &str) -> Option<Said> {
+pub fn chosen<J: Naming>(alloc: Global, reader: &mut Reader<J>, pinned: &str) -> Option<Said> {
     let filters = [
         filter(alloc, r##"{"limit":1}"##)?,
         filter(alloc, r##"{"until":9}"##)?,

@@ -1,10 +1,9 @@
 //! Calls that can answer want of memory, each by itself, for runs in which one allocation is refused.
 
-ghost use Rattle.std.specs.Prelude.{◌≡◌};
-
+use crate::over::{call_of, over_store};
 use crate::said::Said;
-use crate::{boards, conns, events, jobs, links, mirrors, plans, rolls, sessions, stores};
-use event_store::{Blank, Naming};
+use crate::{boards, conns, events, jobs, links, plans, rolls, sessions, stores};
+use event_store::Blank;
 use std::alloc::Global;
 use std::io;
 use std::io::Write;
@@ -78,41 +77,7 @@ fn said_of<R: Threads + Wait + Sync>(rt: &R, alloc: Global, name: &str) -> Optio
             "read_settings" => jobs::read(alloc),
             "open_store" => stores::open::<Brand, R>(rt, alloc, Blank::new()),
             "open_small" => stores::open_for_three::<Brand, R>(rt, alloc, Blank::new()),
-            _ => over_store::<Brand, R>(rt, alloc, Blank::new(), name),
+            _ => over_store::<Brand, R>(rt, alloc, Blank::new(), call_of(name)?),
         }
-    }
-}
-
-/// How many events the store has over which the call of that name is made.
-fn held(name: &str) -> usize {
-    match name {
-        "fetch_all" | "insert_lines" => 0,
-        "write_lines" => 2,
-        _ if stores::NAMES.contains(&name) => 2,
-        _ => 1,
-    }
-}
-
-/// What the call of that name came to, of those over a store.
-fn over_store<J: Naming + Send + Sync, R: Threads + Wait + Sync>(
-    rt: &R,
-    alloc: Global,
-    blank: Blank,
-    name: &str,
-) -> Option<Said>
-    requires book { blank ≡ J.book }
-    requires most { J.most ≡ 1000000 }
-{
-    let (mut desk, mut reader) = stores::store::<J, R>(rt, alloc, blank, held(name))?;
-    match name {
-        "sync_plan" => mirrors::synced(rt, alloc, &mut reader),
-        "fetch_all" => mirrors::fetched(rt, alloc, desk, &mut reader),
-        "serve_conn" => links::served(rt, alloc, desk, &mut reader),
-        "insert_lines" => jobs::insert(rt, alloc, &mut desk, &mut reader),
-        "write_lines" => jobs::write(alloc, &mut reader),
-        _ if stores::NAMES.contains(&name) => {
-            stores::said_of(rt, alloc, name, &mut desk, &mut reader)
-        }
-        _ => conns::said_of(rt, alloc, name, &mut desk, &mut reader),
     }
 }
