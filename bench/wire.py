@@ -53,8 +53,8 @@ class Client:
     def send(self, *texts):
         self.socket.sendall(b"".join(self.frame(text) for text in texts))
 
-    def read(self):
-        """The next text."""
+    def next(self):
+        """The opcode and the payload of the next frame that isn't a ping, and a text whole."""
         whole = b""
         while True:
             first, second = self.take(2)
@@ -69,10 +69,19 @@ class Client:
                 raise Gone("the relay said goodbye")
             if opcode == 9:
                 self.socket.sendall(self.frame(body, 10))
+            elif opcode == 10:
+                return opcode, body
             elif opcode in (0, 1, 2):
                 whole += body
                 if first & 0x80:
-                    return whole
+                    return 1, whole
+
+    def read(self):
+        """The next text."""
+        while True:
+            opcode, whole = self.next()
+            if opcode == 1:
+                return whole
 
     def close(self):
         """Says goodbye and waits for the other's, so that the relay has ended its part."""

@@ -1,0 +1,429 @@
+#!/usr/bin/env python3
+"""Says texts to `nostr-mirror serve`, one after another, and compares all that a client is sent for each.
+
+    tests/conns.py [PATH]      (PATH of the program; else the proved build)
+
+Each play is one of a client with a relay that has no events yet, beside another client that only gives events. Behind each text
+goes a ping: what comes before its pong was sent for that text. The wanted answers are those of docs/FORMATS.md, "A relay's
+answers".
+"""
+import hashlib
+import json
+import os
+import subprocess
+import tempfile
+import time
+
+from told import program, read, same, settings, start
+from wire import Client
+
+# The limits of a connection.
+SUBS, FILTERS, TEXT, SESSIONS = 32, 16, 2_200_000, 16
+# For how many milliseconds a relay that pushes reads before it sends what is new.
+PUSH_MS = 20
+
+
+def small(number):
+    """The event of that number, its content. Number 1 has the time 9 and every other one the time 10; of the ids of 1, 2 and 3 that of
+    3 is the lowest."""
+    draft = [0, "01" * 32, 9 if number == 1 else 10, 1, [], str(number)]
+    text = json.dumps(draft, separators=(",", ":"))
+    return {"id": hashlib.sha256(text.encode()).hexdigest(), "pubkey": draft[1], "created_at": draft[2], "kind": 1, "tags": [],
+            "content": draft[5], "sig": "5a" * 64}
+
+
+EVENTS = {str(number): small(number) for number in range(1, 10)}
+NUMBERS = {event["id"]: number for number, event in EVENTS.items()}
+
+
+def shown(text):
+    """A message in short: an event is told by the subscription and its number, which stands for its id too."""
+    message = json.loads(text)
+    if message[0] == "EVENT":
+        same(message[2], EVENTS[message[2]["content"]])
+        return "%s %s" % (message[1], message[2]["content"])
+    if message[0] == "OK":
+        return "%s %s %s" % (NUMBERS[message[1]], json.dumps(message[2]), message[3])
+    return text.decode()
+
+
+class Talker(Client):
+    """A client that tells what it is sent for each text."""
+
+    def __init__(self, port):
+        super().__init__(port)
+        self.socket.settimeout(30)
+        self.pings = 0
+
+    def sent_until_pong(self):
+        """The texts that come before the pong of a new ping."""
+        self.pings += 1
+        beat = b"%d" % self.pings
+        self.socket.sendall(self.frame(beat, 9))
+        texts = []
+        while (found := self.next()) != (10, beat):
+            same(found[0], 1)
+            texts.append(shown(found[1]))
+        return texts
+
+    def answers(self, text):
+        self.send(text.encode())
+        return self.sent_until_pong()
+
+    def pushed(self, count):
+        """The texts that come by themselves, where there are to be so many."""
+        texts = [shown(self.read()) for _text in range(count)]
+        time.sleep(PUSH_MS * 10 / 1000)
+        return texts + self.sent_until_pong()
+
+
+def gives(number):
+    return json.dumps(["EVENT", EVENTS[str(number)]])
+
+
+def other(number):
+    """A step: the other client gives the event of that number."""
+    return number, []
+
+
+# A step: nothing is said, and the relay is waited for.
+WAITS = None
+
+
+def step(client, beside, what, count):
+    """All that the client is sent for a step, which is to be so many texts."""
+    if what is WAITS:
+        return client.pushed(count)
+    if isinstance(what, int):
+        same(beside.answers(gives(what)), ["%d true " % what])
+        return []
+    return client.answers(what)
+
+
+def play(path, steps, **values):
+    """Does each step, and compares what the client is sent for it. The relay's file then has the events that were given."""
+    with tempfile.TemporaryDirectory() as folder:
+        conf = settings(folder, "relay", listen="127.0.0.1:0", conns=2, **values)
+        relay, port = start(path, "serve", conf)
+        try:
+            client, beside = Talker(port), Talker(port)
+            for number, (what, wanted) in enumerate(steps):
+                same([number, what and str(what)[:200], step(client, beside, what, len(wanted))],
+                     [number, what and str(what)[:200], wanted])
+            client.close()
+            beside.close()
+            given = [what if isinstance(what, int) else int(wanted[0].split()[0])
+                     for what, wanted in steps if isinstance(what, int) or wanted and " true " in wanted[0]]
+            given = list(dict.fromkeys(given))
+            same(relay.communicate(timeout=60), ("served 2\nevents %d\n" % len(given), ""))
+            if given:
+                same(read(os.path.join(folder, "relay.jsonl")), [EVENTS[str(number)] for number in given])
+        finally:
+            relay.kill()
+            relay.communicate()
+
+
+def eose(sub):
+    return json.dumps(["EOSE", sub], ensure_ascii=False, separators=(",", ":"))
+
+
+def req(sub, *filters):
+    return '["REQ","%s",%s]' % (sub, ",".join(filters or ("{}",)))
+
+
+def neg_err(sub, text):
+    return '["NEG-ERR","%s","%s"]' % (sub, text)
+
+
+def closed(sub, text):
+    return '["CLOSED","%s","%s"]' % (sub, text)
+
+
+def neg_open(sub, message, about="{}"):
+    return '["NEG-OPEN","%s",%s,"%s"]' % (sub, about, message)
+
+
+def neg_msg(sub, message):
+    return '["NEG-MSG","%s","%s"]' % (sub, message)
+
+
+def the_newest_are_chosen(path):
+    """And of one time the lowest id first."""
+    play(path, [
+        (gives(1), ["1 true "]),
+        (gives(2), ["2 true "]),
+        (gives(3), ["3 true "]),
+        (req("a", '{"limit":2}'), ["a 3", "a 2", eose("a")]),
+        (req("a", '{"limit":1}'), ["a 3", eose("a")]),
+        (req("a", '{"limit":0}'), [eose("a")]),
+        (req("a", '{"until":9}', '{"limit":1}'), ["a 3", "a 1", eose("a")]),
+    ])
+
+
+def events_are_sent_once(path):
+    play(path, [
+        (req("a"), [eose("a")]),
+        (gives(1), ["1 true ", "a 1"]),
+        (req("b"), ["b 1", eose("b")]),
+        (gives(1), ["1 true duplicate: already have this event"]),
+        other(2),
+        ('["CLOSE","c"]', ["a 2", "b 2"]),
+        ('["CLOSE","c"]', []),
+        other(3),
+        # What was there at the request comes before its end, and behind it what the other subscriptions lack.
+        (req("aa"), ["aa 3", "aa 2", "aa 1", eose("aa"), "a 3", "b 3"]),
+        ('["CLOSE","c"]', []),
+    ])
+
+
+def events_come_by_themselves(path):
+    play(path, [
+        (req("a"), [eose("a")]),
+        other(1),
+        (WAITS, ["a 1"]),
+        (req("b"), ["b 1", eose("b")]),
+        (WAITS, []),
+        other(2),
+        (WAITS, ["a 2", "b 2"]),
+        (WAITS, []),
+        ('["CLOSE","a"]', []),
+        other(3),
+        (WAITS, ["b 3"]),
+    ], push_ms=PUSH_MS)
+
+
+def names_in_byte_order(path):
+    """Each event once to each, with its own filters and its own mark."""
+    play(path, [
+        (req("b"), [eose("b")]),
+        (req("é", '{"until":9}', "{}"), [eose("é")]),
+        (req("B", '{"until":9}'), [eose("B")]),
+        other(2),
+        (req("a"), ["a 2", eose("a"), "b 2", "é 2"]),
+        other(1),
+        (req("aa", '{"since":10}'), ["aa 2", eose("aa"), "B 1", "a 1", "b 1", "é 1"]),
+        other(3),
+        ('["CLOSE","c"]', ["a 3", "aa 3", "b 3", "é 3"]),
+        ('["CLOSE","b"]', []),
+        ('["CLOSE","c"]', []),
+    ])
+    # In the order in which events were published, and not by time or by id.
+    play(path, [
+        (req("b"), [eose("b")]),
+        (req("é", '{"until":9}', "{}"), [eose("é")]),
+        (req("B", '{"until":9}'), [eose("B")]),
+        other(2),
+        other(1),
+        other(3),
+        (req("a"), ["a 3", "a 2", "a 1", eose("a"), "b 2", "é 2", "B 1", "b 1", "é 1", "b 3", "é 3"]),
+        ('["CLOSE","b"]', []),
+        other(4),
+        (req("aa", '{"limit":0}'), [eose("aa"), "a 4", "é 4"]),
+        other(5),
+        ('["CLOSE","aa"]', ["a 5", "é 5"]),
+    ])
+
+
+def subscriptions_end(path):
+    """A subscription is replaced, closed, or refused, which ends it too."""
+    names = ["s%02d" % number for number in range(SUBS)]
+    too_many = "blocked: too many subscriptions"
+    play(path, [(req(name), [eose(name)]) for name in names] + [
+        (req("t"), [closed("t", too_many)]),
+        other(1),
+        ('["CLOSE","t"]', [name + " 1" for name in names]),
+        (req("s00", '{"until":9}'), ["s00 1", eose("s00")]),
+        other(2),
+        ('["CLOSE","t"]', [name + " 2" for name in names[1:]]),
+        (req("s00"), ["s00 2", "s00 1", eose("s00")]),
+        (req("s00", *["{}"] * FILTERS), ["s00 2", "s00 1", eose("s00")]),
+        (req("t", *["{}"] * (FILTERS + 1)), [closed("t", "blocked: too many filters")]),
+        (req("s00", *["{}"] * (FILTERS + 1)), [closed("s00", "blocked: too many filters")]),
+        other(3),
+        ('["CLOSE","t"]', [name + " 3" for name in names[1:]]),
+        (req("t", '{"limit":0}'), [eose("t")]),
+        (req("s00"), [closed("s00", too_many)]),
+        ('["CLOSE","t"]', []),
+        (req("s00", '{"limit":0}'), [eose("s00")]),
+    ])
+
+
+def texts_that_are_no_messages(path):
+    """And sessions about no events."""
+    bad = '["NOTICE","invalid: bad message"]'
+    play(path, [
+        ("hello", [bad]),
+        (neg_msg("zz", "61"), [neg_err("zz", "closed: no such session")]),
+        (neg_open("s", "6100000200"), [neg_msg("s", "6100000200")]),
+        (neg_open("s", "6200000200"), [neg_msg("s", "61")]),
+        (neg_msg("s", "6100000200"), [neg_msg("s", "6100000200")]),
+        (neg_open("s", "6105"), [neg_err("s", "invalid: bad message")]),
+        (neg_msg("s", "61"), [neg_err("s", "closed: no such session")]),
+        ('["CLOSE","s"]', []),
+        ('["NEG-CLOSE","s"]', []),
+        ('["EVENT",{}]', [bad]),
+        ('["EVENT",{"id":"%s"}]' % EVENTS["1"]["id"], ["1 false invalid: bad event"]),
+        ('["REQ","a"]', [bad]),
+    ])
+
+
+ONE = "6100000201" + EVENTS["1"]["id"]
+TWO = "6100000202" + EVENTS["1"]["id"] + EVENTS["2"]["id"]
+
+
+def sessions_keep_what_they_found(path):
+    """A filter's limit has no part in it."""
+    play(path, [
+        (gives(1), ["1 true "]),
+        (neg_open("s", "6100000200", '{"limit":0}'), [neg_msg("s", ONE)]),
+        (gives(2), ["2 true "]),
+        (neg_msg("s", "6100000200"), [neg_msg("s", ONE)]),
+        (req("s", '{"until":9}'), ["s 1", eose("s")]),
+        ('["CLOSE","s"]', []),
+        (neg_msg("s", "6100000200"), [neg_msg("s", ONE)]),
+        (neg_open("s", "6100000200"), [neg_msg("s", TWO)]),
+        ('["NEG-CLOSE","t"]', []),
+        ('["NEG-CLOSE","s"]', []),
+        (neg_msg("s", "6100000200"), [neg_err("s", "closed: no such session")]),
+    ])
+
+
+def sessions_end(path):
+    """A session is replaced, closed, or refused, which ends it too."""
+    names = ["s%02d" % number for number in range(SESSIONS)]
+    too_many, none = "blocked: too many sessions", "closed: no such session"
+    play(path, [(gives(1), ["1 true "])] + [(neg_open(name, "6100000200"), [neg_msg(name, ONE)]) for name in names] + [
+        (neg_open("t", "61"), [neg_err("t", too_many)]),
+        # That comes before a bad message.
+        (neg_open("t", "6105"), [neg_err("t", too_many)]),
+        (neg_msg("t", "61"), [neg_err("t", none)]),
+        (neg_msg("s00", "61"), [neg_msg("s00", "61")]),
+        (gives(2), ["2 true "]),
+        (neg_open("s00", "6100000200"), [neg_msg("s00", TWO)]),
+        (neg_open("s00", "6105"), [neg_err("s00", "invalid: bad message")]),
+        (neg_msg("s00", "61"), [neg_err("s00", none)]),
+        (neg_open("t", "6100000200", '{"until":9}'), [neg_msg("t", ONE)]),
+        (neg_open("s00", "61"), [neg_err("s00", too_many)]),
+        (neg_msg("s01", "6105"), [neg_err("s01", "invalid: bad message")]),
+        (neg_open("s00", "61"), [neg_msg("s00", "61")]),
+        ('["NEG-CLOSE","s02"]', []),
+        (neg_open("s01", "61"), [neg_msg("s01", "61")]),
+        (neg_open("s02", "61"), [neg_err("s02", too_many)]),
+    ])
+
+
+def long_texts(path):
+    """Bytes are counted, and not characters."""
+    most = '["CLOSE","s","%s"]' % ("é" * ((TEXT - 16) // 2))
+    same(len(most.encode()), TEXT)
+    play(path, [
+        (most, []),
+        (most.replace("CLOSE", "CLOSED"), ['["NOTICE","invalid: message too long"]']),
+        (most, []),
+    ])
+
+
+class Bad(Exception):
+    """Bytes that are no message."""
+
+
+def number_at(data, at):
+    """The number that stands at a place, and the place behind it."""
+    if data[at:at + 1] == b"\x80":
+        raise Bad
+    value = 0
+    for place in range(at, len(data)):
+        value = value << 7 | data[place] & 127
+        if value >> 64:
+            raise Bad
+        if data[place] < 128:
+            return value, place + 1
+    raise Bad
+
+
+def behind(data, at, count):
+    """The place that so many bytes further on."""
+    if at + count > len(data):
+        raise Bad
+    return at + count
+
+
+def range_at(data, at, bound):
+    """The bound of the range that stands at a place, none at infinity, and the place behind it."""
+    code, at = number_at(data, at)
+    size, at = number_at(data, at)
+    end = behind(data, at, size)
+    found = (bound[0] + code - 1, data[at:end].ljust(32, b"\0")) if code else None
+    mode, at = number_at(data, end)
+    if size > 32 or mode > 2 or code and (found[0] >= (1 << 64) - 1 or found < bound):
+        raise Bad
+    if mode == 1:
+        at = behind(data, at, 16)
+    if mode == 2:
+        count, at = number_at(data, at)
+        at = behind(data, at, 32 * count)
+    return found, at
+
+
+def is_answered(data):
+    """Whether bytes are a message, or one of another version (docs/FORMATS.md, "Messages")."""
+    if data[:1] != b"\x61":
+        return bool(data)
+    at, bound = 1, (0, bytes(32))
+    try:
+        while at < len(data):
+            if bound is None:
+                return False
+            bound, at = range_at(data, at, bound)
+    except Bad:
+        return False
+    return True
+
+
+def session_of(client, data):
+    """Compares how a session is answered and goes on, or is ended, where its first message is this one, and where its second is."""
+    plain, text = neg_msg("s", "61"), data.hex()
+    client.send(*(said.encode() for said in (neg_open("s", text), plain, neg_open("s", "61"), neg_msg("s", text), plain)))
+    found = [json.loads(client.read()) for _answer in range(5)]
+    bad, none = json.loads(neg_err("s", "invalid: bad message")), json.loads(neg_err("s", "closed: no such session"))
+    good = is_answered(data)
+    same([data.hex(), [it if it[0] == "NEG-ERR" else it[:2] for it in found]],
+         [data.hex(), [["NEG-MSG", "s"]] * 5 if good else [bad, none, ["NEG-MSG", "s"], bad, none]])
+
+
+# Messages of which some are bad, and some have bad beginnings.
+MESSAGES = ["6100000000", "610600020101" + "01" * 31, "610601020001010100", "610601020001010200", "610001ff00", "6200000200"]
+
+
+def beginnings_of_messages(path):
+    """Of those, and of the reply to a mirror without items about 400 at the times from 0 on."""
+    items = "".join("%d %02x%02x%s\n" % (at, at % 256, at // 256, "07" * 30) for at in range(400))
+    ran = subprocess.run([path, "recon", "--limit", "4096"], input="mine\ntheirs\n" + items, capture_output=True, text=True,
+                         timeout=60, check=True)
+    reply = bytes.fromhex(ran.stdout.splitlines()[1].removeprefix("reply "))
+    same(len(reply), 3_992)
+    with tempfile.TemporaryDirectory() as folder:
+        relay, port = start(path, "serve", settings(folder, "relay", listen="127.0.0.1:0", conns=1))
+        try:
+            client = Client(port)
+            client.socket.settimeout(30)
+            for whole in [bytes.fromhex(text) for text in MESSAGES] + [reply]:
+                for size in range(len(whole) + 1):
+                    session_of(client, whole[:size])
+            client.close()
+            same(relay.communicate(timeout=60), ("served 1\nevents 0\n", ""))
+        finally:
+            relay.kill()
+            relay.communicate()
+
+
+def main():
+    path = program()
+    for part in (the_newest_are_chosen, events_are_sent_once, events_come_by_themselves, names_in_byte_order, subscriptions_end,
+                 texts_that_are_no_messages, sessions_keep_what_they_found, sessions_end, long_texts, beginnings_of_messages):
+        part(path)
+        print(part.__name__.replace("_", " "))
+
+
+if __name__ == "__main__":
+    main()
