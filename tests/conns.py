@@ -100,6 +100,13 @@ def step(client, beside, what, count):
     return client.answers(what)
 
 
+def given_in(steps):
+    """The events that are given, each once."""
+    numbers = [what if isinstance(what, int) else wanted[0].split()[0]
+               for what, wanted in steps if isinstance(what, int) or wanted and wanted[0].endswith(" true ")]
+    return [EVENTS[str(number)] for number in numbers]
+
+
 def play(path, steps, **values):
     """Does each step, and compares what the client is sent for it. The relay's file then has the events that were given."""
     with tempfile.TemporaryDirectory() as folder:
@@ -108,16 +115,14 @@ def play(path, steps, **values):
         try:
             client, beside = Talker(port), Talker(port)
             for number, (what, wanted) in enumerate(steps):
-                same([number, what and str(what)[:200], step(client, beside, what, len(wanted))],
-                     [number, what and str(what)[:200], wanted])
+                at = [number, str(what)[:200]]
+                same(at + step(client, beside, what, len(wanted)), at + wanted)
             client.close()
             beside.close()
-            given = [what if isinstance(what, int) else int(wanted[0].split()[0])
-                     for what, wanted in steps if isinstance(what, int) or wanted and " true " in wanted[0]]
-            given = list(dict.fromkeys(given))
+            given = given_in(steps)
             same(relay.communicate(timeout=60), ("served 2\nevents %d\n" % len(given), ""))
             if given:
-                same(read(os.path.join(folder, "relay.jsonl")), [EVENTS[str(number)] for number in given])
+                same(read(os.path.join(folder, "relay.jsonl")), given)
         finally:
             relay.kill()
             relay.communicate()
@@ -342,7 +347,7 @@ def number_at(data, at):
 
 
 def behind(data, at, count):
-    """The place that so many bytes further on."""
+    """The place so many bytes further on."""
     if at + count > len(data):
         raise Bad
     return at + count
