@@ -3,40 +3,17 @@ ghost use Rattle.std.specs.Prelude.{◌≡◌, length, slice_index, IfSome};
 ghost use Rattle.claim_board.specs.Rules.{relays, fresh, IsIdOf};
 ghost use Rattle.claim_board.specs.Views.{placed_at};
 
+use crate::events::event;
 use claim_board::{Board, BoardFault, Cell, Claimed, Lane};
 use event_store::{Blank, Naming, Placed, open_store};
 use fetch_plan::{Plan, plan};
 use neg_codec::Id;
-use nostr_event::{Draft, Event, Spelling, Tags, Text, id_of};
 use offer_table::{Bases, OfferTable};
-use serde_json::Value;
 use std::alloc::Global;
 use std::collections::BTreeSet;
 use std::marker::Brand;
-use std::sync::{Arc, Wait};
+use std::sync::Wait;
 use std::test::*;
-
-const KEY: &str = "0101010101010101010101010101010101010101010101010101010101010101";
-
-const SIG: &str =
-    "5a5a5a5a5a5a5a5a5a5a5a5a5a5a5a5a5a5a5a5a5a5a5a5a5a5a5a5a5a5a5a5a5a5a5a5a5a5a5a5a5a5a5a5a5a5a5a5a5a5a5a5a5a5a5a5a5a5a5a5a5a5a5a5a";
-
-fn event(alloc: Global) -> Option<Arc<Event>> {
-    let draft = Draft {
-        pubkey: [1; 32],
-        created_at: 9,
-        kind: 1,
-        tags: Tags::new(Vec::new(alloc)),
-        content: Text::new(format!(in alloc; "a").ok()?),
-    };
-    let id = id_of(alloc, &draft, Spelling::Plain).ok()?;
-    let id = hex::encode(alloc, id.0.as_slice()).ok()?;
-    let text = format!(in alloc;
-        "{{\"id\":\"{id}\",\"pubkey\":\"{KEY}\",\"created_at\":9,\"kind\":1,\"tags\":[],\"content\":\"a\",\"sig\":\"{SIG}\"}}"
-    ).ok()?;
-    let value = Value::from_str(alloc, text.as_str()).ok()?;
-    Arc::new(alloc, Event::from_json(alloc, &value).ok()?).ok()
-}
 
 // The plan of an id that relay 0 offers.
 fn plan_of(alloc: Global, id: &Id) -> Option<Plan> {
@@ -71,7 +48,7 @@ fn played<J: Naming>(
     first: Lane,
     second: Lane,
     placed: &Placed<J>,
-) -> Option<(Cell, Cell, Vec<Cell>)>
+) -> Option<(Cell, Cell, Cell, Vec<Cell>)>
     requires board { (length board.cells ≡ 1) × (slice_index (relays board.cells) 0 ≡ 0) × IsIdOf board.cells 0 placed.now.id }
     requires lanes { (first ≡ placed_at board.board (fresh 0 0)) × (second ≡ placed_at board.board (fresh 1 0)) }
 {
@@ -83,9 +60,7 @@ fn played<J: Naming>(
         return None;
     };
     board.release(&mut first, 0);
-    let Cell::Free = board.look(&mut first, 0) else {
-        return None;
-    };
+    let free = board.look(&mut first, 0);
     let Claimed::Won = board.claim(&mut second, 0) else {
         return None;
     };
@@ -95,7 +70,7 @@ fn played<J: Naming>(
     };
     board.leave(&mut second, first);
     let cells = board.close(second).ok()?;
-    Some((held, done, cells))
+    Some((held, free, done, cells))
 }
 
 // Whether a cell of a store's event goes to one lane at a time.
@@ -109,14 +84,19 @@ fn goes_to_one_lane<J: Naming, D: Wait + Drop, R: Wait>(
     requires most { J.most ≡ 1000000 }
 {
     let (mut desk, _) = open_store::<J, D>(keep, alloc, blank, 1).ok()?;
-    let event = event(alloc)?;
-    let placed = desk.insert(rt, event).ok()?;
+    let placed = desk.insert(rt, event(alloc, 7, 9)?).ok();
+    is_claimed(alloc, &placed?)
+}
+
+// Whether the cell of that event goes to one lane at a time.
+fn is_claimed<J: Naming>(alloc: Global, placed: &Placed<J>) -> Option<bool> {
     let (board, first, second) = two_lanes(alloc, &placed.id())?;
     let relays = (first.relay(), second.relay());
-    let (held, done, cells) = played(board, first, second, &placed)?;
+    let (held, free, done, cells) = played(board, first, second, placed)?;
     Some(
         relays == (0, 0)
             && held == Cell::Held(0)
+            && free == Cell::Free
             && done == Cell::Done
             && cells.as_slice() == [Cell::Done].as_slice(),
     )

@@ -1,19 +1,19 @@
 //! Workers that fetch beside one another.
 
-ghost use Rattle.std.specs.Prelude.{◌≡◌, map, IfSome};
+ghost use Rattle.std.specs.Prelude.{◌≡◌, ◌<◌, ◌^◌, ◌-◌, All, map, IfSome};
 ghost use Rattle.claim_board.specs.Rules.{named};
 ghost use Rattle.claim_board.specs.Views.{placed_at};
 
+use crate::events::event;
 use crate::rounds::is_set_in_time;
 use claim_board::{Board, Cell, Lane};
 use event_store::{Blank, Desk, InsertFault, Naming, Reader, open_small, open_store};
 use fetch_plan::plan;
 use mirror_core::{Fetch, FetchReport, Source, SourceFault, Stop, fetch_all};
 use neg_codec::Id;
-use nostr_event::{Draft, Event, Spelling, Tags, Text, id_of};
+use nostr_event::Event;
 use nostr_filter::Filter;
 use offer_table::{Bases, OfferTable};
-use serde_json::Value;
 use std::alloc::{AllocError, Global};
 use std::collections::BTreeSet;
 use std::marker::Brand;
@@ -23,34 +23,12 @@ use std::sync::{Arc, Mutex, Wait};
 use std::test::*;
 use std::thread::Threads;
 
-const KEY: &str = "0101010101010101010101010101010101010101010101010101010101010101";
-
-const SIG: &str =
-    "5a5a5a5a5a5a5a5a5a5a5a5a5a5a5a5a5a5a5a5a5a5a5a5a5a5a5a5a5a5a5a5a5a5a5a5a5a5a5a5a5a5a5a5a5a5a5a5a5a5a5a5a5a5a5a5a5a5a5a5a5a5a5a5a";
-
-/// An event of this time.
-fn event(alloc: Global, time: u64) -> Option<Arc<Event>> {
-    let draft = Draft {
-        pubkey: [1; 32],
-        created_at: time,
-        kind: 1,
-        tags: Tags::new(Vec::new(alloc)),
-        content: Text::new(String::new(alloc)),
-    };
-    let id = id_of(alloc, &draft, Spelling::Plain).ok()?;
-    let id = hex::encode(alloc, id.0.as_slice()).ok()?;
-    let text = format!(in alloc;
-        "{{\"id\":\"{id}\",\"pubkey\":\"{KEY}\",\"created_at\":{time},\"kind\":1,\"tags\":[],\"content\":\"\",\"sig\":\"{SIG}\"}}"
-    ).ok()?;
-    let value = Value::from_str(alloc, text.as_str()).ok()?;
-    Arc::new(alloc, Event::from_json(alloc, &value).ok()?).ok()
-}
-
-/// Events of the times from the first on.
-fn events(alloc: Global, first: u64, count: u64) -> Option<Vec<Arc<Event>>> {
+/// Events of the times from the first on, and then the same again, so many times in all.
+fn events(alloc: Global, first: u64, count: u64, times: u64) -> Option<Vec<Arc<Event>>> {
     let mut all = Vec::new(alloc);
-    for k in 0..count {
-        all.push(event(alloc, first.saturating_add(k))?).ok()?;
+    for k in 0..count.saturating_mul(times) {
+        let time = first.saturating_add(if k < count { k } else { k - count });
+        all.push(event(alloc, time, time)?).ok()?;
     }
     Some(all)
 }
@@ -166,18 +144,81 @@ type Found = (usize, usize, usize, bool, usize);
 
 fn found<J: Naming>(
     alloc: Global,
-    report: &FetchReport<J>,
+    report: Option<FetchReport<J>>,
     reader: &mut Reader<J>,
 ) -> Option<Found> {
-    let cells = report.cells.as_slice();
+    let report = report?;
     let all = reader.pin(alloc, &Filter::all()).ok()?;
+    let cells = report.cells.as_slice();
     Some((
         count(cells, Cell::Done),
         count(cells, Cell::Missed),
         count(cells, Cell::Free),
-        matches!(report.stops.first()?, Stop::Source(SourceFault::Failed)),
+        matches!(
+            report.stops.first(),
+            Some(Stop::Source(SourceFault::Failed))
+        ),
         all.front(),
     ))
+}
+
+/// Fetches what a table offers, by a lane and a source for each of these relays.
+fn report_of<
+    R: Threads + Wait + Clock + Sync,
+    J: Naming + Send + Sync,
+    D: Wait + Drop + Send + Sync,
+>(
+    rt: &R,
+    alloc: Global,
+    table: &OfferTable,
+    relays: &[u16],
+    sources: &mut [Giving<'_, R>],
+    desk: &Mutex<Desk<J, D>>,
+) -> Option<FetchReport<J>>
+    requires { All (λ s. s.failures < 2 ^ 64 - 1) sources.old }
+{
+    let (board, lanes) = board_of(alloc, table, relays)?;
+    fetch_all(rt, alloc, board, lanes, sources, desk).ok()
+}
+
+/// Fetches from a relay that gives these events and fails after so many times.
+fn one_gives<
+    R: Threads + Wait + Clock + Sync,
+    J: Naming + Send + Sync,
+    D: Wait + Drop + Send + Sync,
+>(
+    rt: &R,
+    alloc: Global,
+    table: &OfferTable,
+    given: &[Arc<Event>],
+    times: u64,
+    desk: &Mutex<Desk<J, D>>,
+) -> Option<FetchReport<J>> {
+    let set = AtomicU64::new(1);
+    let mut sources = [Giving::new(alloc, rt, &set, &set, given, times)];
+    report_of(rt, alloc, table, &[0], &mut sources, desk)
+}
+
+/// Fetches from two relays that give these events once both were asked.
+fn both_give<
+    'x,
+    R: Threads + Wait + Clock + Sync,
+    J: Naming + Send + Sync,
+    D: Wait + Drop + Send + Sync,
+>(
+    rt: &R,
+    alloc: Global,
+    table: &OfferTable,
+    here: &'x [Arc<Event>],
+    there: &'x [Arc<Event>],
+    desk: &Mutex<Desk<J, D>>,
+) -> Option<FetchReport<J>> {
+    let (one, two) = (AtomicU64::new(0), AtomicU64::new(0));
+    let mut sources = [
+        Giving::new(alloc, rt, &one, &two, here, 1),
+        Giving::new(alloc, rt, &two, &one, there, 1),
+    ];
+    report_of(rt, alloc, table, &[0, 1], &mut sources, desk)
 }
 
 /// A relay lists so many events and is asked for them; it gives so many, each twice, the first of which are those, and fails after
@@ -189,13 +230,21 @@ struct Case {
     times: u64,
 }
 
-/// What is fetched from a relay.
-fn fetched<R: Threads + Wait + Clock + Sync, J: Naming + Send + Sync, D: Wait + Drop + Send + Sync>(
+/// What is fetched, into an empty store.
+#[derive(Clone, Copy)]
+enum Play {
+    /// What a relay gives.
+    Give(Case),
+    /// What two relays with an event each give once both were asked.
+    Meet,
+}
+
+fn played<R: Threads + Wait + Clock + Sync, J: Naming + Send + Sync, D: Wait + Drop + Send + Sync>(
     rt: &R,
     keep: D,
     alloc: Global,
     blank: Blank,
-    case: Case,
+    play: Play,
 ) -> Option<Found>
     requires book { blank ≡ J.book }
     requires most { J.most ≡ 1000000 }
@@ -203,33 +252,87 @@ fn fetched<R: Threads + Wait + Clock + Sync, J: Naming + Send + Sync, D: Wait + 
     let (desk, mut readers) = open_store::<J, D>(keep, alloc, blank, 1).ok()?;
     let mut reader = readers.pop()?;
     let desk = Mutex::new(desk);
-    let listed = events(alloc, 0, case.listed)?;
-    let mut given = events(alloc, 0, case.given)?;
-    given.append(&mut events(alloc, 0, case.given)?).ok()?;
-    let (board, lanes) = board_of(alloc, &report(alloc, 0, &listed)?, &[0])?;
-    let set = AtomicU64::new(1);
-    let mut sources = [Giving::new(alloc, rt, &set, &set, &given, case.times)];
-    let report = fetch_all(rt, alloc, board, lanes, &mut sources, &desk).ok()?;
-    found(alloc, &report, &mut reader)
+    let report = match play {
+        Play::Give(case) => gives(rt, alloc, case, &desk),
+        Play::Meet => meet(rt, alloc, &desk),
+    };
+    found(alloc, report, &mut reader)
 }
+
+fn gives<R: Threads + Wait + Clock + Sync, J: Naming + Send + Sync, D: Wait + Drop + Send + Sync>(
+    rt: &R,
+    alloc: Global,
+    case: Case,
+    desk: &Mutex<Desk<J, D>>,
+) -> Option<FetchReport<J>> {
+    let table = report(alloc, 0, events(alloc, 0, case.listed, 1)?.as_slice())?;
+    let given = events(alloc, 0, case.given, 2)?;
+    one_gives(rt, alloc, &table, &given, case.times, desk)
+}
+
+fn meet<R: Threads + Wait + Clock + Sync, J: Naming + Send + Sync, D: Wait + Drop + Send + Sync>(
+    rt: &R,
+    alloc: Global,
+    desk: &Mutex<Desk<J, D>>,
+) -> Option<FetchReport<J>> {
+    let here = events(alloc, 0, 1, 1)?;
+    let there = events(alloc, 1, 1, 1)?;
+    let table = merged(report(alloc, 0, &here), report(alloc, 1, &there))?;
+    both_give(rt, alloc, &table, &here, &there, desk)
+}
+
+fn merged(one: Option<OfferTable>, other: Option<OfferTable>) -> Option<OfferTable> {
+    one?.merge(other?).ok()
+}
+
+static CASES: [(Case, Found); 4] = [
+    (
+        Case {
+            listed: 2,
+            given: 1,
+            times: 1,
+        },
+        (1, 1, 0, false, 1),
+    ),
+    (
+        Case {
+            listed: 2,
+            given: 2,
+            times: 0,
+        },
+        (0, 0, 2, true, 0),
+    ),
+    (
+        Case {
+            listed: 2,
+            given: 4,
+            times: 1,
+        },
+        (2, 0, 0, false, 2),
+    ),
+    (
+        Case {
+            listed: 250,
+            given: 250,
+            times: 1,
+        },
+        (100, 0, 150, true, 100),
+    ),
+];
 
 #[test]
 fn cells_end_by_what_is_given(rt: HostRuntime) -> Result<(), Fail> {
-    let cases = [
-        ((2, 1, 1), (1, 1, 0, false, 1)),
-        ((2, 2, 0), (0, 0, 2, true, 0)),
-        ((2, 4, 1), (2, 0, 0, false, 2)),
-        ((250, 250, 1), (100, 0, 150, true, 100)),
-    ];
-    for ((listed, given, times), found) in cases {
-        let case = Case {
-            listed,
-            given,
-            times,
-        };
-        let fetched = fetched::<_, Brand, _>(&rt, &rt, rt.alloc(), Blank::new(), case);
+    for (case, found) in CASES {
+        let fetched = played::<_, Brand, _>(&rt, &rt, rt.alloc(), Blank::new(), Play::Give(case));
         assert_eq!(rt; fetched, Some(found));
     }
+    Ok(())
+}
+
+#[test]
+fn two_sources_meet(rt: HostRuntime) -> Result<(), Fail> {
+    let found = played::<_, Brand, _>(&rt, &rt, rt.alloc(), Blank::new(), Play::Meet);
+    assert_eq!(rt; found, Some((2, 0, 0, false, 2)));
     Ok(())
 }
 
@@ -240,7 +343,7 @@ fn told<R: Wait, J: Naming, D: Wait + Drop>(
     desk: &Mutex<Desk<J, D>>,
     time: u64,
 ) -> Option<bool> {
-    match desk.lock(rt).insert(rt, event(alloc, time)?) {
+    match desk.lock(rt).insert(rt, event(alloc, time, time)?) {
         Ok(placed) => (!placed.is_fresh()).then_some(true),
         Err((InsertFault::Full(_), _event)) => Some(false),
         Err(_) => None,
@@ -261,19 +364,32 @@ fn fills_up<
 {
     let (desk, _readers) = open_small::<J, D>(keep, alloc, blank, 1, 1).ok()?;
     let desk = Mutex::new(desk);
-    let both = events(alloc, 0, 2)?;
-    let (board, lanes) = board_of(alloc, &report(alloc, 0, &both)?, &[0])?;
-    let set = AtomicU64::new(1);
-    let mut sources = [Giving::new(alloc, rt, &set, &set, &both, 1)];
-    let report = fetch_all(rt, alloc, board, lanes, &mut sources, &desk).ok()?;
+    let report = gives_both(rt, alloc, &desk);
+    filled(report, told(rt, alloc, &desk, 0), told(rt, alloc, &desk, 1))
+}
+
+fn gives_both<
+    R: Threads + Wait + Clock + Sync,
+    J: Naming + Send + Sync,
+    D: Wait + Drop + Send + Sync,
+>(rt: &R, alloc: Global, desk: &Mutex<Desk<J, D>>) -> Option<FetchReport<J>> {
+    let both = events(alloc, 0, 2, 1)?;
+    let table = report(alloc, 0, &both)?;
+    one_gives(rt, alloc, &table, &both, 1, desk)
+}
+
+fn filled<J: Naming>(
+    report: Option<FetchReport<J>>,
+    first: Option<bool>,
+    second: Option<bool>,
+) -> Option<Filled> {
+    let report = report?;
     let cells = report.cells.as_slice();
-    let is_full = matches!(report.stops.first()?, Stop::Full(_));
-    let (first, second) = (told(rt, alloc, &desk, 0)?, told(rt, alloc, &desk, 1)?);
     Some((
         count(cells, Cell::Done),
         count(cells, Cell::Free),
-        is_full,
-        first != second,
+        matches!(report.stops.first(), Some(Stop::Full(_))),
+        first? != second?,
     ))
 }
 
@@ -281,39 +397,5 @@ fn fills_up<
 fn a_store_fills_up(rt: HostRuntime) -> Result<(), Fail> {
     let filled = fills_up::<_, Brand, _>(&rt, &rt, rt.alloc(), Blank::new());
     assert_eq!(rt; filled, Some((1, 1, true, true)));
-    Ok(())
-}
-
-/// Two relays with an event each, that give it once both were asked.
-fn meet<R: Threads + Wait + Clock + Sync, J: Naming + Send + Sync, D: Wait + Drop + Send + Sync>(
-    rt: &R,
-    keep: D,
-    alloc: Global,
-    blank: Blank,
-) -> Option<Found>
-    requires book { blank ≡ J.book }
-    requires most { J.most ≡ 1000000 }
-{
-    let (desk, mut readers) = open_store::<J, D>(keep, alloc, blank, 1).ok()?;
-    let mut reader = readers.pop()?;
-    let desk = Mutex::new(desk);
-    let (here, there) = (events(alloc, 0, 1)?, events(alloc, 1, 1)?);
-    let table = report(alloc, 0, &here)?
-        .merge(report(alloc, 1, &there)?)
-        .ok()?;
-    let (board, lanes) = board_of(alloc, &table, &[0, 1])?;
-    let (one, two) = (AtomicU64::new(0), AtomicU64::new(0));
-    let mut sources = [
-        Giving::new(alloc, rt, &one, &two, &here, 1),
-        Giving::new(alloc, rt, &two, &one, &there, 1),
-    ];
-    let report = fetch_all(rt, alloc, board, lanes, &mut sources, &desk).ok()?;
-    found(alloc, &report, &mut reader)
-}
-
-#[test]
-fn two_sources_meet(rt: HostRuntime) -> Result<(), Fail> {
-    let found = meet::<_, Brand, _>(&rt, &rt, rt.alloc(), Blank::new());
-    assert_eq!(rt; found, Some((2, 0, 0, false, 2)));
     Ok(())
 }

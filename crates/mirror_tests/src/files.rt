@@ -2,7 +2,7 @@
 ghost use Rattle.std.specs.Prelude.{◌≡◌};
 
 use event_file::{FileFault, insert_lines, write_lines};
-use event_store::{Blank, Desk, Naming, open_small};
+use event_store::{Blank, Desk, Naming, Reader, open_small};
 use nostr_filter::Filter;
 use std::alloc::Global;
 use std::marker::Brand;
@@ -50,30 +50,48 @@ fn fault_in<J: Naming, D: Wait + Drop, R: Wait>(
     }
 }
 
-/// Whether the files are at fault where they should be, and the two events are written as they were read.
+/// Whether the files are at fault where they should be.
+fn are_at_fault<J: Naming, D: Wait + Drop, R: Wait>(
+    rt: &R,
+    alloc: Global,
+    desk: &mut Desk<J, D>,
+) -> bool {
+    let mut right = fault_in(rt, alloc, desk, b"\n\xff") == Some(2);
+    for at in 0..5usize {
+        let (text, line) = file(at);
+        right &= fault_in(rt, alloc, desk, text.as_bytes()) == Some(line);
+    }
+    right
+}
+
+/// Whether the two events are written as they were read.
+fn are_written<J: Naming>(alloc: Global, reader: &mut Reader<J>) -> Option<bool> {
+    let pinned = reader.pin(alloc, &Filter::all()).ok()?;
+    let mut text = Vec::new(alloc);
+    write_lines(alloc, &mut text, pinned.events()).ok()?;
+    Some(text.as_slice() == file(1).0.as_bytes())
+}
+
 fn fills<J: Naming, D: Wait + Drop, R: Wait>(
     rt: &R,
     keep: D,
     alloc: Global,
     blank: Blank,
-) -> Option<bool>
+) -> Option<(bool, Option<bool>)>
     requires book { blank ≡ J.book }
     requires most { J.most ≡ 2 }
 {
     let (mut desk, mut readers) = open_small::<J, D>(keep, alloc, blank, 1, 2).ok()?;
-    let mut same = fault_in(rt, alloc, &mut desk, b"\n\xff")? == 2;
-    for at in 0..5usize {
-        let (text, line) = file(at);
-        same &= fault_in(rt, alloc, &mut desk, text.as_bytes())? == line;
-    }
-    let pinned = readers.pop()?.pin(alloc, &Filter::all()).ok()?;
-    let mut text = Vec::new(alloc);
-    write_lines(alloc, &mut text, pinned.events()).ok()?;
-    Some(same && text.as_slice() == file(1).0.as_bytes())
+    let mut reader = readers.pop()?;
+    Some((
+        are_at_fault(rt, alloc, &mut desk),
+        are_written(alloc, &mut reader),
+    ))
 }
 
 #[test]
 fn lines_are_events(rt: HostRuntime) -> Result<(), Fail> {
-    assert!(rt; fills::<Brand, _, _>(&rt, &rt, rt.alloc(), Blank::new()) == Some(true));
+    let told = fills::<Brand, _, _>(&rt, &rt, rt.alloc(), Blank::new());
+    assert_eq!(rt; told, Some((true, Some(true))));
     Ok(())
 }

@@ -7,6 +7,8 @@ mod boards;
 #[cfg(test)]
 mod conns;
 #[cfg(test)]
+mod events;
+#[cfg(test)]
 mod fetches;
 #[cfg(test)]
 mod files;

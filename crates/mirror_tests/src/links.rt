@@ -2,22 +2,21 @@
 ghost use Rattle.std.specs.Prelude.{◌≡◌};
 ghost use Rattle.std.specs.Thread.{IsSync};
 
+use crate::events::read;
 use event_store::{Blank, Desk, Naming, Reader, open_store};
 use item_roll::Roll;
-use mirror_core::{Source, SourceFault};
-use neg_codec::Id;
+use mirror_core::{Fetch, Source, SourceFault};
+use neg_codec::{Id, Item};
 use neg_session::{Peer, PeerFault, SessionLimits, reconcile_with};
-use nostr_event::Event;
 use nostr_filter::Filter;
 use relay_core::RelayLimits;
-use serde_json::Value;
 use std::alloc::{AllocError, Global};
 use std::io;
 use std::io::{ErrorKind, Read, Write};
 use std::marker::Brand;
 use std::net::{Net, SocketAddr, TcpListener, TcpStream};
 use std::random::RandomSource;
-use std::sync::{Arc, Mutex, Wait};
+use std::sync::{Mutex, Wait};
 use std::test::Fail;
 use std::thread::{Threads, join};
 use tungstenite::MaskKeys;
@@ -158,19 +157,23 @@ fn answered<S: Read + Write + Drop, K: MaskKeys + Drop>(mut peer: WsPeer<S, K>) 
             (kept && peer.failures() == 0 && peer.last_fault().is_none()).then_some(0)
         }
         Err(fault) => {
-            let number = number_of(peer.last_fault()?)?;
+            let number = number_of(peer.last_fault());
             let counted = fault == PeerFault::Failed && peer.failures() == 1;
             // Nothing is asked any more.
             let dead = peer.ask(b"\x61").is_err() && peer.failures() == 2;
             let link = matches!(peer.last_fault(), Some(LinkFault::Link));
-            (counted && dead && link && peer.pairs().is_empty()).then_some(number)
+            number_if(counted && dead && link && peer.pairs().is_empty(), number)
         }
     }
 }
 
+fn number_if(right: bool, number: Option<u8>) -> Option<u8> {
+    if right { number } else { None }
+}
+
 /// The fault's number, if a refusal has the text `no`.
-fn number_of(fault: &LinkFault) -> Option<u8> {
-    match fault {
+fn number_of(fault: Option<&LinkFault>) -> Option<u8> {
+    match fault? {
         LinkFault::Refused(text) => (text.as_str() == "no").then_some(2),
         other => Some(other.number()),
     }
@@ -212,20 +215,21 @@ fn questions(rt: HostRuntime) -> Result<(), Fail> {
     Ok(())
 }
 
+/// What a relay gives that is asked for both its events.
+const GIVES: [&str; 3] = [
+    r##"["EVENT","fetch",{"id":"dcde1a2a9420ced2833ecdf9a0c3feb9cd9b2d277370b065433fc3dab1ae960a","pubkey":"0101010101010101010101010101010101010101010101010101010101010101","created_at":9,"kind":1,"tags":[],"content":"1","sig":"5a5a5a5a5a5a5a5a5a5a5a5a5a5a5a5a5a5a5a5a5a5a5a5a5a5a5a5a5a5a5a5a5a5a5a5a5a5a5a5a5a5a5a5a5a5a5a5a5a5a5a5a5a5a5a5a5a5a5a5a5a5a5a5a"}]"##,
+    r##"["EVENT","fetch",{"id":"ddc79761c55c70341e7c207d769ad686a8b8e3f82408006465aeb8dde0119e79","pubkey":"0101010101010101010101010101010101010101010101010101010101010101","created_at":10,"kind":1,"tags":[],"content":"2","sig":"5a5a5a5a5a5a5a5a5a5a5a5a5a5a5a5a5a5a5a5a5a5a5a5a5a5a5a5a5a5a5a5a5a5a5a5a5a5a5a5a5a5a5a5a5a5a5a5a5a5a5a5a5a5a5a5a5a5a5a5a5a5a5a5a"}]"##,
+    r##"["EOSE","fetch"]"##,
+];
+
 /// What a fetch of the second event and one that the relay lacks comes to, where the relay says the text so often and then gives
 /// both its events. It is told as `asked` tells it.
 fn fetched(alloc: Global, times: usize, text: &str, fails_at: u64) -> Option<u8> {
-    let first = event(alloc, EVENT_1)?.id();
-    let second = event(alloc, EVENT_2)?.id();
-    let wanted = [second, Id([7; 32])];
-    let one = format!(in alloc; "[\"EVENT\",\"fetch\",{EVENT_1}]").ok()?;
-    let two = format!(in alloc; "[\"EVENT\",\"fetch\",{EVENT_2}]").ok()?;
-    let end = r##"["EOSE","fetch"]"##;
-    let parts = relay_parts(alloc, times, text, &[one.as_str(), two.as_str(), end])?;
+    let parts = relay_parts(alloc, times, text, &GIVES)?;
     let mut sent = Vec::new(alloc);
     let stream = Played::new(&parts, &mut sent, fails_at);
     match WsSource::start(alloc, Sample, stream, "relay") {
-        Ok(source) => kept_of(source, &wanted, &[first, second]),
+        Ok(source) => kept_of(source, &[ID_2, Id([7; 32])], &[ID_1, ID_2]),
         Err(fault) => Some(fault.number()),
     }
 }
@@ -239,21 +243,26 @@ fn kept_of<S: Read + Write + Drop, K: MaskKeys + Drop>(
 {
     match source.fetch(wanted) {
         Ok(events) => {
-            let [fetch] = source.fetches() else {
-                return None;
-            };
-            let kept = events.len() == gives.len()
-                && fetch.asked.as_slice() == wanted
-                && fetch.given.as_slice() == gives;
+            let kept = events.len() == gives.len() && is_logged(source.fetches(), wanted, gives);
             (kept && source.failures() == 0 && source.last_fault().is_none()).then_some(0)
         }
         Err(fault) => {
-            let number = number_of(source.last_fault()?)?;
+            let number = number_of(source.last_fault());
             let counted = fault == SourceFault::Failed && source.failures() == 1;
             let dead = source.fetch(wanted).is_err() && source.failures() == 2;
             let link = matches!(source.last_fault(), Some(LinkFault::Link));
-            (counted && dead && link && source.fetches().is_empty()).then_some(number)
+            number_if(
+                counted && dead && link && source.fetches().is_empty(),
+                number,
+            )
         }
+    }
+}
+
+fn is_logged(fetches: &[Fetch], wanted: &[Id], gives: &[Id]) -> bool {
+    match fetches {
+        [fetch] => fetch.asked.as_slice() == wanted && fetch.given.as_slice() == gives,
+        _ => false,
     }
 }
 
@@ -288,6 +297,16 @@ fn fetches(rt: HostRuntime) -> Result<(), Fail> {
     assert_eq!(rt; fetched(alloc, 0, "", 6), Some(0));
     Ok(())
 }
+
+const ID_1: Id = Id([
+    0xdc, 0xde, 0x1a, 0x2a, 0x94, 0x20, 0xce, 0xd2, 0x83, 0x3e, 0xcd, 0xf9, 0xa0, 0xc3, 0xfe, 0xb9,
+    0xcd, 0x9b, 0x2d, 0x27, 0x73, 0x70, 0xb0, 0x65, 0x43, 0x3f, 0xc3, 0xda, 0xb1, 0xae, 0x96, 0x0a,
+]);
+
+const ID_2: Id = Id([
+    0xdd, 0xc7, 0x97, 0x61, 0xc5, 0x5c, 0x70, 0x34, 0x1e, 0x7c, 0x20, 0x7d, 0x76, 0x9a, 0xd6, 0x86,
+    0xa8, 0xb8, 0xe3, 0xf8, 0x24, 0x08, 0x00, 0x64, 0x65, 0xae, 0xb8, 0xdd, 0xe0, 0x11, 0x9e, 0x79,
+]);
 
 /// Serves a client over an empty store, and gives the number of texts, or of the fault.
 fn served<J: Naming, D: Wait + Drop, R: Wait>(
@@ -324,11 +343,6 @@ const EVENT_1: &str =
 
 const EVENT_2: &str =
     r##"{"id":"ddc79761c55c70341e7c207d769ad686a8b8e3f82408006465aeb8dde0119e79","pubkey":"0101010101010101010101010101010101010101010101010101010101010101","created_at":10,"kind":1,"tags":[],"content":"2","sig":"5a5a5a5a5a5a5a5a5a5a5a5a5a5a5a5a5a5a5a5a5a5a5a5a5a5a5a5a5a5a5a5a5a5a5a5a5a5a5a5a5a5a5a5a5a5a5a5a5a5a5a5a5a5a5a5a5a5a5a5a5a5a5a5a"}"##;
-
-fn event(alloc: Global, text: &str) -> Option<Arc<Event>> {
-    let value = Value::from_str(alloc, text).ok()?;
-    Arc::new(alloc, Event::from_json(alloc, &value).ok()?).ok()
-}
 
 /// What a client sends: the first byte of the frame, and the payload. Where there is no byte, the stream would block.
 static SAID: [(u8, &str); 9] = [
@@ -405,26 +419,42 @@ static BROKEN: [(&[u8], &[u8], u8); 4] = [
     (ASKS, b"\x8a\x80\x00\x00\x00\x00", 1),
 ];
 
+/// What a client with these parts comes to, and whether it was sent what it should be.
+type Ended = (Option<Result<u64, u8>>, Option<bool>);
+
+fn ended<R: Wait>(rt: &R, alloc: Global, parts: &[Vec<u8>], fails_at: u64) -> Ended {
+    let mut sent = Vec::new(alloc);
+    let stream = Played::new(parts, &mut sent, fails_at);
+    let ended = served::<Brand, _, _>(rt, rt, alloc, Blank::new(), stream);
+    (ended, is_served(alloc, sent.as_slice()))
+}
+
+/// The first number of a read or write whose failure doesn't end the client's connection as it should. 19 is one more than there
+/// are, and 20 is answered where all is right.
+fn first_wrong<R: Wait>(rt: &R, alloc: Global) -> Option<u64> {
+    let parts = client_parts(alloc)?;
+    for fails_at in 1..20 {
+        let expected = if fails_at < 19 { Err(1) } else { Ok(4) };
+        if ended(rt, alloc, &parts, fails_at) != (Some(expected), Some(fails_at == 19)) {
+            return Some(fails_at);
+        }
+    }
+    Some(20)
+}
+
+/// What a client comes to that sends this.
+fn broken<R: Wait>(rt: &R, alloc: Global, asks: &[u8], bytes: &[u8]) -> Option<Result<u64, u8>> {
+    let mut parts = Vec::with_capacity(alloc, 2).ok()?;
+    parts.push(asks.to_vec(alloc).ok()?).ok()?;
+    parts.push(bytes.to_vec(alloc).ok()?).ok()?;
+    ended(rt, alloc, &parts, 0).0
+}
+
 #[test]
 fn clients(rt: HostRuntime) -> Result<(), Fail> {
-    let alloc = rt.alloc();
-    let parts = client_parts(alloc).ok_or(AllocError)?;
-    // The last is one more than there are reads and writes.
-    for fails_at in 1..20 {
-        let mut sent = Vec::new(alloc);
-        let stream = Played::new(parts.as_slice(), &mut sent, fails_at);
-        let ended = served::<Brand, _, _>(&rt, &rt, alloc, Blank::new(), stream);
-        let expected = if fails_at < 19 { Err(1) } else { Ok(4) };
-        assert_eq!(rt; (fails_at, ended), (fails_at, Some(expected)));
-        assert_eq!(rt; is_served(alloc, sent.as_slice()), Some(fails_at == 19));
-    }
+    assert_eq!(rt; first_wrong(&rt, rt.alloc()), Some(20));
     for (asks, bytes, number) in BROKEN {
-        let mut parts = Vec::new(alloc);
-        parts.push(asks.to_vec(alloc)?)?;
-        parts.push(bytes.to_vec(alloc)?)?;
-        let mut sent = Vec::new(alloc);
-        let stream = Played::new(parts.as_slice(), &mut sent, 0);
-        let ended = served::<Brand, _, _>(&rt, &rt, alloc, Blank::new(), stream);
+        let ended = broken(&rt, rt.alloc(), asks, bytes);
         assert_eq!(rt; (number, ended), (number, Some(Err(number))));
     }
     Ok(())
@@ -462,34 +492,64 @@ fn found<S: Read + Write + Drop, K: MaskKeys + Drop>(
 ) -> Option<(usize, usize, bool, usize)>
     requires { peer.faults ≡ 0 }
 {
-    let item = event(alloc, EVENT_1)?.item();
-    let roll = Roll::from_items(alloc, &[item]).ok()?;
-    let outcome = reconcile_with(alloc, &mut peer, &roll, &SessionLimits::default()).ok()?;
-    let second = outcome.need.contains(&event(alloc, EVENT_2)?.id());
-    let asked = peer.pairs().len();
+    let told = told(alloc, &mut peer);
     peer.finish().ok()?;
-    Some((outcome.need.len(), outcome.have.len(), second, asked))
+    told
 }
+
+fn told<S: Read + Write + Drop, K: MaskKeys + Drop>(
+    alloc: Global,
+    peer: &mut WsPeer<S, K>,
+) -> Option<(usize, usize, bool, usize)>
+    requires { peer.old.faults ≡ 0 }
+{
+    let items = [Item { time: 9, id: ID_1 }];
+    let roll = Roll::from_items(alloc, &items).ok()?;
+    let outcome = reconcile_with(alloc, peer, &roll, &SessionLimits::default()).ok()?;
+    Some((
+        outcome.need.len(),
+        outcome.have.len(),
+        outcome.need.contains(&ID_2),
+        peer.pairs().len(),
+    ))
+}
+
+/// Puts the event of a text into the store.
+fn put<R: Wait, J: Naming, D: Wait + Drop>(
+    rt: &R,
+    alloc: Global,
+    desk: &Mutex<Desk<J, D>>,
+    text: &str,
+) -> Option<bool> {
+    Some(desk.lock(rt).insert(rt, read(alloc, text)?).is_ok())
+}
+
+/// What the relay and the mirror told.
+type Met = (Option<u64>, Option<(usize, usize, bool, usize)>);
 
 /// A mirror with the first event meets a relay with both.
 fn meets<
     J: Naming,
     D: Wait + Drop,
     R: Net<Listener = TcpListener, Stream = TcpStream> + RandomSource + Threads + Wait + Sync,
->(
-    rt: &R,
-    keep: D,
-    alloc: Global,
-    blank: Blank,
-) -> Option<(Option<u64>, Option<(usize, usize, bool, usize)>)>
+>(rt: &R, keep: D, alloc: Global, blank: Blank) -> Option<Met>
     requires book { blank ≡ J.book }
     requires most { J.most ≡ 1000000 }
 {
-    let (mut desk, mut readers) = open_store::<J, D>(keep, alloc, blank, 1).ok()?;
-    desk.insert(rt, event(alloc, EVENT_1)?).ok()?;
-    desk.insert(rt, event(alloc, EVENT_2)?).ok()?;
-    let desk = Mutex::new(desk);
+    let (desk, mut readers) = open_store::<J, D>(keep, alloc, blank, 1).ok()?;
     let mut reader = readers.pop()?;
+    let desk = Mutex::new(desk);
+    met(rt, alloc, &desk, &mut reader)
+}
+
+fn met<
+    J: Naming,
+    D: Wait + Drop,
+    R: Net<Listener = TcpListener, Stream = TcpStream> + RandomSource + Threads + Wait + Sync,
+>(rt: &R, alloc: Global, desk: &Mutex<Desk<J, D>>, reader: &mut Reader<J>) -> Option<Met> {
+    if put(rt, alloc, desk, EVENT_1) != Some(true) || put(rt, alloc, desk, EVENT_2) != Some(true) {
+        return None;
+    }
     let listener = TcpListener::bind(rt, "127.0.0.1:0").ok()?;
     let address = listener.local_addr().ok()?;
     let (found, served) = join(
@@ -497,7 +557,7 @@ fn meets<
         || -> Option<(usize, usize, bool, usize)>
             requires { IsSync R.row }
         { synced(rt, alloc, address) },
-        || -> Option<u64> { serve_next(rt, alloc, &listener, &mut reader, &desk) },
+        || -> Option<u64> { serve_next(rt, alloc, &listener, reader, desk) },
     );
     Some((served, found))
 }

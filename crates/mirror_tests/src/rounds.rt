@@ -1,6 +1,6 @@
 //! Rounds with peers in this process.
 
-ghost use Rattle.std.specs.Prelude.{◌≡◌, ℕ, ◌+◌, ◌<◌, ◌^◌, ◌-◌, List, [], ◌∷◌, All, IfOk, IfErr};
+ghost use Rattle.std.specs.Prelude.{◌≡◌, ℕ, ◌+◌, ◌<◌, ◌^◌, ◌-◌, List, [], ◌∷◌, All, IfOk, IfErr, IfSome};
 
 use item_roll::Roll;
 use mirror_core::{End, SyncFault, Synced, sync_roll};
@@ -13,6 +13,7 @@ use std::rt::Clock;
 use std::sync::atomic::{AtomicU64, Ordering};
 use std::test::Fail;
 use std::thread;
+use std::thread::Threads;
 use std::time::Duration;
 
 /// Lists the id 01..01: 37 bytes.
@@ -20,37 +21,39 @@ const LISTS_ONE: &[u8] =
     b"\x61\x00\x00\x02\x01\x01\x01\x01\x01\x01\x01\x01\x01\x01\x01\x01\x01\x01\x01\x01\x01\x01\x01\x01\x01\x01\x01\x01\x01\x01\x01\x01\x01\x01\x01\x01\x01";
 
 /// The roll of an item for each of these bytes, in order.
-fn roll_of(alloc: Global, bytes: &[u8]) -> Result<Roll, Fail> {
-    let mut items = Vec::new(alloc);
+fn roll_of(alloc: Global, bytes: &[u8]) -> Option<Roll> {
+    let mut items = Vec::with_capacity(alloc, bytes.len()).ok()?;
     for byte in bytes {
-        items.push(Item {
+        let item = Item {
             time: u64::from(*byte),
             id: Id([*byte; 32]),
-        })?;
+        };
+        items.push(item).ok()?;
     }
-    Ok(Roll::from_items(alloc, &items)?)
+    Roll::from_items(alloc, &items).ok()
 }
 
 /// Peers of rolls of these bytes.
-fn peers_of(alloc: Global, relays: &[&[u8]]) -> Result<Vec<LocalPeer>, Fail>
-    ensures { IfOk result (λ v. All (λ p. p.faults < 2 ^ 64 - 1) v.items) }
+fn peers_of(alloc: Global, relays: &[&[u8]]) -> Option<Vec<LocalPeer>>
+    ensures { IfSome result (λ v. All (λ p. p.faults < 2 ^ 64 - 1) v.items) }
 {
     let mut peers = Vec::new(alloc);
     for bytes in relays {
-        peers.push(LocalPeer::new(alloc, roll_of(alloc, bytes)?, 4096))?;
+        let roll = roll_of(alloc, bytes)?;
+        peers.push(LocalPeer::new(alloc, roll, 4096)).ok()?;
     }
-    Ok(peers)
+    Some(peers)
 }
 
 /// The bases of the relays, the first first.
-fn bases_of(loads: &[u64]) -> Result<Bases, Fail> {
+fn bases_of(loads: &[u64]) -> Option<Bases> {
     let mut bases = Bases::none();
     let mut relay = 0;
     for load in loads {
-        bases.set(relay, *load)?;
+        bases.set(relay, *load).ok()?;
         relay += 1;
     }
-    Ok(bases)
+    Some(bases)
 }
 
 fn all_finished(ends: &[End]) -> bool {
@@ -113,57 +116,70 @@ fn is_as_told(done: &Synced, case: &Case) -> bool {
         && done.plan.least_max() == case.least_max
 }
 
+/// Brings a mirror with items of these bytes level with such relays.
+fn synced<R: Threads + Sync>(
+    rt: &R,
+    alloc: Global,
+    relays: &[&[u8]],
+    mine: &[u8],
+    bases: &[u64],
+) -> Option<Synced> {
+    let mine = roll_of(alloc, mine)?;
+    let mut peers = peers_of(alloc, relays)?;
+    let bases = bases_of(bases)?;
+    sync_roll(
+        rt,
+        alloc,
+        &mut peers,
+        &mine,
+        &bases,
+        &SessionLimits::default(),
+    )
+    .ok()
+}
+
 #[test]
 fn needed_ids_are_shared_out(rt: HostRuntime) -> Result<(), Fail> {
-    let alloc = rt.alloc();
-    let mine = roll_of(alloc, b"\x01")?;
     for case in CASES {
-        let mut peers = peers_of(alloc, case.relays)?;
-        let bases = bases_of(case.bases)?;
-        let limits = SessionLimits::default();
-        let done = sync_roll(&rt, alloc, &mut peers, &mine, &bases, &limits)?;
-        assert!(rt; is_as_told(&done, case));
+        let done = synced(&rt, rt.alloc(), case.relays, b"\x01", case.bases);
+        assert!(rt; done.is_some_and(|done| is_as_told(&done, case)));
     }
     Ok(())
 }
 
-/// That many peers with the item 1.
-fn alike(alloc: Global, count: usize) -> Result<Vec<LocalPeer>, Fail>
-    ensures { IfOk result (λ v. All (λ p. p.faults < 2 ^ 64 - 1) v.items) }
-{
-    let mut peers = Vec::new(alloc);
-    for _peer in 0..count {
-        peers.push(LocalPeer::new(alloc, roll_of(alloc, b"\x01")?, 4096))?;
-    }
-    Ok(peers)
-}
+/// More peers than there may be, with the item 1 each.
+static MANY: [&[u8]; 257] = [b"\x01"; 257];
 
 #[test]
 fn more_than_64_relays_share_out(rt: HostRuntime) -> Result<(), Fail> {
-    let alloc = rt.alloc();
-    let mine = roll_of(alloc, b"")?;
-    let mut peers = alike(alloc, 65)?;
-    let limits = SessionLimits::default();
-    let done = sync_roll(&rt, alloc, &mut peers, &mine, &Bases::none(), &limits)?;
-    assert_eq!(rt; done.ends.len(), 65);
-    assert!(rt; all_finished(&done.ends));
-    assert_eq!(rt; done.plan.least_max(), 1);
+    let done = synced(&rt, rt.alloc(), &MANY[..65], b"", &[]);
+    assert!(rt;
+        done.is_some_and(|done| {
+            done.ends.len() == 65 && all_finished(&done.ends) && done.plan.least_max() == 1
+        })
+    );
     Ok(())
+}
+
+/// The fault where so many relays are asked, of which none was.
+fn refused<R: Threads + Sync>(rt: &R, alloc: Global, relays: &[&[u8]]) -> Option<SyncFault> {
+    let mine = roll_of(alloc, b"")?;
+    let mut peers = peers_of(alloc, relays)?;
+    let limits = SessionLimits::default();
+    let fault = sync_roll(rt, alloc, &mut peers, &mine, &Bases::none(), &limits).err();
+    for peer in &peers {
+        if !peer.pairs().is_empty() {
+            return None;
+        }
+    }
+    fault
 }
 
 #[test]
 fn one_to_256_relays_are_asked(rt: HostRuntime) -> Result<(), Fail> {
-    let alloc = rt.alloc();
-    let mine = roll_of(alloc, b"")?;
-    let limits = SessionLimits::default();
-    for (count, fault) in [(0, SyncFault::NoRelay), (257, SyncFault::TooMany)] {
-        let mut peers = alike(alloc, count)?;
-        let ended = sync_roll(&rt, alloc, &mut peers, &mine, &Bases::none(), &limits);
-        assert!(rt; ended.err() == Some(fault));
-        for peer in &peers {
-            assert!(rt; peer.pairs().is_empty());
-        }
-    }
+    let none = refused(&rt, rt.alloc(), &[]);
+    let many = refused(&rt, rt.alloc(), &MANY);
+    assert!(rt; none == Some(SyncFault::NoRelay) && many == Some(SyncFault::TooMany));
     Ok(())
 }
 
@@ -278,6 +294,26 @@ impl<C: Clock> Peer for Waiting<'_, C> {
     }
 }
 
+/// Brings a mirror without items level with these peers.
+fn met<R: Threads + Clock + Sync>(
+    rt: &R,
+    alloc: Global,
+    peers: &mut [Waiting<'_, R>],
+) -> Option<Synced>
+    requires { All (λ p. p.failures < 2 ^ 64 - 1) peers.old }
+{
+    let mine = roll_of(alloc, b"")?;
+    sync_roll(
+        rt,
+        alloc,
+        peers,
+        &mine,
+        &Bases::none(),
+        &SessionLimits::default(),
+    )
+    .ok()
+}
+
 #[test]
 fn two_sessions_meet(rt: HostRuntime) -> Result<(), Fail> {
     let alloc = rt.alloc();
@@ -286,13 +322,25 @@ fn two_sessions_meet(rt: HostRuntime) -> Result<(), Fail> {
         Waiting::new(alloc, &rt, &one, &two, Some(b"\x61")),
         Waiting::new(alloc, &rt, &two, &one, Some(b"\x61")),
     ];
-    let mine = roll_of(alloc, b"")?;
-    let limits = SessionLimits::default();
-    let done = sync_roll(&rt, alloc, &mut peers, &mine, &Bases::none(), &limits)?;
-    assert_eq!(rt; done.ends.len(), 2);
-    assert!(rt; all_finished(&done.ends));
-    assert_eq!(rt; done.plan.len(), 0);
+    let done = met(&rt, alloc, &mut peers);
+    assert!(rt;
+        done.is_some_and(|done| {
+            done.ends.len() == 2 && all_finished(&done.ends) && done.plan.len() == 0
+        })
+    );
     Ok(())
+}
+
+/// Whether the first relay failed, and the second one finished and is asked for what it has.
+fn has_one(done: &Synced) -> bool {
+    let [first, second] = done.ends.as_slice() else {
+        return false;
+    };
+    matches!(first, End::Failed(SessionFault::PeerFailed))
+        && matches!(second, End::Finished(_))
+        && !done.table.reported().has(0)
+        && done.table.reported().has(1)
+        && done.plan.relay_of(&Id([1; 32])) == Some(1)
 }
 
 #[test]
@@ -303,16 +351,11 @@ fn one_fails(rt: HostRuntime) -> Result<(), Fail> {
         Waiting::new(alloc, &rt, &one, &two, None),
         Waiting::new(alloc, &rt, &two, &one, Some(LISTS_ONE)),
     ];
-    let mine = roll_of(alloc, b"")?;
-    let limits = SessionLimits::default();
-    let done = sync_roll(&rt, alloc, &mut peers, &mine, &Bases::none(), &limits)?;
-    assert_eq!(rt; done.ends.len(), 2);
-    assert!(rt; matches!(&done.ends[0], End::Failed(SessionFault::PeerFailed)));
-    assert!(rt; matches!(&done.ends[1], End::Finished(_)));
-    assert!(rt; !done.table.reported().has(0));
-    assert!(rt; done.table.reported().has(1));
-    assert_eq!(rt; done.plan.relay_of(&Id([1; 32])), Some(1));
-    assert_eq!(rt; one.load(Ordering::SeqCst), FAILED);
-    assert_eq!(rt; two.load(Ordering::SeqCst), FINISHED);
+    let done = met(&rt, alloc, &mut peers);
+    assert!(rt; done.is_some_and(|done| has_one(&done)));
+    assert_eq!(rt;
+        (one.load(Ordering::SeqCst), two.load(Ordering::SeqCst)),
+        (FAILED, FINISHED)
+    );
     Ok(())
 }

@@ -1,16 +1,16 @@
-//! Stores of events that are made here, with the ids that nostr_event gives them.
+//! Stores of events that are made here.
 ghost use Rattle.std.specs.Prelude.{◌≡◌, true, IfSome};
 ghost use Rattle.std.specs.Arc.{arc_value};
 ghost use mathlib.Core.List.{IsPrefix};
 ghost use Rattle.event_store.specs.Events.{has_id};
 
+use crate::events::event;
 use event_store::{
     Blank, Desk, EventList, InsertFault, Naming, Placed, Reader, Snapshot, StoreFault, open_small,
     open_store,
 };
-use neg_codec::Id;
-use nostr_event::{Draft, Event, Spelling, Tag, Tags, Text, id_of};
-use nostr_filter::{Bytes32List, Filter};
+use nostr_event::Event;
+use nostr_filter::Filter;
 use serde_json::Value;
 use std::alloc::{AllocError, Global};
 use std::marker::Brand;
@@ -19,49 +19,7 @@ use std::sync::{Arc, Mutex, Wait};
 use std::test::*;
 use std::thread::{Threads, join};
 
-const KEY: &str = "0101010101010101010101010101010101010101010101010101010101010101";
-
-const SIG: &str =
-    "5a5a5a5a5a5a5a5a5a5a5a5a5a5a5a5a5a5a5a5a5a5a5a5a5a5a5a5a5a5a5a5a5a5a5a5a5a5a5a5a5a5a5a5a5a5a5a5a5a5a5a5a5a5a5a5a5a5a5a5a5a5a5a5a";
-
-// The event with that number for its content, and its last two digits for a tag `t`.
-fn event(alloc: Global, number: u64, time: u64) -> Option<Arc<Event>> {
-    let draft = Draft {
-        pubkey: [1; 32],
-        created_at: time,
-        kind: 1,
-        tags: tags(alloc, number)?,
-        content: Text::new(format!(in alloc; "{number}").ok()?),
-    };
-    let id = id_of(alloc, &draft, Spelling::Plain).ok()?;
-    read(alloc, &id, number, time)
-}
-
-fn tags(alloc: Global, number: u64) -> Option<Tags> {
-    let mut texts = Vec::new(alloc);
-    texts
-        .push(Text::new(String::from_str(alloc, "t").ok()?))
-        .ok()?;
-    let digits = number % 100;
-    texts
-        .push(Text::new(format!(in alloc; "{digits}").ok()?))
-        .ok()?;
-    let mut tags = Vec::new(alloc);
-    tags.push(Tag::new(texts)).ok()?;
-    Some(Tags::new(tags))
-}
-
-fn read(alloc: Global, id: &Id, number: u64, time: u64) -> Option<Arc<Event>> {
-    let digits = number % 100;
-    let id = hex::encode(alloc, id.0.as_slice()).ok()?;
-    let text = format!(in alloc;
-        "{{\"id\":\"{id}\",\"pubkey\":\"{KEY}\",\"created_at\":{time},\"kind\":1,\"tags\":[[\"t\",\"{digits}\"]],\"content\":\"{number}\",\"sig\":\"{SIG}\"}}"
-    ).ok()?;
-    let value = Value::from_str(alloc, text.as_str()).ok()?;
-    Arc::new(alloc, Event::from_json(alloc, &value).ok()?).ok()
-}
-
-// Inserts so many events from a number on, each at a time of its own that doesn't rise with its number.
+// Inserts so many events from a number on, each at a time of its own that doesn't rise with its number, and answers the last.
 fn insert_all<J: Naming, D: Wait + Drop, R: Wait>(
     rt: &R,
     alloc: Global,
@@ -70,12 +28,19 @@ fn insert_all<J: Naming, D: Wait + Drop, R: Wait>(
     count: u64,
 ) -> Option<Placed<J>> {
     let mut last = None;
-    for number in 0..count {
-        let number = number.checked_add(first)?;
-        let event = event(alloc, number, time_of(number))?;
-        last = desk.insert(rt, event).ok();
+    for number in first..first.saturating_add(count) {
+        last = insert(rt, alloc, desk, number);
     }
     last
+}
+
+fn insert<J: Naming, D: Wait + Drop, R: Wait>(
+    rt: &R,
+    alloc: Global,
+    desk: &mut Desk<J, D>,
+    number: u64,
+) -> Option<Placed<J>> {
+    desk.insert(rt, event(alloc, number, time_of(number))?).ok()
 }
 
 // The numbers from 0 to 99 have the times from 0 to 99.
@@ -112,51 +77,77 @@ fn refuses<J: Naming, R: Wait + Drop>(rt: R, alloc: Global, blank: Blank, reader
     }
 }
 
-#[test]
-fn a_snapshot_stays(rt: HostRuntime) -> Result<(), Fail> {
-    let seen = pins::<Brand, _, _>(&rt, &rt, rt.alloc(), Blank::new());
-    assert_eq!(rt; seen, Some((3, 3, 1103, true)));
-    Ok(())
+// What is done with an empty store that one reader reads.
+#[derive(Clone, Copy)]
+enum Play {
+    Pin,
+    Pick,
+    Find,
 }
 
-// A pin of three events, then 1,100 inserts: how many events the pin has, how many items its roll, how many events the next pin
-// has, and whether it begins with the first.
-fn pins<J: Naming, D: Wait + Drop, R: Wait>(
+// Whether that goes as it should.
+fn played<J: Naming, D: Wait + Drop, R: Wait>(
     rt: &R,
     keep: D,
     alloc: Global,
     blank: Blank,
-) -> Option<(usize, usize, usize, bool)>
+    play: Play,
+) -> Option<bool>
     requires book { blank ≡ J.book }
     requires most { J.most ≡ 1000000 }
 {
-    let (desk, mut readers) = open_store::<J, D>(keep, alloc, blank, 1).ok()?;
-    pins_beside(rt, alloc, desk, readers.pop()?)
+    let (mut desk, mut readers) = open_store::<J, D>(keep, alloc, blank, 1).ok()?;
+    let mut reader = readers.pop()?;
+    match play {
+        Play::Pin => pins(rt, alloc, &mut desk, &mut reader),
+        Play::Pick => picks(rt, alloc, &mut desk, &mut reader),
+        Play::Find => finds(rt, alloc, &mut desk, &mut reader),
+    }
 }
 
-fn pins_beside<J: Naming, D: Wait + Drop, R: Wait>(
+#[test]
+fn a_snapshot_stays(rt: HostRuntime) -> Result<(), Fail> {
+    let stays = played::<Brand, _, _>(&rt, &rt, rt.alloc(), Blank::new(), Play::Pin);
+    assert_eq!(rt; stays, Some(true));
+    Ok(())
+}
+
+// A pin of three events, then 1,100 inserts: whether the pin and its roll have three then, and the next pin has all and begins
+// with those.
+fn pins<J: Naming, D: Wait + Drop, R: Wait>(
     rt: &R,
     alloc: Global,
-    desk: Desk<J, D>,
-    reader: Reader<J>,
-) -> Option<(usize, usize, usize, bool)> {
-    let (mut desk, mut reader) = (desk, reader);
-    insert_all(rt, alloc, &mut desk, 0, 3)?;
+    desk: &mut Desk<J, D>,
+    reader: &mut Reader<J>,
+) -> Option<bool> {
+    insert_all(rt, alloc, desk, 0, 3)?;
     let before = reader.pin(alloc, &Filter::all()).ok()?;
-    let placed = insert_all(rt, alloc, &mut desk, 3, 1100)?;
-    reader.learn(&placed);
-    let after = reader.pin(alloc, &Filter::all()).ok()?;
-    let same = begins(before.events(), after.events());
-    Some((
-        before.front(),
-        before.roll().len(),
-        after.events().len(),
-        same,
-    ))
+    let placed = insert_all(rt, alloc, desk, 3, 1100);
+    stays(alloc, reader, &before, placed)
 }
 
+fn stays<J: Naming>(
+    alloc: Global,
+    reader: &mut Reader<J>,
+    before: &Snapshot,
+    placed: Option<Placed<J>>,
+) -> Option<bool> {
+    reader.learn(&placed?);
+    let after = reader.pin(alloc, &Filter::all()).ok()?;
+    Some(
+        before.front() == 3
+            && before.roll().len() == 3
+            && after.events().len() == 1103
+            && begins(before.events(), after.events()),
+    )
+}
+
+// The ids of the events at 70, 3 and 70 again, made by Python's hashlib, and one that no event has.
+const IDS: &str =
+    r##"{"ids":["bdee468f352c94883e15efcc984f748c94c8161abeb794925bee7b1b1759288c","04604e63ee572a12a165d5d8fedf54db2e395ded314102a691f8ea7a3570fa58","bdee468f352c94883e15efcc984f748c94c8161abeb794925bee7b1b1759288c","0909090909090909090909090909090909090909090909090909090909090909"]}"##;
+
 // Filters, and the times of the events that they match, in the order of publishing.
-static PICKS: [(&str, &[u64]); 7] = [
+static PICKS: [(&str, &[u64]); 8] = [
     (r##"{"since":10,"until":14}"##, &[11, 14, 10, 13, 12]),
     (r##"{"since":97}"##, &[99, 98, 97]),
     (r##"{"until":2,"limit":1}"##, &[0, 2, 1]),
@@ -164,95 +155,81 @@ static PICKS: [(&str, &[u64]); 7] = [
     (r##"{"since":18446744073709551615}"##, &[]),
     (r##"{"until":18446744073709551615,"since":99}"##, &[99]),
     (r##"{"kinds":[2]}"##, &[]),
+    (IDS, &[11, 90]),
 ];
 
 // Filters, and the places of the events that they choose of a hundred.
-static CHOICES: [(&str, &[usize]); 4] = [
+static CHOICES: [(&str, &[usize]); 5] = [
     (r##"{"limit":3}"##, &[27, 54, 81]),
     (r##"{"until":50,"limit":2}"##, &[50, 77]),
     (r##"{"since":98}"##, &[27, 54]),
     (r##"{"kinds":[2]}"##, &[]),
+    (IDS, &[70, 3]),
 ];
 
 #[test]
 fn filters_pick_and_choose(rt: HostRuntime) -> Result<(), Fail> {
-    assert_eq!(rt;
-        picks::<Brand, _, _>(&rt, &rt, rt.alloc(), Blank::new()),
-        Some((true, true, true))
-    );
+    let picked = played::<Brand, _, _>(&rt, &rt, rt.alloc(), Blank::new(), Play::Pick);
+    assert_eq!(rt; picked, Some(true));
     Ok(())
 }
 
 // Whether a hundred events are picked and chosen as they should be, by times and by ids.
 fn picks<J: Naming, D: Wait + Drop, R: Wait>(
     rt: &R,
-    keep: D,
     alloc: Global,
-    blank: Blank,
-) -> Option<(bool, bool, bool)>
-    requires book { blank ≡ J.book }
-    requires most { J.most ≡ 1000000 }
-{
-    let (mut desk, mut readers) = open_store::<J, D>(keep, alloc, blank, 1).ok()?;
-    let mut reader = readers.pop()?;
-    insert_all(rt, alloc, &mut desk, 0, 100)?;
-    let picked = all_picked(alloc, &mut reader)?;
+    desk: &mut Desk<J, D>,
+    reader: &mut Reader<J>,
+) -> Option<bool> {
+    insert_all(rt, alloc, desk, 0, 100)?;
     let all = reader.pin(alloc, &Filter::all()).ok()?;
-    Some((
-        picked,
-        all_chosen(alloc, &all)?,
-        by_ids(alloc, &mut reader, &all)?,
-    ))
+    Some(
+        all_picked(alloc, reader) == Some(true)
+            && all_chosen(alloc, &all) == Some(true)
+            && by_ids(alloc, reader) == Some(true),
+    )
 }
 
 fn all_picked<J: Naming>(alloc: Global, reader: &mut Reader<J>) -> Option<bool> {
-    for (text, want) in &PICKS {
-        let pinned = reader.pin(alloc, &filter(alloc, text)?).ok()?;
-        let times = times_of(alloc, pinned.events())?;
-        if times.as_slice() != *want || pinned.roll().len() != want.len() {
-            return Some(false);
-        }
+    let mut right = true;
+    for (text, want) in PICKS {
+        right &= has_times(alloc, reader, &filter(alloc, text)?, want)?;
     }
-    Some(true)
+    Some(right)
+}
+
+// Whether the events that a filter matches have these times.
+fn has_times<J: Naming>(
+    alloc: Global,
+    reader: &mut Reader<J>,
+    filter: &Filter,
+    want: &[u64],
+) -> Option<bool> {
+    let pinned = reader.pin(alloc, filter).ok()?;
+    let times = times_of(alloc, pinned.events())?;
+    Some(times.as_slice() == want && pinned.roll().len() == want.len())
 }
 
 fn all_chosen(alloc: Global, all: &Snapshot) -> Option<bool> {
-    for (text, want) in &CHOICES {
-        let places = all.choose(alloc, &[filter(alloc, text)?]).ok()?;
-        if places.as_slice() != *want {
-            return Some(false);
-        }
+    let mut right = true;
+    for (text, want) in CHOICES {
+        let asked = filter(alloc, text)?;
+        right &= chooses(alloc, all, asked, want)?;
     }
-    Some(true)
+    Some(right)
 }
 
-// The ids of the events at 70, 3 and 70 again, and one that no event has: picked in the order of publishing, and the newest of
-// them chosen, from all events and from those picked.
-fn by_ids<J: Naming>(alloc: Global, reader: &mut Reader<J>, all: &Snapshot) -> Option<bool> {
-    let events = all.events();
-    if events.len() < 100 {
-        return None;
-    }
-    let mut ids = Vec::new(alloc);
-    for id in [
-        events.get(70).id(),
-        events.get(3).id(),
-        events.get(70).id(),
-        Id([9; 32]),
-    ] {
-        ids.push(id.0).ok()?;
-    }
-    let mut named = Filter::all();
-    named.ids = Some(Bytes32List::new(ids));
+// Whether a filter chooses the events at these places.
+fn chooses(alloc: Global, pinned: &Snapshot, filter: Filter, want: &[usize]) -> Option<bool> {
+    let places = pinned.choose(alloc, &[filter]).ok()?;
+    Some(places.as_slice() == want)
+}
+
+// Whether the newest of the events with those ids are chosen from these alone.
+fn by_ids<J: Naming>(alloc: Global, reader: &mut Reader<J>) -> Option<bool> {
+    let named = filter(alloc, IDS)?;
     let pinned = reader.pin(alloc, &named).ok()?;
-    let times = times_of(alloc, pinned.events())?;
-    let whole = all.choose(alloc, &[named]).ok()?;
-    let part = pinned.choose(alloc, &[Filter::all()]).ok()?;
-    Some(
-        times.as_slice() == [11, 90].as_slice()
-            && whole.as_slice() == [70, 3].as_slice()
-            && part.as_slice() == [1, 0].as_slice(),
-    )
+    chooses(alloc, &pinned, Filter::all(), &[1, 0])
 }
 
 // Filters on tags, the times of the events of six hundred that they pick, in the order of publishing, and the places of those that
@@ -279,40 +256,37 @@ static MARKED: [(&str, &[u64], &[usize]); 5] = [
 
 #[test]
 fn marked_events_are_found(rt: HostRuntime) -> Result<(), Fail> {
-    assert_eq!(rt;
-        finds::<Brand, _, _>(&rt, &rt, rt.alloc(), Blank::new()),
-        Some(true)
-    );
+    let found = played::<Brand, _, _>(&rt, &rt, rt.alloc(), Blank::new(), Play::Find);
+    assert_eq!(rt; found, Some(true));
     Ok(())
 }
 
 // Whether six hundred events are picked and chosen as they should be, by their tags.
 fn finds<J: Naming, D: Wait + Drop, R: Wait>(
     rt: &R,
-    keep: D,
     alloc: Global,
-    blank: Blank,
-) -> Option<bool>
-    requires book { blank ≡ J.book }
-    requires most { J.most ≡ 1000000 }
-{
-    let (mut desk, mut readers) = open_store::<J, D>(keep, alloc, blank, 1).ok()?;
-    let mut reader = readers.pop()?;
-    insert_all(rt, alloc, &mut desk, 0, 600)?;
-    all_found(alloc, &mut reader)
+    desk: &mut Desk<J, D>,
+    reader: &mut Reader<J>,
+) -> Option<bool> {
+    insert_all(rt, alloc, desk, 0, 600)?;
+    let all = reader.pin(alloc, &Filter::all()).ok()?;
+    let mut right = true;
+    for (text, times, places) in MARKED {
+        right &= is_found(alloc, reader, &all, filter(alloc, text)?, (times, places))?;
+    }
+    Some(right)
 }
 
-fn all_found<J: Naming>(alloc: Global, reader: &mut Reader<J>) -> Option<bool> {
-    let all = reader.pin(alloc, &Filter::all()).ok()?;
-    for (text, times, places) in &MARKED {
-        let asked = filter(alloc, text)?;
-        let pinned = reader.pin(alloc, &asked).ok()?;
-        let chosen = all.choose(alloc, &[asked]).ok()?;
-        if times_of(alloc, pinned.events())?.as_slice() != *times || chosen.as_slice() != *places {
-            return Some(false);
-        }
-    }
-    Some(true)
+fn is_found<J: Naming>(
+    alloc: Global,
+    reader: &mut Reader<J>,
+    all: &Snapshot,
+    filter: Filter,
+    want: (&[u64], &[usize]),
+) -> Option<bool> {
+    let picked = has_times(alloc, reader, &filter, want.0);
+    let chosen = chooses(alloc, all, filter, want.1);
+    Some(picked? && chosen?)
 }
 
 #[test]
@@ -335,15 +309,31 @@ fn fills_up<J: Naming, D: Wait + Drop, R: Wait>(
     requires most { J.most ≡ 2 }
 {
     let (mut desk, _readers) = open_small::<J, D>(keep, alloc, blank, 1, 2).ok()?;
-    insert_all(rt, alloc, &mut desk, 0, 2)?;
-    let Err((fault, _event)) = desk.insert(rt, event(alloc, 2, 2)?) else {
-        return None;
-    };
-    let InsertFault::Full(filled) = fault else {
-        return None;
-    };
-    let repeat = desk.insert(rt, event(alloc, 1, time_of(1))?).ok()?;
-    Some((filled.front(), repeat.is_fresh(), repeat.front()))
+    fills(rt, alloc, &mut desk)
+}
+
+fn fills<J: Naming, D: Wait + Drop, R: Wait>(
+    rt: &R,
+    alloc: Global,
+    desk: &mut Desk<J, D>,
+) -> Option<(u64, bool, u64)> {
+    insert_all(rt, alloc, desk, 0, 2)?;
+    let filled = full_at(rt, desk, event(alloc, 2, 2)?)?;
+    let repeat = insert(rt, alloc, desk, 1)?;
+    Some((filled, repeat.is_fresh(), repeat.front()))
+}
+
+// How many events the store has that is full for this one.
+fn full_at<J: Naming, D: Wait + Drop, R: Wait>(
+    rt: &R,
+    desk: &mut Desk<J, D>,
+    event: Arc<Event>,
+) -> Option<u64> {
+    let (fault, _event) = desk.insert(rt, event).err()?;
+    match fault {
+        InsertFault::Full(filled) => Some(filled.front()),
+        InsertFault::Memory => None,
+    }
 }
 
 #[test]
@@ -365,8 +355,19 @@ fn locks<J: Naming, D: Wait + Drop, R: Wait>(
     requires most { J.most ≡ 1000000 }
 {
     let (desk, mut readers) = open_store::<J, D>(keep, alloc, blank, 1).ok()?;
+    let mut reader = readers.pop()?;
     let desk = Mutex::new(desk);
-    let pinned = insert_and_pin(rt, alloc, &desk, &mut readers.pop()?, event(alloc, 7, 9)?)?;
+    pinned(rt, alloc, &desk, &mut reader)
+}
+
+// How many events are pinned once one was inserted.
+fn pinned<J: Naming, D: Wait + Drop, R: Wait>(
+    rt: &R,
+    alloc: Global,
+    desk: &Mutex<Desk<J, D>>,
+    reader: &mut Reader<J>,
+) -> Option<usize> {
+    let pinned = insert_and_pin(rt, alloc, desk, reader, event(alloc, 7, 9)?)?;
     Some(pinned.front())
 }
 
@@ -464,19 +465,29 @@ fn tells<J: Naming + Send + Sync, D: Wait + Drop + Send, R: Threads + Wait + Syn
         &mut watcher,
         &mut desk,
     );
-    told.learn(&last?);
-    let all = told.pin(alloc, &Filter::all()).ok()?;
+    told_of(alloc, &mut told, back, last)
+}
+
+fn told_of<J: Naming>(
+    alloc: Global,
+    reader: &mut Reader<J>,
+    back: Option<u64>,
+    last: Option<Placed<J>>,
+) -> Option<(u64, usize)> {
+    reader.learn(&last?);
+    let all = reader.pin(alloc, &Filter::all()).ok()?;
     Some((back?, all.events().len()))
 }
 
 fn begins(first: &EventList, next: &EventList) -> bool {
-    if first.len() > next.len() {
-        return false;
-    }
+    let mut same = true;
     for place in 0..first.len() {
-        if place >= next.len() || first.get(place).id() != next.get(place).id() {
-            return false;
-        }
+        same &= is_same(first, next, place);
     }
-    true
+    same
+}
+
+// Whether both have the same event at a place.
+fn is_same(first: &EventList, next: &EventList, place: usize) -> bool {
+    place < first.len() && place < next.len() && first.get(place).id() == next.get(place).id()
 }

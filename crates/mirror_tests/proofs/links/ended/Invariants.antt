@@ -1,4 +1,4 @@
-use Rattle.mirror_tests.proofs.links.clients.Given as goal
+use Rattle.mirror_tests.proofs.links.ended.Given as goal
 
 -- the store that is just opened
 abbrev pub ghosts-served : goal.ghosts-served
