@@ -209,6 +209,19 @@ fn is_id(
     Ok(bytes32_of(hex) == Some(id.0) && text.len() == len)
 }
 
+// The event of these members with that id.
+fn event_of(alloc: Global, members: &str, hex: &str) -> Result<Event, Fail> {
+    let text = whole(alloc, members, hex)?;
+    read(alloc, text.as_str())
+}
+
+// Whether what is written of the event reads as one of its time and id.
+fn is_again(alloc: Global, event: &Event) -> Result<bool, Fail> {
+    let text = written(alloc, event)?;
+    let again = read(alloc, text.as_str())?;
+    Ok(again.item() == event.item())
+}
+
 // Whether an event with that id of its draft is read, its id's text has that length, and what is written of it reads as an
 // event of its time and id.
 fn is_read(
@@ -218,9 +231,10 @@ fn is_read(
     spelling: Spelling,
     len: usize,
 ) -> Result<bool, Fail> {
-    let event = read(alloc, whole(alloc, members, hex)?.as_str())?;
-    let again = read(alloc, written(alloc, &event)?.as_str())?;
-    Ok(again.item() == event.item() && is_id(alloc, event.draft(), hex, spelling, len)?)
+    let event = event_of(alloc, members, hex)?;
+    let is_right = is_id(alloc, event.draft(), hex, spelling, len)?;
+    let is_same = is_again(alloc, &event)?;
+    Ok(is_right && is_same)
 }
 
 // Whether the id is wrong with another last digit.
@@ -243,17 +257,17 @@ fn is_event(
     escaped: &str,
     lengths: (usize, usize),
 ) -> Result<bool, Fail> {
-    Ok(
-        is_read(alloc, members, plain, Spelling::Plain, lengths.0)?
-            && is_read(alloc, members, escaped, Spelling::Escaped, lengths.1)?
-            && is_wrong(alloc, members, plain)?,
-    )
+    let is_plain = is_read(alloc, members, plain, Spelling::Plain, lengths.0)?;
+    let is_escaped = is_read(alloc, members, escaped, Spelling::Escaped, lengths.1)?;
+    let is_refused = is_wrong(alloc, members, plain)?;
+    Ok(is_plain && is_escaped && is_refused)
 }
 
 // Whether the event is written as Python writes it.
 fn is_written(alloc: Global, vector: &Vector) -> Result<bool, Fail> {
-    let event = read(alloc, whole(alloc, vector.draft, vector.plain)?.as_str())?;
-    let digest = Sha256::digest(written(alloc, &event)?.as_bytes());
+    let event = event_of(alloc, vector.draft, vector.plain)?;
+    let text = written(alloc, &event)?;
+    let digest = Sha256::digest(text.as_bytes());
     Ok(bytes32_of(vector.written) == Some(digest))
 }
 

@@ -1,10 +1,9 @@
 // Tests of messages.
 use neg_codec::Id;
 use nostr_event::{EventFault, EventField, Text};
-use nostr_filter::{Filter, Kinds};
+use nostr_filter::Filter;
 use nostr_wire::{
-    Bytes, Filters, FromClient, FromRelay, Sub, WireFault, read_client, read_relay, write_client,
-    write_relay,
+    Bytes, Filters, Sub, WireFault, read_client, read_relay, write_client, write_relay,
 };
 use std::alloc::Global;
 use std::test::*;
@@ -273,74 +272,42 @@ fn sub(alloc: Global, text: &str) -> Result<Sub, Fail> {
     )
 }
 
-// A filter of events of kind 1.
-fn notes(alloc: Global) -> Result<Filter, Fail> {
-    let mut filter = Filter::all();
-    let mut kinds = Vec::new(alloc);
-    kinds.push(1)?;
-    filter.kinds = Some(Kinds::new(kinds));
-    Ok(filter)
+// A list of one filter.
+fn filters(alloc: Global) -> Result<Vec<Filter>, Fail> {
+    let mut list = Vec::new(alloc);
+    list.push(Filter::all())?;
+    Ok(list)
 }
 
-// The bytes 61 00 00 02 00.
-fn hello(alloc: Global) -> Result<Bytes, Fail> {
-    let mut bytes = Vec::new(alloc);
-    bytes.extend_from_slice(&[0x61, 0, 0, 2, 0])?;
-    Ok(Bytes::new(bytes))
+// Whether a name is given back as it was given.
+fn is_name_kept(alloc: Global) -> Result<bool, Fail> {
+    let name = sub(alloc, "é")?;
+    let is_seen = name.as_str() == "é";
+    Ok(is_seen && name.into_text().as_str() == "é")
 }
 
-// The message that opens a session over notes.
-fn opening(alloc: Global) -> Result<FromClient, Fail> {
-    let sub = sub(alloc, "s")?;
-    let filter = notes(alloc)?;
-    let message = hello(alloc)?;
-    Ok(FromClient::NegOpen {
-        sub,
-        filter,
-        message,
-    })
+// Whether bytes are given back as they were given.
+fn are_bytes_kept(alloc: Global) -> Result<bool, Fail> {
+    let bytes = Bytes::new(Vec::from_slice(alloc, b"\x61\x00")?);
+    let is_seen = bytes.as_slice() == b"\x61\x00".as_slice();
+    Ok(is_seen && bytes.into_vec().as_slice() == b"\x61\x00".as_slice())
 }
 
-fn is_opening_written(alloc: Global) -> Result<bool, Fail> {
-    let text = write_client(alloc, &opening(alloc)?)?;
-    Ok(text.as_str() == r##"["NEG-OPEN","s",{"kinds":[1]},"6100000200"]"##)
-}
-
-fn is_okay_written(alloc: Global) -> Result<bool, Fail> {
-    let okay = FromRelay::Okay {
-        id: Id([0xab; 32]),
-        taken: true,
-        text: Text::new(String::new(alloc)),
-    };
-    let text = write_relay(alloc, &okay)?;
-    Ok(
-        text.as_str()
-            == r##"["OK","abababababababababababababababababababababababababababababababab",true,""]"##,
-    )
-}
-
-#[test]
-fn messages_are_made(rt: HostRuntime) -> Result<(), Fail> {
-    assert!(rt; is_opening_written(rt.alloc())?);
-    assert!(rt; is_okay_written(rt.alloc())?);
-    Ok(())
+// Whether filters are given back as they were given.
+fn are_filters_kept(alloc: Global) -> Result<bool, Fail> {
+    let filters = Filters::new(filters(alloc)?).ok().ok_or("no filters")?;
+    let is_seen = filters.as_slice().len() == 1;
+    Ok(is_seen && filters.into_vec().len() == 1)
 }
 
 #[test]
 fn parts_are_given_back(rt: HostRuntime) -> Result<(), Fail> {
     let alloc = rt.alloc();
-    let name = sub(alloc, "é")?;
-    assert_eq!(rt; name.as_str(), "é");
-    assert_eq!(rt; name.into_text().as_str(), "é");
+    let is_name = is_name_kept(alloc)?;
+    let are_bytes = are_bytes_kept(alloc)?;
+    let are_filters = are_filters_kept(alloc)?;
+    assert!(rt; is_name && are_bytes && are_filters);
     assert!(rt; Sub::new(Text::new(String::new(alloc))).is_err());
-    let bytes = hello(alloc)?;
-    assert_eq!(rt; bytes.as_slice().len(), 5);
-    assert_eq!(rt; bytes.into_vec().as_slice(), [0x61, 0, 0, 2, 0].as_slice());
-    let mut list = Vec::new(alloc);
     assert!(rt; Filters::new(Vec::new(alloc)).is_err());
-    list.push(notes(alloc)?)?;
-    let filters = Filters::new(list).ok().ok_or("no filters")?;
-    assert_eq!(rt; filters.as_slice().len(), 1);
-    assert_eq!(rt; filters.into_vec().len(), 1);
     Ok(())
 }

@@ -1,75 +1,127 @@
 //! Settings from a table of texts. What is told of wrong ones is tried by runs of the program (`tests/jobs.py`).
 
-use mirror_settings::{Settings, read_settings};
-use std::alloc::{AllocError, Global};
+use mirror_settings::{Address, Settings, read_settings};
 use std::test::*;
 
-/// The settings, as one line.
-fn told(alloc: Global, settings: &Settings) -> Result<String, AllocError> {
-    let mut text = format!(in alloc; "{}", settings.events.as_str())?;
-    match &settings.listen {
-        Some(address) => text.push_str(format!(in alloc; " at {address}")?.as_str())?,
-        None => {}
-    }
-    for relay in settings.relays.as_slice() {
-        text.push_str(format!(in alloc; " {relay}")?.as_str())?;
-    }
-    for load in settings.bases.as_slice() {
-        text.push_str(format!(in alloc; " {load}")?.as_str())?;
-    }
-    let conns = settings.conns.unwrap_or(0);
-    let workers = settings.workers;
-    let rounds = settings.rounds;
-    let push_ms = settings.push_ms.unwrap_or(0);
-    let timeout_ms = settings.timeout_ms.unwrap_or(0);
-    let kinds = settings.filter.kinds.is_some();
-    let rest = format!(in alloc;
-        " conns {conns} workers {workers} rounds {rounds} push {push_ms} timeout {timeout_ms} kinds {kinds}"
-    )?;
-    text.push_str(rest.as_str())?;
-    Ok(text)
+/// What a run has.
+struct Row {
+    /// Whether it synchronises.
+    sync: bool,
+    text: &'static str,
+    events: &'static str,
+    /// Its only or last relay.
+    relay: Option<(&'static str, u16)>,
+    listen: Option<(&'static str, u16)>,
+    /// Its only or last load.
+    base: Option<u64>,
+    /// Connections, and the two times.
+    rest: [Option<u64>; 3],
+    workers: u64,
+    rounds: u64,
+    has_kinds: bool,
 }
 
-/// Whether the run synchronises, a text and its settings.
-static TOLD: [(bool, &str, &str); 6] = [
-    (
-        false,
-        "events = 'e'\nlisten = '127.0.0.1:0'\nconns = 1\nrelays = 7\nworkers = 9\n",
-        "e at 127.0.0.1:0 conns 1 workers 1 rounds 1 push 0 timeout 0 kinds false",
-    ),
-    (
-        false,
-        "push_ms = 60000\nconns = 1000000\nlisten = 'relay.example:65535'\nevents = 'a b'\n",
-        "a b at relay.example:65535 conns 1000000 workers 1 rounds 1 push 60000 timeout 0 kinds false",
-    ),
-    (
-        true,
-        "events = 'e'\nrelays = ['localhost:7000']\n",
-        "e localhost:7000 0 conns 0 workers 1 rounds 1 push 0 timeout 0 kinds false",
-    ),
-    (
-        true,
-        "events = 'e'\nlisten = '[::1]:80'\nconns = 5\nrelays = ['a:1', 'b:2']\nfilter = '{\"kinds\":[1]}'\nworkers = 4\nbases = [0, 1000000000]\nrounds = 16\npush_ms = 1\ntimeout_ms = 3600000\n",
-        "e at [::1]:80 a:1 b:2 0 1000000000 conns 5 workers 4 rounds 16 push 1 timeout 3600000 kinds true",
-    ),
-    (
-        true,
-        "events = ''\nconns = 3\nrelays = ['a:0']\nfilter = '{}'\n",
-        " a:0 0 conns 3 workers 1 rounds 1 push 0 timeout 0 kinds false",
-    ),
-    (
-        true,
-        "# none\nother = [1, { a = 2 }]\nevents = 'e'\nrelays = ['a:1']\nworkers = 2\n",
-        "e a:1 0 conns 0 workers 2 rounds 1 push 0 timeout 0 kinds false",
-    ),
+static ROWS: [Row; 6] = [
+    Row {
+        sync: false,
+        text: "events = 'e'\nlisten = '127.0.0.1:0'\nconns = 1\nrelays = 7\nworkers = 9\n",
+        events: "e",
+        relay: None,
+        listen: Some(("127.0.0.1", 0)),
+        base: None,
+        rest: [Some(1), None, None],
+        workers: 1,
+        rounds: 1,
+        has_kinds: false,
+    },
+    Row {
+        sync: false,
+        text: "push_ms = 60000\nconns = 1000000\nlisten = 'relay.example:65535'\nevents = 'a b'\n",
+        events: "a b",
+        relay: None,
+        listen: Some(("relay.example", 65535)),
+        base: None,
+        rest: [Some(1_000_000), Some(60_000), None],
+        workers: 1,
+        rounds: 1,
+        has_kinds: false,
+    },
+    Row {
+        sync: true,
+        text: "events = 'e'\nrelays = ['localhost:7000']\n",
+        events: "e",
+        relay: Some(("localhost", 7000)),
+        listen: None,
+        base: Some(0),
+        rest: [None, None, None],
+        workers: 1,
+        rounds: 1,
+        has_kinds: false,
+    },
+    Row {
+        sync: true,
+        text: "events = 'e'\nlisten = '[::1]:80'\nconns = 5\nrelays = ['a:1', 'b:2']\nfilter = '{\"kinds\":[1]}'\nworkers = 4\nbases = [0, 1000000000]\nrounds = 16\npush_ms = 1\ntimeout_ms = 3600000\n",
+        events: "e",
+        relay: Some(("b", 2)),
+        listen: Some(("[::1]", 80)),
+        base: Some(1_000_000_000),
+        rest: [Some(5), Some(1), Some(3_600_000)],
+        workers: 4,
+        rounds: 16,
+        has_kinds: true,
+    },
+    Row {
+        sync: true,
+        text: "events = ''\nconns = 3\nrelays = ['a:0']\nfilter = '{}'\n",
+        events: "",
+        relay: Some(("a", 0)),
+        listen: None,
+        base: Some(0),
+        rest: [Some(3), None, None],
+        workers: 1,
+        rounds: 1,
+        has_kinds: false,
+    },
+    Row {
+        sync: true,
+        text: "# none\nother = [1, { a = 2 }]\nevents = 'e'\nrelays = ['a:1']\nworkers = 2\n",
+        events: "e",
+        relay: Some(("a", 1)),
+        listen: None,
+        base: Some(0),
+        rest: [None, None, None],
+        workers: 2,
+        rounds: 1,
+        has_kinds: false,
+    },
 ];
+
+/// Whether that is the address, if there is one.
+fn is_at(address: Option<&Address>, want: Option<(&str, u16)>) -> bool {
+    match (address, want) {
+        (Some(address), Some((host, port))) => address.host.as_str() == host
+            && address.port == port,
+        (None, None) => true,
+        _ => false,
+    }
+}
+
+/// Whether these are the row's settings.
+fn are_of(settings: &Settings, row: &Row) -> bool {
+    is_at(settings.listen.as_ref(), row.listen)
+        && is_at(settings.relays.as_slice().last(), row.relay)
+        && settings.bases.as_slice().last().copied() == row.base
+        && [settings.conns, settings.push_ms, settings.timeout_ms] == row.rest
+        && (settings.workers, settings.rounds) == (row.workers, row.rounds)
+        && settings.events.as_str() == row.events
+        && settings.filter.kinds.is_some() == row.has_kinds
+}
 
 #[test]
 fn settings_are_told(rt: HostRuntime) -> Result<(), Fail> {
-    let alloc = rt.alloc();
-    for (sync, text, wanted) in &TOLD {
-        let settings = read_settings(alloc, *text, *sync)?;
-        assert_eq!(rt; told(alloc, &settings)?.as_str(), *wanted);
+    for row in &ROWS {
+        let settings = read_settings(rt.alloc(), row.text, row.sync)?;
+        assert!(rt; are_of(&settings, row));
     }
     Ok(())
 }
