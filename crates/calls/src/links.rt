@@ -207,12 +207,12 @@ fn asked<S: Read + Write + Drop, K: MaskKeys + Drop>(mut peer: WsPeer<S, K>) -> 
         Ok(answer) => {
             Said::ample(answer.as_slice() == b"\x61\x00".as_slice() && peer.pairs().len() == 1)
         }
-        Err(PeerFault::Memory) => Said::memory(
-            peer.failures() == 0
-                && matches!(peer.last_fault(), Some(LinkFault::Memory))
-                && matches!(peer.ask(b"\x61"), Err(PeerFault::Failed))
-                && peer.pairs().is_empty(),
-        ),
+        Err(PeerFault::Memory) => {
+            let is_told = peer.failures() == 0
+                && matches!(peer.last_fault(), Some(LinkFault::Memory));
+            let is_dead = matches!(peer.ask(b"\x61"), Err(PeerFault::Failed));
+            Said::memory(is_told && is_dead && peer.pairs().is_empty())
+        }
         Err(PeerFault::Failed) => Said::wrong(),
     }
 }
@@ -233,12 +233,12 @@ fn fetched<S: Read + Write + Drop, K: MaskKeys + Drop>(mut source: WsSource<S, K
     let wanted = [event_id(0)?];
     match source.fetch(&wanted) {
         Ok(events) => Said::ample(events.len() == 1 && source.fetches().len() == 1),
-        Err(SourceFault::Memory) => Said::memory(
-            source.failures() == 0
-                && matches!(source.last_fault(), Some(LinkFault::Memory))
-                && matches!(source.fetch(&wanted), Err(SourceFault::Failed))
-                && source.fetches().is_empty(),
-        ),
+        Err(SourceFault::Memory) => {
+            let is_told = source.failures() == 0
+                && matches!(source.last_fault(), Some(LinkFault::Memory));
+            let is_dead = matches!(source.fetch(&wanted), Err(SourceFault::Failed));
+            Said::memory(is_told && is_dead && source.fetches().is_empty())
+        }
         Err(SourceFault::Failed) => Said::wrong(),
     }
 }
@@ -251,25 +251,30 @@ fn ends_in(alloc: Global, sent: &[u8], text: &str) -> Option<bool> {
     Some(sent.ends_with(end.as_slice()))
 }
 
+/// The frames of a client that gives the second event and closes.
+fn given_frames(alloc: Global) -> Option<Vec<u8>> {
+    let mut frames = Vec::new(alloc);
+    let text = event_text(alloc, GIVEN, 1)?;
+    put_frame(&mut frames, true, text.as_str())?;
+    frames.extend_from_slice(CLOSE).ok()?;
+    Some(frames)
+}
+
 /// Serves a client that gives the second event and closes, over a store of the first.
 pub fn served<J: Naming, R: Wait>(
     rt: &R,
     alloc: Global,
-    desk: Desk<J, &R>,
+    desk: &Mutex<Desk<J, &R>>,
     reader: &mut Reader<J>,
 ) -> Option<Said> {
     let mut sent = Vec::with_capacity(alloc, MOST_SENT).ok()?;
-    let desk = Mutex::new(desk);
-    let mut frames = Vec::new(alloc);
-    put_frame(&mut frames, true, event_text(alloc, GIVEN, 1)?.as_str())?;
-    frames.extend_from_slice(CLOSE).ok()?;
-    let parts = parts_of(alloc, ASKS, frames)?;
+    let parts = parts_of(alloc, ASKS, given_frames(alloc)?)?;
     let stream = Played {
         parts: &parts,
         sent: &mut sent,
     };
     let limits = RelayLimits::default();
-    let served = serve_conn(rt, alloc, stream, reader, &desk, limits);
+    let served = serve_conn(rt, alloc, stream, reader, desk, limits);
     let is_stored = publishes(alloc, reader, 2);
     let is_kept = is_stored || publishes(alloc, reader, 1);
     match served {

@@ -35,8 +35,8 @@ pub fn synced<J: Naming, R: Threads + Wait + Sync>(
     alloc: Global,
     reader: &mut Reader<J>,
 ) -> Option<Said> {
-    let snapshot = reader.pin(alloc, &Filter::all()).ok()?;
     let mut peers = [local(alloc, &[item(1)])?, local(alloc, &[item(2)])?];
+    let snapshot = reader.pin(alloc, &Filter::all()).ok()?;
     let (bases, limits) = (Bases::none(), SessionLimits::default());
     match sync_plan(rt, alloc, &mut peers, &snapshot, &bases, &limits) {
         Ok(done) => shared_out(&done),
@@ -133,14 +133,13 @@ fn board(alloc: Global, lower: &Event, upper: &Event) -> Option<(Board, Vec<Lane
 pub fn fetched<J: Naming + Send + Sync, R: Threads + Wait + Sync>(
     rt: &R,
     alloc: Global,
-    desk: Desk<J, &R>,
+    desk: &Mutex<Desk<J, &R>>,
     reader: &mut Reader<J>,
 ) -> Option<Said> {
-    let desk = Mutex::new(desk);
     let (lower, upper) = (event(alloc, 1)?, event(alloc, 0)?);
     let (board, lanes) = board(alloc, &lower, &upper)?;
     let mut sources = [Giving::new(alloc, lower), Giving::new(alloc, upper)];
-    match fetch_all(rt, alloc, board, lanes, &mut sources, &desk) {
+    match fetch_all(rt, alloc, board, lanes, &mut sources, desk) {
         Ok(report) => reported(alloc, reader, &report),
         Err(FetchFault::Memory) => { Said::memory(has(alloc, reader, 0) == has(alloc, reader, 1)) }
         Err(FetchFault::Lanes) => Said::wrong(),

@@ -6,7 +6,7 @@ use crate::said::Said;
 use crate::{conns, jobs, links, mirrors, stores};
 use event_store::{Blank, Naming};
 use std::alloc::Global;
-use std::sync::Wait;
+use std::sync::{Mutex, Wait};
 use std::thread::Threads;
 
 /// A call over a store.
@@ -73,8 +73,8 @@ pub fn over_store<J: Naming + Send + Sync, R: Threads + Wait + Sync>(
     let (mut desk, mut reader) = stores::store::<J, R>(rt, alloc, blank, held(call))?;
     match call {
         Call::Plan => mirrors::synced(rt, alloc, &mut reader),
-        Call::Fetch => mirrors::fetched(rt, alloc, desk, &mut reader),
-        Call::Serve => links::served(rt, alloc, desk, &mut reader),
+        Call::Fetch => mirrors::fetched(rt, alloc, &Mutex::new(desk), &mut reader),
+        Call::Serve => links::served(rt, alloc, &Mutex::new(desk), &mut reader),
         Call::InsertLines => jobs::insert(rt, alloc, &mut desk, &mut reader),
         Call::WriteLines => jobs::write(alloc, &mut reader),
         Call::Insert => stores::insert(rt, alloc, &mut desk, &mut reader),

@@ -11,20 +11,33 @@ use std::marker::Brand;
 use std::sync::Wait;
 use std::thread::Threads;
 
+/// What makes a call.
+#[derive(Clone, Copy)]
+enum Maker {
+    Rolls,
+    Sessions,
+    Events,
+    Plans,
+    Boards,
+    Links,
+    /// A store, or a job.
+    Stores,
+}
+
 /// The names of the calls, in the order in which they are made.
-const ALL: [&[&str]; 12] = [
-    rolls::NAMES,
-    sessions::NAMES,
-    events::NAMES,
-    plans::NAMES,
-    &["open_store", "open_small"],
-    stores::NAMES,
-    conns::NAMES,
-    boards::NAMES,
-    &["sync_plan", "fetch_all"],
-    links::NAMES,
-    &["serve_conn"],
-    jobs::NAMES,
+const ALL: [(Maker, &[&str]); 12] = [
+    (Maker::Rolls, rolls::NAMES),
+    (Maker::Sessions, sessions::NAMES),
+    (Maker::Events, events::NAMES),
+    (Maker::Plans, plans::NAMES),
+    (Maker::Stores, &["open_store", "open_small"]),
+    (Maker::Stores, stores::NAMES),
+    (Maker::Stores, conns::NAMES),
+    (Maker::Boards, boards::NAMES),
+    (Maker::Stores, &["sync_plan", "fetch_all"]),
+    (Maker::Links, links::NAMES),
+    (Maker::Stores, &["serve_conn"]),
+    (Maker::Stores, jobs::NAMES),
 ];
 
 /// Makes the call of that name, or with no name all of them, and prints what each came to. Whether all are right.
@@ -34,12 +47,12 @@ pub fn sweep<R: Print + Threads + Wait + Sync>(
     only: Option<&str>,
 ) -> io::Result<bool> {
     let mut is_right = true;
-    for names in ALL {
+    for (maker, names) in ALL {
         for name in names {
             if matches!(only, Some(only) if only != *name) {
                 continue;
             }
-            let said = said_of(rt, alloc, name);
+            let said = said_of(rt, alloc, maker, name);
             println!(rt; "{name}: {}", told(said))?;
             is_right = is_right && !matches!(said, Some(Said::Wrong(_)));
         }
@@ -59,25 +72,29 @@ fn told(said: Option<Said>) -> &'static str {
 }
 
 /// What the call of that name came to; none where the refusal fell outside it.
-fn said_of<R: Threads + Wait + Sync>(rt: &R, alloc: Global, name: &str) -> Option<Said> {
-    if rolls::NAMES.contains(&name) {
-        rolls::said_of(alloc, name)
-    } else if sessions::NAMES.contains(&name) {
-        sessions::said_of(alloc, name)
-    } else if events::NAMES.contains(&name) {
-        events::said_of(alloc, name)
-    } else if plans::NAMES.contains(&name) {
-        plans::said_of(alloc, name)
-    } else if boards::NAMES.contains(&name) {
-        boards::said_of(alloc, name)
-    } else if links::NAMES.contains(&name) {
-        links::said_of(alloc, name)
-    } else {
-        match name {
-            "read_settings" => jobs::read(alloc),
-            "open_store" => stores::open::<Brand, R>(rt, alloc, Blank::new()),
-            "open_small" => stores::open_for_three::<Brand, R>(rt, alloc, Blank::new()),
-            _ => over_store::<Brand, R>(rt, alloc, Blank::new(), call_of(name)?),
-        }
+fn said_of<R: Threads + Wait + Sync>(
+    rt: &R,
+    alloc: Global,
+    maker: Maker,
+    name: &str,
+) -> Option<Said> {
+    match maker {
+        Maker::Rolls => rolls::said_of(alloc, name),
+        Maker::Sessions => sessions::said_of(alloc, name),
+        Maker::Events => events::said_of(alloc, name),
+        Maker::Plans => plans::said_of(alloc, name),
+        Maker::Boards => boards::said_of(alloc, name),
+        Maker::Links => links::said_of(alloc, name),
+        Maker::Stores => of_stores(rt, alloc, name),
+    }
+}
+
+/// The same of a call over a store, and of a job.
+fn of_stores<R: Threads + Wait + Sync>(rt: &R, alloc: Global, name: &str) -> Option<Said> {
+    match name {
+        "read_settings" => jobs::read(alloc),
+        "open_store" => stores::open::<Brand, R>(rt, alloc, Blank::new()),
+        "open_small" => stores::open_for_three::<Brand, R>(rt, alloc, Blank::new()),
+        _ => over_store::<Brand, R>(rt, alloc, Blank::new(), call_of(name)?),
     }
 }

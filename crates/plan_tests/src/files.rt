@@ -14,17 +14,27 @@ struct Lists<'a> {
     group: &'a [u16],
 }
 
+fn offered(alloc: Global, offers: &[(u8, &[u16])]) -> Result<Vec<(Id, Vec<u16>)>, AllocError> {
+    let mut all = Vec::new(alloc);
+    for (byte, relays) in offers {
+        all.push((Id([*byte; 32]), relays.to_vec(alloc)?))?;
+    }
+    Ok(all)
+}
+
+fn given(alloc: Global, gives: &[(u8, u16)]) -> Result<Vec<(Id, u16)>, AllocError> {
+    let mut all = Vec::new(alloc);
+    for (byte, relay) in gives {
+        all.push((Id([*byte; 32]), *relay))?;
+    }
+    Ok(all)
+}
+
 fn file_of(alloc: Global, lists: Lists<'_>) -> Result<Result<PlanFile, PlanFault>, AllocError> {
-    let mut offered = Vec::new(alloc);
-    for (byte, relays) in lists.offers {
-        offered.push((Id([*byte; 32]), relays.to_vec(alloc)?))?;
-    }
-    let mut given = Vec::new(alloc);
-    for (byte, relay) in lists.gives {
-        given.push((Id([*byte; 32]), *relay))?;
-    }
     let bases = lists.bases.to_vec(alloc)?;
     let group = lists.group.to_vec(alloc)?;
+    let given = given(alloc, lists.gives)?;
+    let offered = offered(alloc, lists.offers)?;
     Ok(PlanFile::of(bases, offered, given, group))
 }
 

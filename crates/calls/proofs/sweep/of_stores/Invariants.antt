@@ -1,4 +1,4 @@
-use Rattle.calls.proofs.sweep.said_of.Given as goal
+use Rattle.calls.proofs.sweep.of_stores.Given as goal
 
 -- the store that is just opened
 abbrev pub ghosts-open : goal.ghosts-open
