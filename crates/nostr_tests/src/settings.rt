@@ -9,11 +9,9 @@ struct Row {
     sync: bool,
     text: &'static str,
     events: &'static str,
-    /// Its only or last relay.
-    relay: Option<(&'static str, u16)>,
+    relays: &'static [(&'static str, u16)],
     listen: Option<(&'static str, u16)>,
-    /// Its only or last load.
-    base: Option<u64>,
+    bases: &'static [u64],
     /// Connections, and the two times.
     rest: [Option<u64>; 3],
     workers: u64,
@@ -26,9 +24,9 @@ static ROWS: [Row; 6] = [
         sync: false,
         text: "events = 'e'\nlisten = '127.0.0.1:0'\nconns = 1\nrelays = 7\nworkers = 9\n",
         events: "e",
-        relay: None,
+        relays: &[],
         listen: Some(("127.0.0.1", 0)),
-        base: None,
+        bases: &[],
         rest: [Some(1), None, None],
         workers: 1,
         rounds: 1,
@@ -38,9 +36,9 @@ static ROWS: [Row; 6] = [
         sync: false,
         text: "push_ms = 60000\nconns = 1000000\nlisten = 'relay.example:65535'\nevents = 'a b'\n",
         events: "a b",
-        relay: None,
+        relays: &[],
         listen: Some(("relay.example", 65535)),
-        base: None,
+        bases: &[],
         rest: [Some(1_000_000), Some(60_000), None],
         workers: 1,
         rounds: 1,
@@ -50,9 +48,9 @@ static ROWS: [Row; 6] = [
         sync: true,
         text: "events = 'e'\nrelays = ['localhost:7000']\n",
         events: "e",
-        relay: Some(("localhost", 7000)),
+        relays: &[("localhost", 7000)],
         listen: None,
-        base: Some(0),
+        bases: &[0],
         rest: [None, None, None],
         workers: 1,
         rounds: 1,
@@ -62,9 +60,9 @@ static ROWS: [Row; 6] = [
         sync: true,
         text: "events = 'e'\nlisten = '[::1]:80'\nconns = 5\nrelays = ['a:1', 'b:2']\nfilter = '{\"kinds\":[1]}'\nworkers = 4\nbases = [0, 1000000000]\nrounds = 16\npush_ms = 1\ntimeout_ms = 3600000\n",
         events: "e",
-        relay: Some(("b", 2)),
+        relays: &[("a", 1), ("b", 2)],
         listen: Some(("[::1]", 80)),
-        base: Some(1_000_000_000),
+        bases: &[0, 1_000_000_000],
         rest: [Some(5), Some(1), Some(3_600_000)],
         workers: 4,
         rounds: 16,
@@ -74,9 +72,9 @@ static ROWS: [Row; 6] = [
         sync: true,
         text: "events = ''\nconns = 3\nrelays = ['a:0']\nfilter = '{}'\n",
         events: "",
-        relay: Some(("a", 0)),
+        relays: &[("a", 0)],
         listen: None,
-        base: Some(0),
+        bases: &[0],
         rest: [Some(3), None, None],
         workers: 1,
         rounds: 1,
@@ -86,9 +84,9 @@ static ROWS: [Row; 6] = [
         sync: true,
         text: "# none\nother = [1, { a = 2 }]\nevents = 'e'\nrelays = ['a:1']\nworkers = 2\n",
         events: "e",
-        relay: Some(("a", 1)),
+        relays: &[("a", 1)],
         listen: None,
-        base: Some(0),
+        bases: &[0],
         rest: [None, None, None],
         workers: 2,
         rounds: 1,
@@ -96,11 +94,25 @@ static ROWS: [Row; 6] = [
     },
 ];
 
-/// Whether that is the address, if there is one.
-fn is_at(address: Option<&Address>, want: Option<(&str, u16)>) -> bool {
-    match (address, want) {
-        (Some(address), Some((host, port))) => address.host.as_str() == host
-            && address.port == port,
+/// Whether that is the address.
+fn is_at(address: &Address, want: (&str, u16)) -> bool {
+    address.host.as_str() == want.0 && address.port == want.1
+}
+
+/// Whether these are the addresses.
+fn are_at(addresses: &[Address], want: &[(&str, u16)]) -> bool {
+    for (address, want) in addresses.iter().zip(want) {
+        if !is_at(address, *want) {
+            return false;
+        }
+    }
+    addresses.len() == want.len()
+}
+
+/// Whether that is where the run listens, if it does.
+fn listens_at(settings: &Settings, want: Option<(&str, u16)>) -> bool {
+    match (&settings.listen, want) {
+        (Some(address), Some(want)) => is_at(address, want),
         (None, None) => true,
         _ => false,
     }
@@ -108,9 +120,9 @@ fn is_at(address: Option<&Address>, want: Option<(&str, u16)>) -> bool {
 
 /// Whether these are the row's settings.
 fn are_of(settings: &Settings, row: &Row) -> bool {
-    is_at(settings.listen.as_ref(), row.listen)
-        && is_at(settings.relays.as_slice().last(), row.relay)
-        && settings.bases.as_slice().last().copied() == row.base
+    listens_at(settings, row.listen)
+        && are_at(settings.relays.as_slice(), row.relays)
+        && settings.bases.as_slice() == row.bases
         && [settings.conns, settings.push_ms, settings.timeout_ms] == row.rest
         && (settings.workers, settings.rounds) == (row.workers, row.rounds)
         && settings.events.as_str() == row.events
