@@ -7,7 +7,8 @@ use Rattle.neg_codec.specs.declared.Id.{Id}
 use Rattle.neg_codec.specs.declared.Item.{Item}
 use Rattle.neg_codec.specs.Keys.{place, IsKey}
 use Rattle.neg_codec.specs.Ranges.{ids, Span, IsSkip, Ascends, IsEdge}
-use Rattle.item_roll.specs.Parts.{part, ids_of, count_below}
+use Rattle.item_roll.specs.Parts.{IsRoll, part, ids_of, count_below}
+use Rattle.item_roll.proofs.Truths.{piece_is}
 use Rattle.item_roll.specs.Truth.{SameIds, IsTrueOf}
 use Rattle.item_roll.specs.Closed.{closed_from, EndsAt, IsTold, Reaches}
 use Rattle.neg_draft.specs.Coverage.{end_of, HasKeys, Tells}
@@ -76,7 +77,7 @@ pub ids_hold : (roll : List Item) (lower upper : Item) (is : List Id) → is ≡
 ids_hold roll lower upper is e = All-cons (IsTrueOf roll) (record { lower = lower; upper = upper; claim = ids is }) [] (subst (λ (x : List Id). SameIds is x) e (λ i. (λ h. h, λ h. h))) (All-nil (IsTrueOf roll))
 
 -- the ids between the places of two bounds are those between the bounds
-pub ids_between : (roll : List Item) (lower upper : Item) (lo hi : ℕ) (is : List Id) → is ≡ ids_of (slice_range roll lo hi) → lo ≡ count_below roll lower
-    → part roll lower upper ≡ slice_range roll (count_below roll lower) hi → is ≡ ids_of (part roll lower upper)
-ids_between roll lower upper lo hi is listed_is place_is part_is =
-    listed_is ∙ ap (λ (n : ℕ). ids_of (slice_range roll n hi)) place_is ∙ ap (λ (xs : List Item). ids_of xs) (sym part_is)
+pub ids_between : (roll : List Item) (lower upper : Item) (lo hi : ℕ) (is : List Id) → IsRoll roll → is ≡ ids_of (slice_range roll lo hi) → lo ≡ count_below roll lower
+    → hi ≡ count_below roll upper → place lower < place upper → is ≡ ids_of (part roll lower upper)
+ids_between roll lower upper lo hi is rises listed_is low high lt =
+    listed_is ∙ ap (λ (xs : List Item). ids_of xs) (sym (piece_is roll lo hi lower upper rises.ascending (sym low) (sym high) (omega (arith, lt))))

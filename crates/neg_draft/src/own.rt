@@ -1,6 +1,6 @@
 //! What a roll has between two bounds.
 
-ghost use Rattle.std.specs.Prelude.{◌≡◌, ◌+◌, ◌-◌, ◌*◌, ◌<◌, ◌≤◌, ◌↔◌, ◌⊎◌, [], ◌∷◌, All, IfOk, IsTrue, map};
+ghost use Rattle.std.specs.Prelude.{◌≡◌, ◌+◌, ◌-◌, ◌*◌, ◌<◌, ◌≤◌, ◌↔◌, ◌⊎◌, [], ◌∷◌, All, IfOk, IsTrue, length, map};
 ghost use Rattle.neg_codec.specs.Keys.{place, infinity};
 ghost use Rattle.neg_codec.specs.Ranges.{ids, edge_of, span_of};
 ghost use Rattle.neg_codec.specs.Ranges as told;
@@ -48,15 +48,24 @@ impl Draft {
         })
     }
 
-    /// Lists the roll's ids from where the draft has come to up to a bound.
-    fn list_ids(self, alloc: Global, roll: &Roll, upper: Bound) -> Result<Draft, AllocError>
+    /// Lists the roll's ids from where the draft has come to up to a bound. These two have the places lo and hi.
+    fn list_ids(
+        self,
+        alloc: Global,
+        roll: &Roll,
+        lo: usize,
+        hi: usize,
+        upper: Bound,
+    ) -> Result<Draft, AllocError>
         requires ahead { place self.end < place (edge_of upper) }
-        requires fits { before_payload self + 32 * (count_below roll.now (edge_of upper) - count_below roll.now self.end) + 64 ≤ self.limit }
+        requires lower { lo ≡ count_below roll.now self.end }
+        requires upper { hi ≡ count_below roll.now (edge_of upper) }
+        requires within { hi ≤ length roll.now }
+        requires fits { before_payload self + 32 * (hi - lo) + 64 ≤ self.limit }
         ensures { IfOk result (λ d. d ≡ told_more self (edge_of upper) (record { upper = edge_of upper; claim = ids (ids_of (part roll.now self.end (edge_of upper))) } ∷ [])) }
     {
-        let lower = self.end();
-        let _ = (lower.edge(), upper.edge(), roll.len());
-        let ids = roll.ids(alloc, roll.find(&lower), roll.find(&upper))?;
+        let _ = (self.end().edge(), upper.edge(), roll.len());
+        let ids = roll.ids(alloc, lo, hi)?;
         let payload = Payload::Ids(ids);
         self.tell(Range { upper, payload })
     }
@@ -80,10 +89,39 @@ impl Draft {
         if count == 0 {
             return self.close(roll);
         }
-        let next = roll.find(&end) + count;
+        let lo = roll.find(&end);
+        let next = lo + count;
         let bound = minimal_bound(&roll.get(next - 1), &roll.get(next));
-        let draft = self.list_ids(alloc, roll, bound)?;
+        let draft = self.list_ids(alloc, roll, lo, next, bound)?;
         draft.close(roll)
+    }
+
+    /// The same as `tell_ids`, where the two bounds have the places lo and hi.
+    fn tell_ids_at(
+        self,
+        alloc: Global,
+        roll: &Roll,
+        lo: usize,
+        hi: usize,
+        upper: Bound,
+    ) -> Result<Draft, AllocError>
+        requires ahead { place self.end < place (edge_of upper) }
+        requires lower { lo ≡ count_below roll.now self.end }
+        requires upper { hi ≡ count_below roll.now (edge_of upper) }
+        requires within { hi ≤ length roll.now }
+        ensures told { IfOk result (Told roll.now self (edge_of upper)) }
+        ensures exact { IfOk result (λ d. (d ≡ told_more self (edge_of upper) (record { upper = edge_of upper; claim = ids (ids_of (part roll.now self.end (edge_of upper))) } ∷ [])) ⊎ Cut roll.now self (edge_of upper) d) }
+    {
+        let lower = self.end();
+        let _ = (lower.edge(), upper.edge());
+        let Some(room) = self.room() else {
+            return self.close(roll);
+        };
+        let most = room / ID_BYTES;
+        if most < hi - lo {
+            return self.cut_ids(alloc, roll, &upper, most);
+        }
+        self.list_ids(alloc, roll, lo, hi, upper)
     }
 
     /// Lists the roll's ids from where the draft has come to up to a bound, however many there are. Where
@@ -94,18 +132,9 @@ impl Draft {
         ensures told { IfOk result (Told roll.now self (edge_of upper)) }
         ensures exact { IfOk result (λ d. (d ≡ told_more self (edge_of upper) (record { upper = edge_of upper; claim = ids (ids_of (part roll.now self.end (edge_of upper))) } ∷ [])) ⊎ Cut roll.now self (edge_of upper) d) }
     {
-        let lower = self.end();
-        let _ = (lower.edge(), upper.edge());
-        let lo = roll.find(&lower);
+        let lo = roll.find(&self.end());
         let hi = roll.find(&upper);
-        let Some(room) = self.room() else {
-            return self.close(roll);
-        };
-        let most = room / ID_BYTES;
-        if most < hi - lo {
-            return self.cut_ids(alloc, roll, &upper, most);
-        }
-        self.list_ids(alloc, roll, upper)
+        self.tell_ids_at(alloc, roll, lo, hi, upper)
     }
 
     /// Tells a fingerprint of the roll's items from where the draft has come to up to a bound. Where it
@@ -166,7 +195,7 @@ impl Draft {
         let lo = roll.find(&lower);
         let hi = roll.find(&upper);
         if hi - lo < LISTED_BELOW {
-            return self.tell_ids(alloc, roll, upper);
+            return self.tell_ids_at(alloc, roll, lo, hi, upper);
         }
         let split = roll.split(alloc, lo, hi, &upper)?;
         self.tell_prints(roll, &split, &upper)

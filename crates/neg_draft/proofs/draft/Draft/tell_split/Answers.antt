@@ -24,7 +24,7 @@ returns-then-hi-lo-lt-LISTED_BELOW-clause-exact c =
     let low : c.find-lo.result ≡ count_below c.args.roll.now c.args.self.end = c.find-lo.ensures.value ∙ ap (count_below c.args.roll.now) c.end-lower.ensures.end in
     let few : count_below c.args.roll.now (edge_of c.args.upper) - count_below c.args.roll.now c.args.self.end < 32 = omega (arith, low, c.find-hi.ensures.value, c.if-hi-lo-lt-LISTED_BELOW.true) in
     let same = split_is_listed c.args.roll.now c.args.self.end (edge_of c.args.upper) c.find-hi.result few c.find-hi.ensures.value (c.find-hi.ensures.part c.args.self.end (omega (arith, c.requires))) in
-    IfOk-weaker c.tell_ids.result _ _ (λ d h. subst (λ (rs : List Span). (d ≡ told_more c.args.self (edge_of c.args.upper) rs) ⊎ Cut c.args.roll.now c.args.self (edge_of c.args.upper) d) (sym same) h) c.tell_ids.ensures.exact
+    IfOk-weaker c.tell_ids_at.result _ _ (λ d h. subst (λ (rs : List Span). (d ≡ told_more c.args.self (edge_of c.args.upper) rs) ⊎ Cut c.args.roll.now c.args.self (edge_of c.args.upper) d) (sym same) h) c.tell_ids_at.ensures.exact
 
 pub tell_prints-requires-clause-finite : goal.tell_prints-requires-clause-finite
 tell_prints-requires-clause-finite c = omega (arith, c.requires, edge_low (edge_of c.args.upper) c.edge-2.ensures.edge)
