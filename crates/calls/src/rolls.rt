@@ -145,7 +145,7 @@ fn evens(alloc: Global, has_odd: bool) -> Option<Vec<Item>> {
     Some(items)
 }
 
-/// Inserts into a roll whose only chunk is full and shared.
+/// Inserts into a roll whose chunks are full and shared.
 fn insert(alloc: Global) -> Option<Said> {
     let (before, after) = (evens(alloc, false)?, evens(alloc, true)?);
     let mut roll = Roll::from_items(alloc, &before).ok()?;
