@@ -15,7 +15,7 @@ use std::alloc::{AllocError, Global};
 use std::marker::Model;
 
 /// A chunk has no more items.
-pub const CHUNK_ITEMS: usize = 128;
+pub const CHUNK_ITEMS: usize = 256;
 
 /// How many items of a full chunk go into its first half.
 const HALF: usize = CHUNK_ITEMS / 2;

@@ -339,7 +339,7 @@ fn timed_line(alloc: Global, len: u64) -> Result<Vec<Item>, AllocError> {
 fn lie_in_chunks(alloc: Global) -> Option<bool> {
     let items = timed_line(alloc, 1025).ok()?;
     let roll = Roll::from_items(alloc, &items).ok()?;
-    let places = [0, 1, 3, 63, 65, 127, 128, 129, 191, 512, 540, 1024, 1025];
+    let places = [0, 1, 127, 129, 255, 256, 257, 383, 512, 540, 1024, 1025];
     Some(
         roll.chunks() >= 3
             && roll.chunk(0).is_some()
