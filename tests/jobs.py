@@ -5,6 +5,7 @@
 """
 import os
 import socket
+import subprocess
 import tempfile
 
 from told import by_id, done, event, program, read, same, settings, start, written
@@ -145,6 +146,40 @@ def refusals_say_what_and_where(path, folder):
     same(done(path, "sync", os.path.join(folder, "none.toml")), (1, "", "refused: read\n"))
 
 
+def one_run_has_an_events_file(path, folder):
+    """A second run is refused and leaves no trace; the first is kept from nothing, also where the file is a link."""
+    kept = os.path.join(folder, "kept.jsonl")
+    written(kept, E[:1])
+    os.symlink("kept.jsonl", os.path.join(folder, "it.jsonl"))
+    # What a killed run has left.
+    written(kept + ".new", E)
+    conf = settings(folder, "it", listen="127.0.0.1:0", conns=1)
+    first, port = start(path, "serve", conf)
+    same(done(path, "serve", conf), (1, "", "refused: events busy\n"))
+    same(done(path, "sync", settings(folder, "kept", relays=["127.0.0.1:1"])), (1, "", "refused: events busy\n"))
+    socket.create_connection(("127.0.0.1", port)).close()
+    same(first.communicate(timeout=60), ("served 1\nevents 1\n", ""))
+    same((read(kept), sorted(os.listdir(folder))), (E[:1], ["it.jsonl", "it.toml", "kept.jsonl", "kept.toml"]))
+    same(os.readlink(os.path.join(folder, "it.jsonl")), "kept.jsonl")
+
+
+def no_other_file_is_written(path, folder):
+    """Neither what the file beside is a link to, nor the events file where a standard stream is closed."""
+    written(os.path.join(folder, "it.jsonl"), E[:1])
+    written(os.path.join(folder, "other"), E[1:])
+    beside = os.path.join(folder, "it.jsonl.new")
+    os.symlink("other", beside)
+    conf = settings(folder, "it", listen="127.0.0.1:0", conns=1)
+    same(done(path, "serve", conf), (1, "", "refused: write\n"))
+    os.remove(beside)
+    ran = subprocess.run(["sh", "-c", 'exec "$0" serve "$1" >&-', path, conf], capture_output=True, text=True, timeout=120)
+    same((ran.returncode, ran.stdout, ran.stderr), (1, "", "refused: write\n"))
+    same((read(os.path.join(folder, "it.jsonl")), read(os.path.join(folder, "other"))), (E[:1], E[1:]))
+    with open(conf, "w") as file:
+        file.write("events = ''\nlisten = '127.0.0.1:0'\nconns = 1\n")
+    same(done(path, "serve", conf), (1, "", "refused: write\n"))
+
+
 def wrong_settings_are_told(path, folder):
     conf = os.path.join(folder, "it.toml")
     cases = [("sync", FRONT + lines + "\n", " " + key) for lines, key in WRONG] + REFUSED
@@ -157,7 +192,8 @@ def wrong_settings_are_told(path, folder):
 def main():
     path = program()
     for part in (two_relays_are_mirrored, a_relay_that_is_away_touches_no_other, a_level_mirror_fetches_nothing,
-                 a_filter_and_bases_are_kept, refusals_say_what_and_where, wrong_settings_are_told):
+                 a_filter_and_bases_are_kept, refusals_say_what_and_where, one_run_has_an_events_file,
+                 no_other_file_is_written, wrong_settings_are_told):
         with tempfile.TemporaryDirectory() as folder:
             part(path, folder)
         print(part.__name__.replace("_", " "))

@@ -3,8 +3,9 @@
 use crate::writing::write_lines;
 use event_store::EventList;
 use std::alloc::Global;
-use std::fs::{File, OpenFile, Permissions};
+use std::fs::{File, OpenFile, OpenOptions, Permissions};
 use std::io::ErrorKind;
+use std::os::unix::fs::MetadataExt;
 use std::rt::Files;
 use std::{fs, io};
 
@@ -20,11 +21,20 @@ pub fn read_file<R: Files + AllocGlobal>(rt: &R, path: &str) -> io::Result<Vec<u
 }
 
 /// A file that is to take another's place, under that one's name with `.new` behind it. The other one stays whole until it does.
+/// No other run begins one for the same place meanwhile.
 #[derive(Drop)]
-pub struct NewFile<F: Drop> {
-    file: F,
+pub struct NewFile {
+    file: File,
     path: String,
     beside: String,
+}
+
+/// The path of the file itself, where the one given is that of a link to it.
+fn followed<R: Files>(rt: &R, alloc: Global, path: &str) -> io::Result<String> {
+    match fs::symlink_metadata(rt, path) {
+        Ok(found) if found.is_symlink() => Ok(rt.canonicalize(alloc, path)?.into_string()),
+        _ => Ok(String::from_str(alloc, path)?),
+    }
 }
 
 /// The permissions of the file at a path, none where there is no file. What is no file is an error.
@@ -37,14 +47,40 @@ fn permissions_at<R: Files>(rt: &R, path: &str) -> io::Result<Option<Permissions
     }
 }
 
-impl<F: io::Write + OpenFile + Drop> NewFile<F> {
-    /// Begins a file in place of the one at a path, with its permissions. It fails where the folder is missing or may not be
-    /// written.
-    pub fn create<R: Files<File = F>>(rt: &R, alloc: Global, path: &str) -> io::Result<NewFile<F>> {
-        let permissions = permissions_at(rt, path)?;
-        let path = String::from_str(alloc, path)?;
+/// Whether the file is the one at a path, which isn't a link.
+fn is_at<R: Files>(rt: &R, file: &File, path: &str) -> io::Result<bool> {
+    let (own, there) = (file.metadata()?, fs::symlink_metadata(rt, path)?);
+    Ok(own.ino() == there.ino() && own.dev() == there.dev())
+}
+
+/// The file at a path, emptied, which is made where there is none. It is locked until it is closed; `WouldBlock` where another
+/// run has locked it. What is no plain file is an error.
+fn locked<R: Files<File = File>>(rt: &R, path: &str) -> io::Result<File> {
+    match fs::symlink_metadata(rt, path) {
+        Ok(found) if !found.is_file() => return Err(io::Error::from(ErrorKind::InvalidInput)),
+        _ => {}
+    }
+    let file = OpenOptions::new().write(true).create(true).open(rt, path)?;
+    file.try_lock()?;
+    // Another run may have renamed or removed it since it was opened, before it let go of it.
+    if !is_at(rt, &file, path).unwrap_or(false) {
+        return Err(io::Error::from(ErrorKind::WouldBlock));
+    }
+    file.set_len(0)?;
+    Ok(file)
+}
+
+impl NewFile {
+    /// Begins a file in place of the one at a path, with its permissions; a link is followed. It fails where the folder is
+    /// missing or may not be written, and with `WouldBlock` where another run has begun one.
+    pub fn create<R: Files<File = File>>(rt: &R, alloc: Global, path: &str) -> io::Result<NewFile> {
+        if path.is_empty() {
+            return Err(io::Error::from(ErrorKind::InvalidInput));
+        }
+        let path = followed(rt, alloc, path)?;
+        let permissions = permissions_at(rt, path.as_str())?;
         let beside = format!(in alloc; "{path}{BESIDE}")?;
-        let file = File::create(rt, beside.as_str())?;
+        let file = locked(rt, beside.as_str())?;
         let new = NewFile { file, path, beside };
         let Some(permissions) = permissions else {
             return Ok(new);
@@ -58,12 +94,7 @@ impl<F: io::Write + OpenFile + Drop> NewFile<F> {
         }
     }
 
-    fn replace<R: Files<File = F>>(
-        &mut self,
-        rt: &R,
-        alloc: Global,
-        events: &EventList,
-    ) -> io::Result<()> {
+    fn replace<R: Files>(&mut self, rt: &R, alloc: Global, events: &EventList) -> io::Result<()> {
         write_lines(alloc, &mut self.file, events)?;
         self.file.sync_all()?;
         fs::rename(rt, self.beside.as_str(), self.path.as_str())
@@ -71,12 +102,7 @@ impl<F: io::Write + OpenFile + Drop> NewFile<F> {
 
     /// Writes the events, and then takes the other file's place. After a fault that one is as it was, and no other is left
     /// beside it, where that can be removed.
-    pub fn save<R: Files<File = F>>(
-        mut self,
-        rt: &R,
-        alloc: Global,
-        events: &EventList,
-    ) -> io::Result<()> {
+    pub fn save<R: Files>(mut self, rt: &R, alloc: Global, events: &EventList) -> io::Result<()> {
         let saved = self.replace(rt, alloc, events);
         if saved.is_err() {
             let _ = self.discard(rt);
@@ -85,7 +111,7 @@ impl<F: io::Write + OpenFile + Drop> NewFile<F> {
     }
 
     /// Leaves the other file as it is.
-    pub fn discard<R: Files<File = F>>(self, rt: &R) -> io::Result<()> {
+    pub fn discard<R: Files>(self, rt: &R) -> io::Result<()> {
         fs::remove_file(rt, self.beside.as_str())
     }
 }

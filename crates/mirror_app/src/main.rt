@@ -8,14 +8,27 @@ mod words;
 
 use jobs::{End, Went, run};
 use settled::{serve, sync, told};
+use std::fs::File;
 use std::io;
 use std::process::ExitCode;
+use std::rt::Files;
 use sync_run::Progress;
 use usage::words_of;
 use words::Words;
 
+/// Takes the numbers of standard streams that are closed: else files that are opened later would get them, and what is meant for
+/// a stream. What is written there fails, as it does where the stream is closed.
+fn taken<R: Files>(rt: &R) -> [io::Result<R::File>; 3] {
+    [
+        File::open(rt, "/dev/null"),
+        File::open(rt, "/dev/null"),
+        File::open(rt, "/dev/null"),
+    ]
+}
+
 fn main(rt: HostRuntime) -> io::Result<ExitCode> {
     let alloc = rt.alloc();
+    let _taken = taken(&rt);
     let went = match words_of(alloc, &rt) {
         Ok(words) => run(alloc, words.as_slice(), &mut rt.stdin(), &mut rt.stdout()),
         Err(fault) => Went::Ended(End::from(fault)),

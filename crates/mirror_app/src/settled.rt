@@ -2,6 +2,7 @@
 
 use serve_run::{Refusal, run_serve};
 use std::alloc::Global;
+use std::fs::File;
 use std::io::{ErrorKind, Write};
 use std::net::{Net, TcpListener, TcpStream};
 use std::process::ExitCode;
@@ -37,7 +38,7 @@ pub fn serve<
     R: Net<Listener = TcpListener, Stream = TcpStream>
         + Threads
         + Wait
-        + Files
+        + Files<File = File>
         + AllocGlobal
         + Sync,
     W: Write,
@@ -54,7 +55,7 @@ pub fn sync<
         + RandomSource
         + Threads
         + Wait
-        + Files
+        + Files<File = File>
         + Clock
         + AllocGlobal
         + Sync,

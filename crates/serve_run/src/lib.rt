@@ -10,6 +10,6 @@ mod workers;
 
 pub use hall::{Hall, serve_all, serve_beside};
 pub use refusal::{Refusal, read_refusal, write_refusal};
-pub use run::{fill, open_hall, readers_for, run_serve, say};
-pub use saving::save;
+pub use run::{open_hall, readers_for, run_serve, say};
+pub use saving::{begin, save};
 pub use workers::{Duty, run_workers};

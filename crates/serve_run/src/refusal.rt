@@ -22,6 +22,8 @@ pub enum Refusal {
     Key(SettingsKey),
     /// The line of the events file that isn't UTF-8, holds no event, or has one more than the store takes, counted from 1.
     File(usize),
+    /// Another run has begun a file that is to take the place of the events file.
+    Busy,
     /// The address can't be listened on.
     Listen,
     /// No store could be opened, or nothing be pinned.
@@ -40,6 +42,7 @@ impl fmt::Display for Refusal {
             Refusal::Settings => write!(f, "settings"),
             Refusal::Key(key) => write!(f, "settings {key}"),
             Refusal::File(line) => write!(f, "file line {line}"),
+            Refusal::Busy => write!(f, "events busy"),
             Refusal::Listen => write!(f, "listen"),
             Refusal::Store => write!(f, "store"),
             Refusal::TableFull => write!(f, "table full"),

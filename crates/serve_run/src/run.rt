@@ -3,12 +3,13 @@
 ghost use Rattle.std.specs.Prelude.{◌≡◌};
 
 use crate::hall::{Hall, serve_all};
-use crate::refusal::{Refusal, read_refusal, write_refusal};
-use crate::saving::save;
-use event_file::{NewFile, insert_lines, read_file};
-use event_store::{Blank, Desk, Naming, Reader, open_store};
+use crate::refusal::{Refusal, write_refusal};
+use crate::saving::{begin, save};
+use event_file::NewFile;
+use event_store::{Blank, Naming, Reader, open_store};
 use mirror_settings::{Address, Settings, SettingsKey, read_settings};
 use std::alloc::Global;
+use std::fs::File;
 use std::io::Write;
 use std::marker::Brand;
 use std::net::{Net, TcpListener, TcpStream};
@@ -38,21 +39,6 @@ pub fn say<W: Write>(writer: &mut W, text: &str) -> Result<(), Refusal> {
         Ok(()) => Ok(()),
         Err(error) => Err(write_refusal(&error)),
     }
-}
-
-/// Puts the events of the file at a path into a store. A file that isn't there has none.
-pub fn fill<J: Naming, D: Wait + Drop, R: Wait + Files + AllocGlobal>(
-    rt: &R,
-    alloc: Global,
-    desk: &mut Desk<J, D>,
-    path: &str,
-) -> Result<(), Refusal> {
-    let bytes = match read_file(rt, path) {
-        Ok(bytes) => bytes,
-        Err(error) => return Err(read_refusal(&error)),
-    };
-    insert_lines(rt, alloc, desk, bytes.as_slice())?;
-    Ok(())
 }
 
 /// Listens, and tells where: the host as it was asked for, and the port that was bound.
@@ -103,7 +89,7 @@ fn end<J: Naming, R: Files, W: Write>(
     alloc: Global,
     conns: u64,
     reader: &mut Reader<J>,
-    file: NewFile<R::File>,
+    file: NewFile,
     writer: &mut W,
 ) -> Result<(), Refusal> {
     let events = save(rt, alloc, reader, file)?;
@@ -118,7 +104,7 @@ fn run_named<
     R: Net<Listener = TcpListener, Stream = TcpStream>
         + Threads
         + Wait
-        + Files
+        + Files<File = File>
         + AllocGlobal
         + Sync,
     W: Write,
@@ -136,11 +122,7 @@ fn run_named<
     let conns = settings.conns.unwrap_or(0);
     let (mut desk, mut readers) = open_store::<J, D>(keep, alloc, blank, readers_for(conns))?;
     let path = settings.events.as_str();
-    fill(rt, alloc, &mut desk, path)?;
-    let file = match NewFile::create(rt, alloc, path) {
-        Ok(file) => file,
-        Err(error) => return Err(write_refusal(&error)),
-    };
+    let file = begin(rt, alloc, &mut desk, path)?;
     let hall = match open_hall(rt, alloc, settings, desk, writer) {
         Ok(hall) => hall,
         Err(refusal) => {
@@ -164,7 +146,7 @@ pub fn run_serve<
     R: Net<Listener = TcpListener, Stream = TcpStream>
         + Threads
         + Wait
-        + Files
+        + Files<File = File>
         + AllocGlobal
         + Sync,
     W: Write,

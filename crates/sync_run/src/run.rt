@@ -14,10 +14,9 @@ use mirror_core::{End, SyncFault, Synced, grown, next_plan, sync_plan};
 use mirror_settings::{Settings, SettingsKey, read_settings};
 use neg_session::SessionLimits;
 use offer_table::Bases;
-use serve_run::{
-    Hall, Refusal, fill, open_hall, readers_for, save, say, serve_beside, write_refusal,
-};
+use serve_run::{Hall, Refusal, begin, open_hall, readers_for, save, say, serve_beside};
 use std::alloc::Global;
+use std::fs::File;
 use std::io::Write;
 use std::marker::Brand;
 use std::net::{Net, TcpListener, TcpStream};
@@ -215,7 +214,7 @@ fn run_alone<
     settings: &Settings,
     desk: Desk<J, D>,
     reader: &mut Reader<J>,
-    file: NewFile<R::File>,
+    file: NewFile,
     writer: &mut W,
     progress: &Progress<P>,
 ) -> Result<(), Refusal> {
@@ -282,7 +281,7 @@ fn run_serving<
     desk: Desk<J, D>,
     readers: &mut [Reader<J>],
     reader: &mut Reader<J>,
-    file: NewFile<R::File>,
+    file: NewFile,
     writer: &mut W,
     progress: &Progress<P>,
 ) -> Result<(), Refusal> {
@@ -322,7 +321,7 @@ fn run_named<
         + RandomSource
         + Threads
         + Wait
-        + Files
+        + Files<File = File>
         + Clock
         + AllocGlobal
         + Sync,
@@ -345,11 +344,7 @@ fn run_named<
         return Err(Refusal::Store);
     };
     let path = settings.events.as_str();
-    fill(rt, alloc, &mut desk, path)?;
-    let file = match NewFile::create(rt, alloc, path) {
-        Ok(file) => file,
-        Err(error) => return Err(write_refusal(&error)),
-    };
+    let file = begin(rt, alloc, &mut desk, path)?;
     if settings.listen.is_none() {
         return run_alone(
             rt,
@@ -385,7 +380,7 @@ pub fn run_sync<
         + RandomSource
         + Threads
         + Wait
-        + Files
+        + Files<File = File>
         + Clock
         + AllocGlobal
         + Sync,
