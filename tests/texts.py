@@ -6,7 +6,7 @@
 import os
 import subprocess
 
-from told import program, same
+from told import ROOT, program, same
 
 IDS = {letter: letter * 64 for letter in "abcde"}
 
@@ -241,6 +241,14 @@ def plans_of_a_few_offers(path):
         same(ran(path, "check", made), (0, "least %d\n" % least, ""))
 
 
+def the_plan_of_the_readme(path):
+    """The example is the plan that is made of it, of which README.md shows a part."""
+    with open(os.path.join(ROOT, "examples", "bottleneck.txt")) as file:
+        text = file.read()
+    same(ran(path, "plan", text), (0, text, ""))
+    same(ran(path, "check", text), (0, "least 4\n", ""))
+
+
 def an_id_that_all_relays_offer(path):
     all_relays = "".join(" %d" % relay for relay in range(256))
     offers = ["offer a" + all_relays, "offer b 9 10"]
@@ -290,7 +298,8 @@ def reads_and_writes_that_fail(path):
 def main():
     path = program()
     for part in (lists_of_every_form, many_ids_in_one_message, messages_within_the_limit, plans_of_a_few_offers,
-                 an_id_that_all_relays_offer, plans_that_are_wrong, as_many_ids_as_a_table_takes, reads_and_writes_that_fail):
+                 the_plan_of_the_readme, an_id_that_all_relays_offer, plans_that_are_wrong, as_many_ids_as_a_table_takes,
+                 reads_and_writes_that_fail):
         part(path)
         print(part.__name__.replace("_", " "))
 
