@@ -7,7 +7,7 @@ use Rattle.nostr_event.specs.EventView.{EventView}
 use Rattle.event_store.proofs.Picked.{took_more}
 use Rattle.event_file.specs.Text.{line_of, text_of}
 
-appends_both : (a b c : Option (List ℕ)) (first second : List ℕ) → Appends a b first → Appends b c second → Appends a c (first ++ second)
+pub appends_both : (a b c : Option (List ℕ)) (first second : List ℕ) → Appends a b first → Appends b c second → Appends a c (first ++ second)
 appends_both None b c first second h k = tt
 appends_both (Some xs) None c first second h k = absurd h
 appends_both (Some xs) (Some ys) None first second h k = absurd k

@@ -1,5 +1,5 @@
 //! Writing events as lines.
-ghost use Rattle.std.specs.Prelude.{◌≡◌, [], IfOk, OnOk, string_bytes};
+ghost use Rattle.std.specs.Prelude.{OnOk};
 ghost use Rattle.std.specs.Arc.{arc_value};
 ghost use Rattle.std.specs.Io.KnownBytes.{Appends};
 ghost use Rattle.mirror_run.specs.Waiting.{Sends};
@@ -8,7 +8,7 @@ ghost use Rattle.event_file.specs.Text.{line_of, text_of};
 use event_store::EventList;
 use mirror_run::waiting::{put, send};
 use nostr_event::Event;
-use std::alloc::{AllocError, Global};
+use std::alloc::Global;
 use std::io;
 use std::io::Write;
 use std::sync::Arc;
@@ -16,39 +16,21 @@ use std::sync::Arc;
 /// How many bytes wait before they are written.
 const WAITING: usize = 1 << 16;
 
-/// The line of an event, with the line feed at its end.
-fn line(alloc: Global, event: &Event) -> Result<String, AllocError>
-    ensures { IfOk result (λ s. string_bytes s ≡ line_of event.now) }
-{
-    let mut text = event.to_text(alloc)?;
-    text.push_str("\n")?;
-    Ok(text)
-}
-
-/// Writes an event's line.
-fn write_line<W: Write>(
-    alloc: Global,
-    out: &mut W,
-    wait: &mut Vec<u8>,
-    event: &Arc<Event>,
-) -> io::Result<()>
+/// Writes an event's line: the text that it keeps, and a line feed.
+fn write_line<W: Write>(out: &mut W, wait: &mut Vec<u8>, event: &Arc<Event>) -> io::Result<()>
     ensures { OnOk result (Sends (W.contents out.old) wait.old.items (W.contents out.new) wait.new.items (line_of (arc_value event.now))) }
 {
-    let line = line(alloc, event)?;
-    put(out, wait, line.as_bytes())
+    put(out, wait, event.text().as_bytes())?;
+    put(out, wait, b"\n")?;
+    Ok(())
 }
 
 /// Writes all lines.
-fn write_all<W: Write>(
-    alloc: Global,
-    out: &mut W,
-    wait: &mut Vec<u8>,
-    events: &EventList,
-) -> io::Result<()>
+fn write_all<W: Write>(out: &mut W, wait: &mut Vec<u8>, events: &EventList) -> io::Result<()>
     ensures { OnOk result (Sends (W.contents out.old) wait.old.items (W.contents out.new) wait.new.items (text_of events.now)) }
 {
     for place in 0..events.len() {
-        write_line(alloc, out, wait, events.get(place))?;
+        write_line(out, wait, events.get(place))?;
     }
     Ok(())
 }
@@ -58,7 +40,7 @@ pub fn write_lines<W: Write>(alloc: Global, out: &mut W, events: &EventList) -> 
     ensures { OnOk result (Appends (W.contents out.old) (W.contents out.new) (text_of events.now)) }
 {
     let mut wait = Vec::with_capacity(alloc, WAITING)?;
-    write_all(alloc, out, &mut wait, events)?;
+    write_all(out, &mut wait, events)?;
     send(out, &mut wait)?;
     out.flush()
 }

@@ -125,8 +125,8 @@ impl Draft {
     }
 
     /// Lists the roll's ids from where the draft has come to up to a bound, however many there are. Where
-    /// that doesn't fit, as many ids as fit are listed, and one fingerprint of all that is left ends the
-    /// message.
+    /// that doesn't fit, some are listed, and one fingerprint of all that is left ends the message, which
+    /// then is at most 256 bytes shorter than it may be.
     pub fn tell_ids(self, alloc: Global, roll: &Roll, upper: Bound) -> Result<Draft, AllocError>
         requires { place self.end < place (edge_of upper) }
         ensures told { IfOk result (Told roll.now self (edge_of upper)) }

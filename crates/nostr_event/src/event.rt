@@ -1,31 +1,39 @@
 // Events whose ids are right.
 ghost use Rattle.std.specs.Prelude.{◌≡◌, ◌<◌, IfOk, IfSome, None, IsTrue, ◌↔◌};
+ghost use Rattle.serde_json.specs.Written.{compact_text};
 ghost use Rattle.neg_codec.specs.Keys.{endless};
 ghost use Rattle.nostr_event.specs.EventView.{IsIdOf, IsInRange, IsEvent, item_of};
+ghost use Rattle.nostr_event.specs.EventJson.{Reads, object_of};
 
 use crate::draft::{Draft, Spelling};
 use crate::ids::id_of;
+use crate::printing::text_of;
 use neg_codec::{Id, Item};
 use std::alloc::{AllocError, Global};
 use std::marker::Model;
 
 /// An event: its id is the digest of one of the two spellings of its draft's text, and its time is below 2^64-1. The signature
-/// isn't checked.
+/// isn't checked. The text of its JSON is kept beside it, since it is sent more often than it is read.
 #[derive(Debug, Drop)]
 pub struct Event {
     id: Id,
     draft: Draft,
     sig: [u8; 64],
+    text: String,
 }
 
 impl Model for Event {
+    ghost use Rattle.std.specs.Prelude.{◌≡◌, string_bytes};
+    ghost use Rattle.serde_json.specs.Written.{compact_text};
     ghost use Rattle.nostr_event.specs.EventView.{EventView, IsEvent};
+    ghost use Rattle.nostr_event.specs.EventJson.{object_of};
 
     ghost Value = { EventView };
 
     ghost view = { λ e. record { id = e.id; draft = e.draft; sig = e.sig } };
 
-    ghost invariant = { λ e. IsEvent (record { id = e.id; draft = e.draft; sig = e.sig }) };
+    ghost invariant = { λ e. IsEvent (record { id = e.id; draft = e.draft; sig = e.sig })
+        × (string_bytes e.text ≡ compact_text (object_of (record { id = e.id; draft = e.draft; sig = e.sig }))) };
 }
 
 impl Event {
@@ -50,6 +58,14 @@ impl Event {
         ensures { result.now ≡ self.now.sig }
     {
         &self.sig
+    }
+
+    /// The text of the event's JSON object (NIP-01), with no space.
+    pub fn text(&self) -> &str
+        ensures text { result.now ≡ compact_text (object_of self.now) }
+        ensures reads_back { Reads (object_of self.now) self.now }
+    {
+        self.text.as_str()
     }
 
     /// The event's time and id.
@@ -87,7 +103,13 @@ pub fn checked(
     ensures refused { IfOk result (λ o. o ≡ None → ¬ IsIdOf id draft) }
 {
     if is_id_of(alloc, &id, &draft)? {
-        Ok(Some(Event { id, draft, sig }))
+        let text = text_of(alloc, &id, &draft, &sig)?;
+        Ok(Some(Event {
+            id,
+            draft,
+            sig,
+            text,
+        }))
     } else {
         Ok(None)
     }

@@ -1,15 +1,16 @@
-// An event written token by token.
+// The text of an event, written token by token.
 ghost use Rattle.std.specs.Prelude.{◌≡◌, ◌<◌, ◌^◌, ◌∷◌, ◌++◌, [], map, flat_map, decimal, OnOk, IfOk, string_bytes};
 ghost use Rattle.json.specs.Token.{string, number, key as key_token, begin_array, end_array};
 ghost use Rattle.json.specs.Tree.{json_tokens};
 ghost use Rattle.hex.specs.Hex.{encode_lower};
 ghost use Rattle.serde_json.specs.Data.{array};
 ghost use Rattle.serde_json.specs.Written.{outline, compact_text};
-ghost use Rattle.nostr_event.specs.EventJson.{Reads, object_of, tag_items, tags_items};
+ghost use Rattle.nostr_event.specs.EventJson.{object_of, tag_items, tags_items};
 
-use crate::event::Event;
+use crate::draft::Draft;
 use crate::texts::{Tag, Text};
 use json::Writer;
+use neg_codec::Id;
 use std::alloc::{AllocError, Global};
 
 /// As many bytes as most events have.
@@ -80,37 +81,38 @@ fn put_hex(out: &mut Writer, alloc: Global, name: &str, bytes: &[u8]) -> Result<
     put_string(out, name, digits.as_str())
 }
 
-impl Event {
-    /// Puts the tokens of the event's JSON object (NIP-01) behind the others.
-    pub fn put_json(&self, alloc: Global, out: &mut Writer) -> Result<(), AllocError>
-        ensures tokens { OnOk result (out.new.tokens ≡ out.old.tokens ++ json_tokens (outline (object_of self.now))) }
-        ensures before { out.new.before ≡ out.old.before }
-        ensures reads_back { OnOk result (Reads (object_of self.now) self.now) }
-    {
-        let id = self.id();
-        let draft = self.draft();
-        out.begin_object()?;
-        put_string(out, "content", draft.content.as_str())?;
-        put_number(out, "created_at", draft.created_at)?;
-        put_hex(out, alloc, "id", id.0.as_slice())?;
-        put_number(out, "kind", u64::from(draft.kind))?;
-        put_hex(out, alloc, "pubkey", draft.pubkey.as_slice())?;
-        put_hex(out, alloc, "sig", self.sig().as_slice())?;
-        out.key("tags")?;
-        put_tags(out, draft.tags.as_slice())?;
-        out.end_object()?;
-        Ok(())
-    }
+// Puts the tokens of the JSON object of an event of these parts behind the others.
+fn put_object(
+    out: &mut Writer,
+    alloc: Global,
+    id: &Id,
+    draft: &Draft,
+    sig: &[u8; 64],
+) -> Result<(), AllocError>
+    ensures tokens { OnOk result (out.new.tokens ≡ out.old.tokens ++ json_tokens (outline (object_of (record { id = id.now; draft = draft.now; sig = sig.now })))) }
+    ensures before { out.new.before ≡ out.old.before }
+{
+    out.begin_object()?;
+    put_string(out, "content", draft.content.as_str())?;
+    put_number(out, "created_at", draft.created_at)?;
+    put_hex(out, alloc, "id", id.0.as_slice())?;
+    put_number(out, "kind", u64::from(draft.kind))?;
+    put_hex(out, alloc, "pubkey", draft.pubkey.as_slice())?;
+    put_hex(out, alloc, "sig", sig.as_slice())?;
+    out.key("tags")?;
+    put_tags(out, draft.tags.as_slice())?;
+    out.end_object()?;
+    Ok(())
+}
 
-    /// The text of the event's JSON object, with no space.
-    pub fn to_text(&self, alloc: Global) -> Result<String, AllocError>
-        ensures { IfOk result (λ s. string_bytes s ≡ compact_text (object_of self.now)) }
-    {
-        let mut out = Writer::new(Vec::with_capacity(alloc, MOST_EVENTS)?);
-        self.put_json(alloc, &mut out)?;
-        match String::from_utf8(out.into_inner()) {
-            Ok(text) => Ok(text),
-            Err(_) => unreachable!(),
-        }
+// The text of the JSON object of an event of these parts, in just as much memory as it takes.
+pub fn text_of(alloc: Global, id: &Id, draft: &Draft, sig: &[u8; 64]) -> Result<String, AllocError>
+    ensures { IfOk result (λ s. string_bytes s ≡ compact_text (object_of (record { id = id.now; draft = draft.now; sig = sig.now }))) }
+{
+    let mut out = Writer::new(Vec::with_capacity(alloc, MOST_EVENTS)?);
+    put_object(&mut out, alloc, id, draft, sig)?;
+    match String::from_utf8(out.into_inner()) {
+        Ok(text) => String::from_str(alloc, text.as_str()),
+        Err(_) => unreachable!(),
     }
 }

@@ -188,8 +188,14 @@ fn fault_of(alloc: Global, text: &str) -> Result<Option<EventFault>, Fail> {
     Ok(Event::from_json(alloc, &value).err())
 }
 
+// The text of what is written of the event, which is the text that it keeps.
 fn written(alloc: Global, event: &Event) -> Result<String, Fail> {
-    Ok(event.to_json(alloc)?.to_string(alloc)?)
+    let text = event.to_json(alloc)?.to_string(alloc)?;
+    if text.as_str() == event.text() {
+        Ok(text)
+    } else {
+        Err(Fail::new("it keeps another text"))
+    }
 }
 
 fn whole(alloc: Global, members: &str, id: &str) -> Result<String, Fail> {

@@ -1,20 +1,23 @@
 -- What a text of a value's tokens is read as.
-use Rattle.std.proofs.Common.{◌≡◌, ◌≤◌, ◌++◌, ℕ, suc, max, List, [], Some, option_and_then, refl, sym, ap, ap₂, ◌∙◌, append-nil}
+use Rattle.std.proofs.Common.{◌≡◌, ◌≤◌, ◌++◌, ℕ, suc, max, List, [], ◌∷◌, Some, option_and_then, codes, refl, sym, ap, ap₂, ◌∙◌, append_assoc, append-nil, arith}
 use Rattle.json.specs.Token.{Token}
-use Rattle.json.specs.Print.{print}
+use Rattle.json.specs.Print.{print, print_from, quoted}
 use Rattle.json.specs.Lex.{tokens}
 use Rattle.json.specs.Json as json
 use Rattle.json.specs.Tree as tree
-use Rattle.json.specs.Tree.{json_tokens}
-use Rattle.json.proofs.Printed.Trees.{value-json_tokens}
+use Rattle.json.specs.Tree.{json_tokens, HasNumbers, ItemsHaveNumbers}
+use Rattle.json.proofs.Printed.Decimals.{IsNumber-decimal}
+use Rattle.json.proofs.Printed.Tokens.{tokens-print}
+use Rattle.json.proofs.Printed.Trees.{value-json_tokens, ArePrintable-json_tokens}
 use Rattle.serde_json.specs.Data.{Data, null, boolean, number, string, array, object, Items, no_items, item, Members, no_members, member, depth, items_depth, members_depth}
 use Rattle.serde_json.specs.Read.{of_json, read, max_depth}
 use Rattle.serde_json.specs.Written.{outline, items_outline, members_outline, compact_text}
 use Rattle.serde_json.proofs.Texts.{print-outline}
 use Rattle.nostr_event.specs.EventView.{EventView, IsInRange}
+use Rattle.nostr_event.specs.EventJson.{tag_items, tags_items, object_of}
 use Rattle.nostr_event.proofs.Printed.{object_read}
 use Rattle.nostr_wire.specs.Forms.{event_form}
-use Rattle.nostr_wire.specs.Writing.{array_of}
+use Rattle.nostr_wire.specs.Writing.{array_of, text_of}
 
 mutual
   pub depth_same : (d : Data) → tree.depth (outline d) ≡ depth d
@@ -38,13 +41,37 @@ text_read text d same back shallow =
     let found = ap (json.value max_depth) (same ∙ sym (append-nil (json_tokens (outline d)))) ∙ value-json_tokens (outline d) max_depth [] shallow in
     ap (λ v. option_and_then of_json (option_and_then (λ p. json.if_last p.0 p.1) v)) found ∙ back
 
--- ---- what a writer of tokens gives
+-- ---- the text of an event for a subscription
 
-pub text_written : (d : Data) (text before : List ℕ) (ts : List Token) → text ≡ before ++ print ts → before ≡ [] → ts ≡ json_tokens (outline d) → text ≡ compact_text d
-text_written d text before ts whole none same = whole ∙ ap₂ (λ b l. b ++ print l) none same ∙ print-outline d
+tag_numbers : (texts : List (List ℕ)) → ItemsHaveNumbers (items_outline (tag_items texts))
+tag_numbers [] = tt
+tag_numbers (t ∷ ts) = (tt, tag_numbers ts)
 
-pub tokens_written : (d : Data) (text before : List ℕ) (ts : List Token) → text ≡ before ++ print ts → before ≡ [] → ts ≡ json_tokens (outline d) → tokens (print ts) ≡ ts → tokens text ≡ json_tokens (outline d)
-tokens_written d text before ts whole none same back = ap tokens (whole ∙ ap (λ b. b ++ print ts) none) ∙ back ∙ same
+tags_numbers : (tags : List (List (List ℕ))) → ItemsHaveNumbers (items_outline (tags_items tags))
+tags_numbers [] = tt
+tags_numbers (t ∷ ts) = (tag_numbers t, tags_numbers ts)
+
+event_numbers : (s : List ℕ) (e : EventView) → IsInRange e → HasNumbers (outline (array_of (event_form s e)))
+event_numbers s e h =
+    let time = IsNumber-decimal e.draft.created_at (omega (arith, h.finite)) in
+    let kind = IsNumber-decimal e.draft.kind (omega (arith, h.kind)) in
+    (tt, (tt, ((tt, (time, (tt, (kind, (tt, (tt, (tags_numbers e.draft.tags, tt))))))), tt)))
+
+pub event_tokens : (s : List ℕ) (e : EventView) → IsInRange e → tokens (text_of (event_form s e)) ≡ json_tokens (outline (array_of (event_form s e)))
+event_tokens s e h =
+    let d = array_of (event_form s e) in
+    ap tokens (sym (print-outline d)) ∙ tokens-print (json_tokens (outline d)) (ArePrintable-json_tokens (outline d) (event_numbers s e h))
 
 pub event_read : (s : List ℕ) (e : EventView) → IsInRange e → of_json (outline (array_of (event_form s e))) ≡ Some (array_of (event_form s e))
 event_read s e h = rw (object_read e h) refl
+
+-- its names, a comma, the text of the event, and the closing bracket
+regroup : (name sub event : List ℕ) → (((91 ∷ (name ++ (44 ∷ (sub ++ [])))) ++ 44 ∷ []) ++ event) ++ 93 ∷ [] ≡ 91 ∷ (name ++ (44 ∷ (sub ++ (44 ∷ (event ++ 93 ∷ [])))))
+regroup name sub event = simp (append_assoc, append-nil)
+
+abbrev pub names : List ℕ → List Token
+names s = Token.begin_array ∷ Token.string (codes "EVENT") ∷ Token.string s ∷ []
+
+pub event_written : (s : List ℕ) (e : EventView) → ((print (names s) ++ 44 ∷ []) ++ compact_text (object_of e)) ++ 93 ∷ [] ≡ text_of (event_form s e)
+unfolding print_from
+event_written s e = regroup (quoted (codes "EVENT")) (quoted s) (compact_text (object_of e))

@@ -17,8 +17,8 @@ use serde_json::{Value, json};
 use std::alloc::{AllocError, Global};
 use std::sync::Arc;
 
-// As many bytes as the text of most events has.
-const MOST_EVENTS: usize = 1_024;
+// As many bytes as stand around most events in the message that has them.
+const MOST_NAMES: usize = 80;
 
 // The array of a name and one element.
 fn one<A: Element>(alloc: Global, name: &str, first: &A) -> Result<Value, AllocError>
@@ -130,21 +130,23 @@ pub fn write_client(alloc: Global, message: &FromClient) -> Result<String, Alloc
     Ok(text)
 }
 
-// The text of an event for a subscription, written token by token.
+// The text of an event for a subscription: the text that the event keeps, behind the names.
 fn event_text(alloc: Global, name: &Sub, event: &Arc<Event>) -> Result<String, AllocError>
     ensures text { IfOk result (λ s. string_bytes s ≡ text_of (event_form name.now (arc_value event.now))) }
     ensures reads_back { IfOk result (λ s. Reads relay_table (string_bytes s) (event_form name.now (arc_value event.now))) }
 {
-    let mut out = Writer::new(Vec::with_capacity(alloc, MOST_EVENTS)?);
-    out.begin_array()?;
-    out.string("EVENT")?;
-    out.string(name.as_str())?;
-    event.put_json(alloc, &mut out)?;
-    out.end_array()?;
-    match String::from_utf8(out.into_inner()) {
-        Ok(text) => Ok(text),
-        Err(_) => unreachable!(),
-    }
+    let text = event.text();
+    let mut names = Writer::new(Vec::with_capacity(alloc, text.len() + MOST_NAMES)?);
+    names.begin_array()?;
+    names.string("EVENT")?;
+    names.string(name.as_str())?;
+    let Ok(mut out) = String::from_utf8(names.into_inner()) else {
+        unreachable!()
+    };
+    out.push_str(",")?;
+    out.push_str(text)?;
+    out.push_str("]")?;
+    Ok(out)
 }
 
 // The text of another message.

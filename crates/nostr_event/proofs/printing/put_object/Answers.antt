@@ -1,5 +1,5 @@
 use Rattle.std.proofs.Common.{append_assoc}
-use Rattle.nostr_event.proofs.event.Event.put_json.Goals as goal
+use Rattle.nostr_event.proofs.printing.put_object.Goals as goal
 
 pub returns-clause-tokens : goal.returns-clause-tokens
 returns-clause-tokens c =
@@ -16,11 +16,8 @@ returns-clause-tokens c =
       c.in_ok-begin_object.ensures.ok,
       c.as_slice-4.ensures,
       c.as_slice-3.ensures,
-      c.sig.ensures,
       c.as_slice-2.ensures,
       c.from.ensures,
       c.as_slice.ensures,
-      c.id-id.ensures.value,
       c.as_str.ensures,
-      c.draft-draft.ensures,
     ) (simp append_assoc)
