@@ -5,7 +5,7 @@
 
 A relay serves 300 events. A mirror with `listen` compares and fetches them, with `--progress`, while a client of the mirror puts
 an event in and is sent what comes. Then a mirror whose reader leaves is refused while it serves: it has to end at once, with
-the client's event in its file. A client takes a second over its handshake with a relay whose `push_ms` is 1. Relays that say
+the client's event in its file. A relay that is killed has kept what its clients put in. A client takes a second over its handshake with a relay whose `push_ms` is 1. Relays that say
 nothing have failed after `timeout_ms`, and a client that reads nothing is let go. Last, `--progress` tells how far a mirror of two
 relays is while the answers of one of them are held back.
 """
@@ -17,7 +17,7 @@ import tempfile
 import threading
 import time
 
-from told import begin, by_id, done, event, program, read, same, settings, start, written
+from told import begin, by_id, comes_to_have, done, event, program, read, same, settings, start, written
 from wire import Client
 
 
@@ -47,6 +47,8 @@ def serves_meanwhile(path, folder):
         if text[0] == "EVENT":
             got.append(text[2])
     same(by_id(got), by_id(theirs + [mine, put_in]))
+    # It is written behind the rounds, and not only once the client has left.
+    comes_to_have(os.path.join(folder, "mirror.jsonl"), theirs + [mine, put_in])
     client.close()
     out, progress = mirror.communicate(timeout=60)
     same(out, "relay 0 need 300\nleast 300\ngroup 0\ngiven 300\nmissed 0\nleft 0\n")
@@ -56,6 +58,32 @@ def serves_meanwhile(path, folder):
     same(mirror.wait(), 0)
     same(by_id(read(os.path.join(folder, "mirror.jsonl"))), by_id(theirs + [mine, put_in]))
     relay.communicate(timeout=60)
+
+
+def keeps_what_came_in(path, folder):
+    """What clients put in is in the file before the relay ends, and a relay that is killed has lost nothing that is."""
+    kept, first, second = os.path.join(folder, "kept.jsonl"), event(1, "first"), event(2, "second")
+    relay, port = run(path, folder, "serve", "kept", conns=2, save_ms=1)
+    client = Client(port)
+    put(client, first)
+    comes_to_have(kept, [first])
+    os.chmod(kept, 0o600)
+    put(client, second)
+    comes_to_have(kept, [first, second])
+    relay.kill()
+    relay.communicate()
+    same((read(kept), os.stat(kept).st_mode & 0o777), ([first, second], 0o600))
+    # What a kill in the middle of it leaves is in nobody's way.
+    for name in (".new", ".tmp"):
+        written(kept + name, [event(3, "left")])
+    relay, port = run(path, folder, "serve", "kept", conns=1, save_ms=1)
+    client = Client(port)
+    third = event(4, "third")
+    put(client, third)
+    comes_to_have(kept, [first, second, third])
+    client.close()
+    same(relay.communicate(timeout=60), ("served 1\nevents 3\n", ""))
+    same(sorted(os.listdir(folder)), ["kept.jsonl", "kept.toml"])
 
 
 def ends_when_refused(path, folder):
@@ -179,7 +207,7 @@ def tells_progress(path, folder):
 
 def main():
     path = program()
-    for part in (serves_meanwhile, ends_when_refused, waits_for_handshakes, gives_up_on_silence, lets_go_who_reads_nothing,
+    for part in (serves_meanwhile, keeps_what_came_in, ends_when_refused, waits_for_handshakes, gives_up_on_silence, lets_go_who_reads_nothing,
                  tells_progress):
         with tempfile.TemporaryDirectory() as folder:
             part(path, folder)

@@ -4,6 +4,7 @@ import json
 import os
 import subprocess
 import sys
+import time
 
 ROOT = os.path.dirname(os.path.dirname(os.path.abspath(__file__)))
 sys.path.insert(0, os.path.join(ROOT, "bench"))
@@ -36,6 +37,15 @@ def written(path, events):
 def read(path):
     with open(path, encoding="utf-8") as text:
         return [json.loads(line) for line in text]
+
+
+def comes_to_have(path, events):
+    """Waits until a file has these events, in whatever order."""
+    until = time.monotonic() + 60
+    while not os.path.exists(path) or by_id(read(path)) != by_id(events):
+        if time.monotonic() > until:
+            same(read(path), events)
+        time.sleep(0.05)
 
 
 def by_id(events):

@@ -12,6 +12,9 @@ use std::{fs, io};
 /// What stands behind the name of a file that is to take another's place.
 const BESIDE: &str = ".new";
 
+/// What stands behind the name of a file that is to take another's place at once.
+const AT_ONCE: &str = ".tmp";
+
 /// The bytes of a file, none where there is no file.
 pub fn read_file<R: Files + AllocGlobal>(rt: &R, path: &str) -> io::Result<Vec<u8>> {
     match fs::read(rt, path) {
@@ -92,6 +95,45 @@ impl NewFile {
                 Err(error)
             }
         }
+    }
+
+    /// Writes the events under a third name, of which nothing may be left, and puts that file in the other's place.
+    fn put<R: Files<File = File>>(
+        &self,
+        rt: &R,
+        alloc: Global,
+        third: &str,
+        events: &EventList,
+    ) -> io::Result<()> {
+        let mut file = OpenOptions::new()
+            .write(true)
+            .create_new(true)
+            .open(rt, third)?;
+        if let Some(permissions) = permissions_at(rt, self.path.as_str())? {
+            file.set_permissions(permissions)?;
+        }
+        write_lines(alloc, &mut file, events)?;
+        file.sync_all()?;
+        fs::rename(rt, third, self.path.as_str())
+    }
+
+    /// Writes the events in the other file's place, and goes on to hold that place. After a fault the other file is as it was.
+    /// Costs a pass over all events.
+    pub fn renew<R: Files<File = File>>(
+        &self,
+        rt: &R,
+        alloc: Global,
+        events: &EventList,
+    ) -> io::Result<()> {
+        let path = self.path.as_str();
+        let third = format!(in alloc; "{path}{AT_ONCE}")?;
+        // A run that was killed may have left one.
+        let _ = fs::remove_file(rt, third.as_str());
+        let done = self.put(rt, alloc, third.as_str(), events);
+        if done.is_err() {
+            let _ = fs::remove_file(rt, third.as_str());
+        }
+        done
     }
 
     fn replace<R: Files>(&mut self, rt: &R, alloc: Global, events: &EventList) -> io::Result<()> {

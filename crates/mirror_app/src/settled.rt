@@ -39,6 +39,7 @@ pub fn serve<
         + Threads
         + Wait
         + Files<File = File>
+        + Clock
         + AllocGlobal
         + Sync,
     W: Write,

@@ -8,7 +8,7 @@ use Rattle.nostr_filter.specs.declared.filter.Filter.{Filter as AFilter}
 use Rattle.mirror_settings.specs.declared.address.Address.{Address}
 use Rattle.mirror_settings.specs.declared.fault.SettingsFault.{SettingsFault}
 use Rattle.mirror_settings.specs.declared.fault.SettingsKey.{SettingsKey}
-use Rattle.mirror_settings.specs.declared.fault.SettingsKey.TheVariants.{Events, Listen, Conns, Relays, Filter, Workers, Bases, Rounds, PushMs, TimeoutMs}
+use Rattle.mirror_settings.specs.declared.fault.SettingsKey.TheVariants.{Events, Listen, Conns, Relays, Filter, Workers, Bases, Rounds, PushMs, TimeoutMs, SaveMs}
 use Rattle.mirror_settings.specs.Addresses.{IsAddress}
 use Rattle.mirror_settings.specs.Keys.{place_of}
 use Rattle.mirror_settings.specs.Settings.{at, HoldsOr, address_data, whole_data, IsLoad, IsBases, IsFilterData, everything, HasRelays, HasBases, IsGood, AreGoodBelow, Stops, RefusesTable}
@@ -60,7 +60,7 @@ not_as_many sync t l count g long none = λ h. none h.1 (subst (λ (n : ℕ). Ha
 -- ---- the first key that isn't good
 
 abbrev key_at : ℕ → SettingsKey
-key_at n = get_or (Events ∷ Listen ∷ Conns ∷ Relays ∷ Filter ∷ Workers ∷ Bases ∷ Rounds ∷ PushMs ∷ []) n TimeoutMs
+key_at n = get_or (Events ∷ Listen ∷ Conns ∷ Relays ∷ Filter ∷ Workers ∷ Bases ∷ Rounds ∷ PushMs ∷ TimeoutMs ∷ []) n SaveMs
 
 at_its_place : (key : SettingsKey) → key_at (place_of key) ≡ key
 at_its_place Events = refl
@@ -73,6 +73,7 @@ at_its_place Bases = refl
 at_its_place Rounds = refl
 at_its_place PushMs = refl
 at_its_place TimeoutMs = refl
+at_its_place SaveMs = refl
 
 pub none_below : (sync : Bool) (t : Members) → AreGoodBelow sync t 0
 none_below sync t key below = absurd (omega arith)

@@ -10,7 +10,7 @@ use Rattle.nostr_filter.specs.FilterJson.{Reads}
 use Rattle.mirror_settings.specs.declared.address.Address.{Address}
 use Rattle.mirror_settings.specs.declared.settings.Settings.{Settings}
 use Rattle.mirror_settings.specs.declared.fault.SettingsKey.{SettingsKey}
-use Rattle.mirror_settings.specs.declared.fault.SettingsKey.TheVariants.{Events, Listen, Conns, Relays, Filter, Workers, Bases, Rounds, PushMs, TimeoutMs}
+use Rattle.mirror_settings.specs.declared.fault.SettingsKey.TheVariants.{Events, Listen, Conns, Relays, Filter, Workers, Bases, Rounds, PushMs, TimeoutMs, SaveMs}
 use Rattle.mirror_settings.specs.declared.fault.SettingsFault.{SettingsFault}
 use Rattle.mirror_settings.specs.declared.fault.SettingsFault.TheVariants.{Text, Key, Memory}
 use Rattle.mirror_settings.specs.Addresses.{IsAddress, spelled}
@@ -110,6 +110,9 @@ HasPushMs t v = Holds (IsWhole 1 60000) (at PushMs t) v
 abbrev pub HasTimeoutMs : Members → Option ℕ → Type 0
 HasTimeoutMs t v = Holds (IsWhole 1 3600000) (at TimeoutMs t) v
 
+abbrev pub HasSaveMs : Members → Option ℕ → Type 0
+HasSaveMs t v = Holds (IsWhole 1 86400000) (at SaveMs t) v
+
 -- the table tells the settings
 pub record Tells (sync : Bool) (t : Members) (s : Settings) : Type 0 where
   pub events : HasEvents t s.events
@@ -122,6 +125,7 @@ pub record Tells (sync : Bool) (t : Members) (s : Settings) : Type 0 where
   pub rounds : HasRounds sync t s.rounds
   pub push_ms : HasPushMs t s.push_ms
   pub timeout_ms : HasTimeoutMs t s.timeout_ms
+  pub save_ms : HasSaveMs t s.save_ms
 
 -- ---- what a refusal says
 
@@ -137,6 +141,7 @@ IsGood sync t Bases = (relays : List Address) × (v : List ℕ) × HasRelays syn
 IsGood sync t Rounds = (v : ℕ) × HasRounds sync t v
 IsGood sync t PushMs = (v : Option ℕ) × HasPushMs t v
 IsGood sync t TimeoutMs = (v : Option ℕ) × HasTimeoutMs t v
+IsGood sync t SaveMs = (v : Option ℕ) × HasSaveMs t v
 
 -- the keys before a place are good
 abbrev pub AreGoodBelow : Bool → Members → ℕ → Type 0

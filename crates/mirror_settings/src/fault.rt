@@ -18,6 +18,7 @@ pub enum SettingsKey {
     Rounds,
     PushMs,
     TimeoutMs,
+    SaveMs,
 }
 
 impl SettingsKey {
@@ -38,6 +39,7 @@ impl SettingsKey {
             SettingsKey::Rounds => "rounds",
             SettingsKey::PushMs => "push_ms",
             SettingsKey::TimeoutMs => "timeout_ms",
+            SettingsKey::SaveMs => "save_ms",
         }
     }
 }

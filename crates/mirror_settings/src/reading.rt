@@ -4,7 +4,7 @@ ghost use Rattle.std.specs.Prelude.{◌≡◌, ℕ, Bool, List, IfOk, IfErr};
 ghost use Rattle.toml.specs.Data.{Members};
 ghost use Rattle.toml.specs.Parse.{parse_document};
 ghost use Rattle.toml.specs.View.{table_view};
-ghost use Rattle.mirror_settings.specs.Settings.{Fails, HasEvents, HasListen, HasConns, HasRelays, HasFilter, HasWorkers, HasBases, HasRounds, HasPushMs, HasTimeoutMs, Tells, Refuses, RefusesTable, Stops};
+ghost use Rattle.mirror_settings.specs.Settings.{Fails, HasEvents, HasListen, HasConns, HasRelays, HasFilter, HasWorkers, HasBases, HasRounds, HasPushMs, HasTimeoutMs, HasSaveMs, Tells, Refuses, RefusesTable, Stops};
 
 use crate::address::Address;
 use crate::fault::{SettingsFault, SettingsKey};
@@ -148,6 +148,7 @@ fn settings_of(alloc: Global, table: &Table, sync: bool) -> Result<Settings, Set
     let rounds = rounds_at(table, sync)?;
     let push_ms = whole_at(table, SettingsKey::PushMs, 1, 60_000)?;
     let timeout_ms = whole_at(table, SettingsKey::TimeoutMs, 1, 3_600_000)?;
+    let save_ms = whole_at(table, SettingsKey::SaveMs, 1, 86_400_000)?;
     Ok(Settings {
         events,
         listen,
@@ -159,6 +160,7 @@ fn settings_of(alloc: Global, table: &Table, sync: bool) -> Result<Settings, Set
         rounds,
         push_ms,
         timeout_ms,
+        save_ms,
     })
 }
 

@@ -11,6 +11,9 @@ use std::time::Duration;
 /// What `timeout_ms` is where it is left out: a minute.
 const TIMEOUT_MS: u64 = 60_000;
 
+/// What `save_ms` is where it is left out: a minute.
+const SAVE_MS: u64 = 60_000;
+
 /// The settings of a run that serves, or of one that synchronises and may serve beside.
 #[derive(Debug, Drop)]
 pub struct Settings {
@@ -34,6 +37,8 @@ pub struct Settings {
     pub push_ms: Option<u64>,
     /// For how many milliseconds the other side of a connection may keep this one waiting, 1 to 3,600,000.
     pub timeout_ms: Option<u64>,
+    /// After how many milliseconds at the earliest the events file is written anew while connections are served, 1 to 86,400,000.
+    pub save_ms: Option<u64>,
 }
 
 impl Settings {
@@ -42,5 +47,12 @@ impl Settings {
         ensures { as_nanos result ≡ unwrap_or self.now.timeout_ms 60000 * 1000000 }
     {
         Duration::from_millis(self.timeout_ms.unwrap_or(TIMEOUT_MS))
+    }
+
+    /// After how long at the earliest the events file is written anew.
+    pub fn save_every(&self) -> Duration
+        ensures { as_nanos result ≡ unwrap_or self.now.save_ms 60000 * 1000000 }
+    {
+        Duration::from_millis(self.save_ms.unwrap_or(SAVE_MS))
     }
 }

@@ -12,8 +12,8 @@ struct Row {
     relays: &'static [(&'static str, u16)],
     listen: Option<(&'static str, u16)>,
     bases: &'static [u64],
-    /// Connections, and the two times.
-    rest: [Option<u64>; 3],
+    /// Connections, and the three times.
+    rest: [Option<u64>; 4],
     workers: u64,
     rounds: u64,
     has_kinds: bool,
@@ -27,7 +27,7 @@ static ROWS: [Row; 6] = [
         relays: &[],
         listen: Some(("127.0.0.1", 0)),
         bases: &[],
-        rest: [Some(1), None, None],
+        rest: [Some(1), None, None, None],
         workers: 1,
         rounds: 1,
         has_kinds: false,
@@ -39,7 +39,7 @@ static ROWS: [Row; 6] = [
         relays: &[],
         listen: Some(("relay.example", 65535)),
         bases: &[],
-        rest: [Some(1_000_000), Some(60_000), None],
+        rest: [Some(1_000_000), Some(60_000), None, None],
         workers: 1,
         rounds: 1,
         has_kinds: false,
@@ -51,19 +51,19 @@ static ROWS: [Row; 6] = [
         relays: &[("localhost", 7000)],
         listen: None,
         bases: &[0],
-        rest: [None, None, None],
+        rest: [None, None, None, None],
         workers: 1,
         rounds: 1,
         has_kinds: false,
     },
     Row {
         sync: true,
-        text: "events = 'e'\nlisten = '[::1]:80'\nconns = 5\nrelays = ['a:1', 'b:2']\nfilter = '{\"kinds\":[1]}'\nworkers = 4\nbases = [0, 1000000000]\nrounds = 16\npush_ms = 1\ntimeout_ms = 3600000\n",
+        text: "events = 'e'\nlisten = '[::1]:80'\nconns = 5\nrelays = ['a:1', 'b:2']\nfilter = '{\"kinds\":[1]}'\nworkers = 4\nbases = [0, 1000000000]\nrounds = 16\npush_ms = 1\ntimeout_ms = 3600000\nsave_ms = 86400000\n",
         events: "e",
         relays: &[("a", 1), ("b", 2)],
         listen: Some(("[::1]", 80)),
         bases: &[0, 1_000_000_000],
-        rest: [Some(5), Some(1), Some(3_600_000)],
+        rest: [Some(5), Some(1), Some(3_600_000), Some(86_400_000)],
         workers: 4,
         rounds: 16,
         has_kinds: true,
@@ -75,7 +75,7 @@ static ROWS: [Row; 6] = [
         relays: &[("a", 0)],
         listen: None,
         bases: &[0],
-        rest: [Some(3), None, None],
+        rest: [Some(3), None, None, None],
         workers: 1,
         rounds: 1,
         has_kinds: false,
@@ -87,7 +87,7 @@ static ROWS: [Row; 6] = [
         relays: &[("a", 1)],
         listen: None,
         bases: &[0],
-        rest: [None, None, None],
+        rest: [None, None, None, None],
         workers: 2,
         rounds: 1,
         has_kinds: false,
@@ -123,7 +123,12 @@ fn are_of(settings: &Settings, row: &Row) -> bool {
     listens_at(settings, row.listen)
         && are_at(settings.relays.as_slice(), row.relays)
         && settings.bases.as_slice() == row.bases
-        && [settings.conns, settings.push_ms, settings.timeout_ms] == row.rest
+        && [
+            settings.conns,
+            settings.push_ms,
+            settings.timeout_ms,
+            settings.save_ms,
+        ] == row.rest
         && (settings.workers, settings.rounds) == (row.workers, row.rounds)
         && settings.events.as_str() == row.events
         && settings.filter.kinds.is_some() == row.has_kinds

@@ -1,13 +1,14 @@
 //! Where connections come in, and what they are served from.
 
 use crate::client::Client;
-use crate::workers::{Duty, run_beside, run_workers};
+use crate::workers::{Duty, run_beside};
 use event_store::{Desk, Naming, Reader};
 use relay_core::RelayLimits;
 use std::alloc::Global;
 use std::net::{Net, TcpListener, TcpStream};
+use std::rt::Clock;
 use std::sync::atomic::{AtomicU64, Ordering};
-use std::sync::{Mutex, Wait};
+use std::sync::{Condvar, CondvarTimeouts, Mutex, Wait};
 use std::thread::Threads;
 use std::time::Duration;
 use ws_link::serve_conn;
@@ -25,6 +26,9 @@ pub struct Hall<K> {
     push: Option<Duration>,
     timeout: Duration,
     desk: Mutex<K>,
+    // How many workers have ended, and what is told where one does.
+    ended: Mutex<usize>,
+    ending: Condvar,
 }
 
 impl<K> Hall<K> {
@@ -44,6 +48,8 @@ impl<K> Hall<K> {
             push,
             timeout,
             desk: Mutex::new(desk),
+            ended: Mutex::new(0),
+            ending: Condvar::new(),
         }
     }
 
@@ -55,6 +61,29 @@ impl<K> Hall<K> {
     // Whether a connection is left for who asks.
     fn is_next(&self) -> bool {
         self.begun.fetch_add(1, Ordering::SeqCst) < self.conns
+    }
+
+    // A worker has ended.
+    fn end_one<R: Wait>(&self, rt: &R) {
+        let mut ended = self.ended.lock(rt);
+        *ended = ended.saturating_add(1);
+        drop(ended);
+        self.ending.notify_all();
+    }
+
+    /// Whether a worker has gone for a connection.
+    pub fn has_begun(&self) -> bool {
+        self.begun.load(Ordering::SeqCst) > 0
+    }
+
+    /// Whether so many workers have ended, which is waited for as long as `patience`.
+    pub fn is_over<R: Wait + Clock>(&self, rt: &R, workers: usize, patience: Duration) -> bool {
+        let ended = self.ended.lock(rt);
+        let (ended, waited) = self
+            .ending
+            .wait_timeout_while(rt, ended, patience, |count| *count < workers);
+        drop(ended);
+        !waited.timed_out()
     }
 
     // Waits for a connection, if one can be had.
@@ -77,33 +106,34 @@ impl<K> Hall<K> {
 }
 
 /// Serves one connection after another, until none is left.
-impl<J: Naming, D: Wait + Drop> Duty<Reader<J>> for Hall<Desk<J, D>> {
-    fn work<R: Wait>(&self, rt: &R, alloc: Global, reader: &mut Reader<J>) {
-        for _ in 0..self.conns {
-            if !self.is_next() {
-                return;
-            }
-            if let Some(client) = self.accepted() {
-                let limits = RelayLimits::default();
-                let _ = serve_conn(rt, alloc, client, reader, &self.desk, limits);
-            }
+fn serve_each<J: Naming, D: Wait + Drop, R: Wait>(
+    rt: &R,
+    alloc: Global,
+    hall: &Hall<Desk<J, D>>,
+    reader: &mut Reader<J>,
+) {
+    for _ in 0..hall.conns {
+        if !hall.is_next() {
+            return;
+        }
+        if let Some(client) = hall.accepted() {
+            let limits = RelayLimits::default();
+            let _ = serve_conn(rt, alloc, client, reader, &hall.desk, limits);
         }
     }
 }
 
-/// Serves the hall's connections, with a reader for each at a time: where all are lent none is accepted. A connection that
-/// can't be accepted, or ends by a fault, counts and touches no other.
-pub fn serve_all<R: Threads + Wait + Sync, J: Naming + Send + Sync, D: Wait + Drop + Send>(
-    rt: &R,
-    alloc: Global,
-    hall: &Hall<Desk<J, D>>,
-    readers: &mut [Reader<J>],
-) {
-    run_workers(rt, alloc, hall, readers);
+/// Serves connections, until none is left.
+impl<J: Naming, D: Wait + Drop> Duty<Reader<J>> for Hall<Desk<J, D>> {
+    fn work<R: Wait>(&self, rt: &R, alloc: Global, reader: &mut Reader<J>) {
+        serve_each(rt, alloc, self, reader);
+        self.end_one(rt);
+    }
 }
 
-/// Serves the hall's connections as `serve_all` does, beside other work in this thread, and gives what that answers once both
-/// have ended. Where no thread can be made they are served after the work.
+/// Serves the hall's connections, with a reader for each at a time: where all are lent none is accepted. A connection that
+/// can't be accepted, or ends by a fault, counts and touches no other. That is done beside other work in this thread, and gives
+/// what the work answers once both have ended. Where no thread can be made, connections are served after the work.
 pub fn serve_beside<
     R: Threads + Wait + Sync,
     J: Naming + Send + Sync,

@@ -2,7 +2,8 @@
 
 ghost use Rattle.std.specs.Prelude.{◌≡◌};
 
-use crate::hall::{Hall, serve_all};
+use crate::hall::{Hall, serve_beside};
+use crate::meanwhile::{Schedule, published, save_meanwhile};
 use crate::refusal::{Refusal, write_refusal};
 use crate::saving::{begin, save};
 use event_file::NewFile;
@@ -13,7 +14,7 @@ use std::fs::File;
 use std::io::Write;
 use std::marker::Brand;
 use std::net::{Net, TcpListener, TcpStream};
-use std::rt::Files;
+use std::rt::{Clock, Files};
 use std::sync::Wait;
 use std::thread::Threads;
 use std::time::Duration;
@@ -105,6 +106,7 @@ fn run_named<
         + Threads
         + Wait
         + Files<File = File>
+        + Clock
         + AllocGlobal
         + Sync,
     W: Write,
@@ -120,7 +122,12 @@ fn run_named<
     requires most { J.most ≡ 1000000 }
 {
     let conns = settings.conns.unwrap_or(0);
-    let (mut desk, mut readers) = open_store::<J, D>(keep, alloc, blank, readers_for(conns))?;
+    // One reader for each connection that is served at once, and one for the file.
+    let count = readers_for(conns).saturating_add(1);
+    let (mut desk, mut readers) = open_store::<J, D>(keep, alloc, blank, count)?;
+    let Some(mut reader) = readers.pop() else {
+        return Err(Refusal::Store);
+    };
     let path = settings.events.as_str();
     let file = begin(rt, alloc, &mut desk, path)?;
     let hall = match open_hall(rt, alloc, settings, desk, writer) {
@@ -130,23 +137,30 @@ fn run_named<
             return Err(refusal);
         }
     };
-    serve_all(rt, alloc, &hall, readers.as_mut_slice());
-    let Some(mut reader) = readers.pop() else {
-        return Err(Refusal::Store);
+    let workers = readers.len();
+    let every = settings.save_every();
+    let schedule = Schedule {
+        first: every,
+        every,
+        has: published(alloc, &mut reader),
     };
+    serve_beside(rt, alloc, &hall, readers.as_mut_slice(), || {
+        save_meanwhile(rt, alloc, &hall, workers, schedule, &mut reader, &file)
+    });
     // The store's desk, in the hall, is there until the file is written.
     let done = end(rt, alloc, conns, &mut reader, file, writer);
     drop(hall);
     done
 }
 
-/// Reads settings, puts the events of the file into a store, listens, serves so many connections as the settings say, and
-/// writes the file.
+/// Reads settings, puts the events of the file into a store, listens, and serves so many connections as the settings say. The
+/// file is written meanwhile as often as the settings say, and in the end.
 pub fn run_serve<
     R: Net<Listener = TcpListener, Stream = TcpStream>
         + Threads
         + Wait
         + Files<File = File>
+        + Clock
         + AllocGlobal
         + Sync,
     W: Write,

@@ -14,7 +14,10 @@ use mirror_core::{End, SyncFault, Synced, grown, next_plan, sync_plan};
 use mirror_settings::{Settings, SettingsKey, read_settings};
 use neg_session::SessionLimits;
 use offer_table::Bases;
-use serve_run::{Hall, Refusal, begin, open_hall, readers_for, save, say, serve_beside};
+use serve_run::{
+    Hall, Refusal, Schedule, begin, open_hall, published, readers_for, save, save_meanwhile, say,
+    serve_beside,
+};
 use std::alloc::Global;
 use std::fs::File;
 use std::io::Write;
@@ -24,6 +27,7 @@ use std::random::RandomSource;
 use std::rt::{Clock, Files};
 use std::sync::{Mutex, Wait};
 use std::thread::Threads;
+use std::time::Duration;
 
 /// The loads that the relays begin with.
 fn bases_of(loads: &[u64]) -> Bases {
@@ -260,8 +264,9 @@ fn run_in_hall<
     done
 }
 
-/// Listens, does the job and serves connections meanwhile, and writes the file once they have ended: also where the job is
-/// refused, since clients may have put events in. The desk is there until it is written.
+/// Listens, does the job and serves connections meanwhile. The file is written behind the job, from then on as often as the
+/// settings say, and once the connections have ended: also where the job is refused, since clients may have put events in. The
+/// desk is there until it is written.
 fn run_serving<
     J: Naming + Send + Sync,
     D: Wait + Drop + Send + Sync,
@@ -269,7 +274,7 @@ fn run_serving<
         + RandomSource
         + Threads
         + Wait
-        + Files
+        + Files<File = File>
         + Clock
         + Sync,
     W: Write,
@@ -292,11 +297,18 @@ fn run_serving<
             return Err(refusal);
         }
     };
-    let waiting = readers.len();
+    let workers = readers.len();
+    let schedule = Schedule {
+        first: Duration::ZERO,
+        every: settings.save_every(),
+        has: published(alloc, reader),
+    };
     let ran = serve_beside(rt, alloc, &hall, readers, || {
-        run_in_hall(
-            rt, alloc, settings, &hall, waiting, reader, writer, progress,
-        )
+        let ran = run_in_hall(
+            rt, alloc, settings, &hall, workers, reader, writer, progress,
+        );
+        save_meanwhile(rt, alloc, &hall, workers, schedule, reader, &file);
+        ran
     });
     let saved = save(rt, alloc, reader, file);
     drop(hall);
