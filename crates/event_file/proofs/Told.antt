@@ -1,5 +1,5 @@
 -- What one line more tells.
-use Rattle.std.proofs.Common.{◌≡◌, ℕ, ◌+◌, suc, List, ◌∷◌, subst, sym, arith}
+use Rattle.std.proofs.Common.{◌≡◌, ℕ, ◌+◌, suc, List, ◌∷◌, subst, arith}
 use Rattle.nostr_event.specs.EventView.{EventView}
 use Rattle.event_file.specs.Lines.{LineTells, LinesTell, WrongBehind}
 

@@ -1,4 +1,4 @@
-use Rattle.std.proofs.Common.{rules, ◌≢◌, ◌∙◌, inl, List, [], Err, ap}
+use Rattle.std.proofs.Common.{rules, ◌≢◌, ◌∙◌, inl, [], Err, ap}
 use Rattle.event_file.proofs.reading.insert_line.Goals as goal
 
 pub returns-in-Err-Wrong-clause-wrong : goal.returns-in-Err-Wrong-clause-wrong

@@ -1,5 +1,4 @@
-use Rattle.std.proofs.Common.{rules, ◌≡◌, ◌≤◌, ℕ, ◌+◌, ◌∙◌, ap, refl, arith, List, ◌∷◌, length, Err, subst}
-use Rattle.nostr_event.specs.EventView.{EventView}
+use Rattle.std.proofs.Common.{rules, ◌≡◌, ◌≤◌, ◌+◌, ◌∙◌, ap, arith, ◌∷◌, length, Err}
 use Rattle.mirror_run.specs.Lines.{lines_of}
 use Rattle.event_file.specs.Lines.{LineTells, IsWrong, WrongBehind}
 use Rattle.event_file.proofs.Told.{told_more, wrong_more}

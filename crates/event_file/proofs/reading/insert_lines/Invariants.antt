@@ -1,4 +1,4 @@
-use Rattle.std.proofs.Common.{◌≡◌, ℕ, ◌+◌, ◌≤◌, List, length}
+use Rattle.std.proofs.Common.{ℕ, ◌+◌, ◌≤◌, List, length}
 use Rattle.nostr_event.specs.EventView.{EventView}
 use Rattle.mirror_run.specs.Lines.{lines_of}
 use Rattle.event_file.specs.Lines.{LinesTell, WrongBehind}

@@ -1,4 +1,3 @@
-use Rattle.std.proofs.Common.{rules}
 use Rattle.std.specs.Arc.{arc_value}
 use Rattle.event_file.proofs.Written.{appends_more}
 use Rattle.event_file.proofs.writing.write_all.Goals as goal
