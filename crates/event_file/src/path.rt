@@ -6,6 +6,7 @@ use std::alloc::Global;
 use std::fs::{File, OpenFile, OpenOptions, Permissions};
 use std::io::ErrorKind;
 use std::os::unix::fs::MetadataExt;
+use std::path::Path;
 use std::rt::Files;
 use std::{fs, io};
 
@@ -73,28 +74,47 @@ fn locked<R: Files<File = File>>(rt: &R, path: &str) -> io::Result<File> {
     Ok(file)
 }
 
+/// Writes the events to a file that is to take the place of the one at a path, whose permissions it gets first.
+fn fill<R: Files>(
+    rt: &R,
+    alloc: Global,
+    file: &mut File,
+    path: &str,
+    events: &EventList,
+) -> io::Result<()> {
+    if let Some(permissions) = permissions_at(rt, path)? {
+        file.set_permissions(permissions)?;
+    }
+    write_lines(alloc, file, events)?;
+    file.sync_all()
+}
+
+/// Renames a file to a path. That the folder tells so after a loss of power too is asked of the system: where it can't be, as
+/// not each file system lets a folder be synced, the file has its place all the same.
+fn take_place<R: Files>(rt: &R, beside: &str, path: &str) -> io::Result<()> {
+    fs::rename(rt, beside, path)?;
+    let folder = match Path::new(path).parent() {
+        Some(folder) if !folder.as_str().is_empty() => folder.as_str(),
+        _ => ".",
+    };
+    if let Ok(folder) = fs::open(rt, folder) {
+        let _ = folder.sync_all();
+    }
+    Ok(())
+}
+
 impl NewFile {
-    /// Begins a file in place of the one at a path, with its permissions; a link is followed. It fails where the folder is
-    /// missing or may not be written, and with `WouldBlock` where another run has begun one.
+    /// Begins a file in place of the one at a path; a link is followed. It fails where the folder is missing or may not be
+    /// written, or what is there is no plain file, and with `WouldBlock` where another run has begun one.
     pub fn create<R: Files<File = File>>(rt: &R, alloc: Global, path: &str) -> io::Result<NewFile> {
         if path.is_empty() {
             return Err(io::Error::from(ErrorKind::InvalidInput));
         }
         let path = followed(rt, alloc, path)?;
-        let permissions = permissions_at(rt, path.as_str())?;
+        permissions_at(rt, path.as_str())?;
         let beside = format!(in alloc; "{path}{BESIDE}")?;
         let file = locked(rt, beside.as_str())?;
-        let new = NewFile { file, path, beside };
-        let Some(permissions) = permissions else {
-            return Ok(new);
-        };
-        match new.file.set_permissions(permissions) {
-            Ok(()) => Ok(new),
-            Err(error) => {
-                let _ = new.discard(rt);
-                Err(error)
-            }
-        }
+        Ok(NewFile { file, path, beside })
     }
 
     /// Writes the events under a third name, of which nothing may be left, and puts that file in the other's place.
@@ -109,12 +129,9 @@ impl NewFile {
             .write(true)
             .create_new(true)
             .open(rt, third)?;
-        if let Some(permissions) = permissions_at(rt, self.path.as_str())? {
-            file.set_permissions(permissions)?;
-        }
-        write_lines(alloc, &mut file, events)?;
-        file.sync_all()?;
-        fs::rename(rt, third, self.path.as_str())
+        let path = self.path.as_str();
+        fill(rt, alloc, &mut file, path, events)?;
+        take_place(rt, third, path)
     }
 
     /// Writes the events in the other file's place, and goes on to hold that place. After a fault the other file is as it was.
@@ -137,9 +154,9 @@ impl NewFile {
     }
 
     fn replace<R: Files>(&mut self, rt: &R, alloc: Global, events: &EventList) -> io::Result<()> {
-        write_lines(alloc, &mut self.file, events)?;
-        self.file.sync_all()?;
-        fs::rename(rt, self.beside.as_str(), self.path.as_str())
+        let path = self.path.as_str();
+        fill(rt, alloc, &mut self.file, path, events)?;
+        take_place(rt, self.beside.as_str(), path)
     }
 
     /// Writes the events, and then takes the other file's place. After a fault that one is as it was, and no other is left

@@ -10,8 +10,8 @@ use std::rt::{Clock, Files};
 use std::sync::Wait;
 use std::time::{Duration, Instant};
 
-/// For how many milliseconds the first worker is waited for. Where no thread could be made there is none yet.
-const STARTING: u64 = 1000;
+/// How many times a second is waited for the first worker. Where no thread could be made there is none yet.
+const STARTING: u32 = 10;
 
 /// How many times as long as the file took to be written it is left alone.
 const REST: u32 = 20;
@@ -53,16 +53,30 @@ fn renewed<J: Naming, R: Files<File = File>>(
     }
 }
 
+/// Whether a worker has begun, which is waited for, and not all of them have ended.
+fn is_begun<K, R: Wait + Clock>(rt: &R, hall: &Hall<K>, workers: usize) -> bool {
+    for _ in 0..STARTING {
+        if hall.is_over(rt, workers, Duration::from_secs(1)) {
+            return false;
+        }
+        if hall.has_begun() {
+            return true;
+        }
+    }
+    false
+}
+
 /// How long ago that was. Where the clock tells no time, no time has gone by.
-fn since<R: Clock>(rt: &R, began: Option<Instant>) -> Duration {
-    match (began, Instant::now(rt)) {
-        (Some(began), Ok(now)) => now.duration_since(began),
-        _ => Duration::ZERO,
+fn since<R: Clock>(rt: &R, began: Instant) -> Duration {
+    match Instant::now(rt) {
+        Ok(now) => now.duration_since(began),
+        Err(_) => Duration::ZERO,
     }
 }
 
 /// Writes the events file anew by the schedule, until so many workers have ended. After each time it is left alone for at least
-/// twenty times as long as that took. What can't be written is passed over until the next time.
+/// twenty times as long as that took. What can't be written is passed over until the next time. Where the clock tells no time,
+/// nothing is waited for, and the file is left to who writes it in the end.
 pub fn save_meanwhile<J: Naming, K, R: Wait + Clock + Files<File = File>>(
     rt: &R,
     alloc: Global,
@@ -72,7 +86,7 @@ pub fn save_meanwhile<J: Naming, K, R: Wait + Clock + Files<File = File>>(
     reader: &mut Reader<J>,
     file: &NewFile,
 ) {
-    if hall.is_over(rt, workers, Duration::from_millis(STARTING)) || !hall.has_begun() {
+    if !is_begun(rt, hall, workers) {
         return;
     }
     let Schedule {
@@ -85,7 +99,9 @@ pub fn save_meanwhile<J: Naming, K, R: Wait + Clock + Files<File = File>>(
         if hall.is_over(rt, workers, patience) {
             return;
         }
-        let began = Instant::now(rt).ok();
+        let Ok(began) = Instant::now(rt) else {
+            return;
+        };
         has = renewed(rt, alloc, reader, file, has);
         patience = every.max(since(rt, began).saturating_mul(REST));
     }

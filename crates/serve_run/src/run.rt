@@ -1,6 +1,7 @@
 //! The job `serve`.
 
-ghost use Rattle.std.specs.Prelude.{◌≡◌};
+ghost use Rattle.std.specs.Prelude.{◌≡◌, OnOk};
+ghost use Rattle.std.specs.Io.KnownBytes.{Appends};
 
 use crate::hall::{Hall, serve_beside};
 use crate::meanwhile::{Schedule, published, save_meanwhile};
@@ -31,7 +32,9 @@ pub fn readers_for(conns: u64) -> usize {
 }
 
 /// Writes a text, and waits until it is written.
-pub fn say<W: Write>(writer: &mut W, text: &str) -> Result<(), Refusal> {
+pub fn say<W: Write>(writer: &mut W, text: &str) -> Result<(), Refusal>
+    ensures { OnOk result (Appends (W.contents writer.old) (W.contents writer.new) text.now) }
+{
     match writer.write_all(text.as_bytes()) {
         Ok(()) => {}
         Err(error) => return Err(write_refusal(&error)),

@@ -22,9 +22,9 @@ use ws_link::WsSource;
 /// What became of ids.
 #[derive(Clone, Copy, Default)]
 pub struct Counts {
-    pub given: usize,
-    pub missed: usize,
-    pub left: usize,
+    pub given: u64,
+    pub missed: u64,
+    pub left: u64,
 }
 
 impl Counts {

@@ -1,11 +1,15 @@
 //! The job `sync`.
 
-ghost use Rattle.std.specs.Prelude.{◌≡◌, length, IfOk};
+ghost use Rattle.std.specs.Prelude.{◌≡◌, ◌++◌, ℕ, List, None, length, IfOk, OnOk};
+ghost use Rattle.std.specs.Io.KnownBytes.{Appends};
+ghost use Rattle.fetch_plan.specs.Plan.{Planned};
+ghost use Rattle.sync_run.specs.Lines.{ends_text, plan_text, round_text, counts_text};
+ghost use Rattle.sync_run.specs.Printed.{IsSynced, IsSyncDone, Prints, PrintsOfSome, rounds_text};
 
 use crate::fetching::{Counts, counts_of, fetched, sources_of};
 use crate::links::{finish_all, linked_all};
 use crate::progress::Progress;
-use crate::text::{counts_text, put_ends, put_plan, put_round};
+use crate::text::{put_counts, put_ends, put_plan, put_round};
 use claim_board::Cell;
 use event_file::NewFile;
 use event_store::{Blank, Desk, Naming, Reader, open_store};
@@ -61,7 +65,9 @@ fn synced<
     settings: &Settings,
     reader: &mut Reader<J>,
     progress: &Progress<P>,
-) -> Result<Synced, Refusal> {
+) -> Result<Synced, Refusal>
+    ensures { IfOk result (λ done. IsSynced settings.now.filter reader.new done.ends.items done.plan) }
+{
     let snapshot = reader.pin(alloc, &settings.filter)?;
     progress.tell(rt, snapshot.events().len(), "events are compared");
     let mut peers = linked_all(rt, alloc, settings, progress)?;
@@ -120,10 +126,30 @@ fn say_round<W: Write>(
     writer: &mut W,
     round: u64,
     plan: &Plan,
-) -> Result<(), Refusal> {
+) -> Result<(), Refusal>
+    ensures { OnOk result (Appends (W.contents writer.old) (W.contents writer.new) (round_text round plan.now)) }
+{
     let mut text = String::new(alloc);
-    put_round(alloc, &mut text, round)?;
-    put_plan(alloc, &mut text, plan)?;
+    put_round(alloc, &mut text, round, plan)?;
+    say(writer, text.as_str())
+}
+
+/// Prints how the sessions ended, and the plan.
+fn say_synced<W: Write>(alloc: Global, writer: &mut W, done: &Synced) -> Result<(), Refusal>
+    ensures { OnOk result (Appends (W.contents writer.old) (W.contents writer.new) (ends_text done.now.ends.items ++ plan_text done.now.plan)) }
+{
+    let mut text = String::new(alloc);
+    put_ends(alloc, &mut text, done.ends.as_slice())?;
+    put_plan(alloc, &mut text, &done.plan)?;
+    say(writer, text.as_str())
+}
+
+/// Prints what became of the ids.
+fn say_counts<W: Write>(alloc: Global, writer: &mut W, counts: &Counts) -> Result<(), Refusal>
+    ensures { OnOk result (Appends (W.contents writer.old) (W.contents writer.new) (counts_text counts.now)) }
+{
+    let mut text = String::new(alloc);
+    put_counts(alloc, &mut text, counts)?;
     say(writer, text.as_str())
 }
 
@@ -147,7 +173,9 @@ fn fetch_rounds<
     desk: &Mutex<Desk<J, D>>,
     writer: &mut W,
     progress: &Progress<P>,
-) -> Result<Counts, Refusal> {
+) -> Result<Counts, Refusal>
+    ensures { OnOk result ((rounds : List (ℕ × Planned)) × Appends (W.contents writer.old) (W.contents writer.new) (rounds_text rounds)) }
+{
     let Synced {
         ends,
         mut table,
@@ -189,14 +217,13 @@ fn run_all<
     desk: &Mutex<Desk<J, D>>,
     writer: &mut W,
     progress: &Progress<P>,
-) -> Result<(), Refusal> {
+) -> Result<(), Refusal>
+    ensures { OnOk result (Prints settings.now.filter reader.new (W.contents writer.old) (W.contents writer.new)) }
+{
     let done = synced(rt, alloc, settings, reader, progress)?;
-    let mut text = String::new(alloc);
-    put_ends(alloc, &mut text, done.ends.as_slice())?;
-    put_plan(alloc, &mut text, &done.plan)?;
-    say(writer, text.as_str())?;
+    say_synced(alloc, writer, &done)?;
     let counts = fetch_rounds(rt, alloc, settings, done, desk, writer, progress)?;
-    say(writer, counts_text(alloc, &counts)?.as_str())
+    say_counts(alloc, writer, &counts)
 }
 
 /// Does the job over a store that isn't served, and writes the file. The desk is there until it is written.
@@ -221,7 +248,9 @@ fn run_alone<
     file: NewFile,
     writer: &mut W,
     progress: &Progress<P>,
-) -> Result<(), Refusal> {
+) -> Result<(), Refusal>
+    ensures { OnOk result (PrintsOfSome settings.now.filter (W.contents writer.old) (W.contents writer.new)) }
+{
     let desk = Mutex::new(desk);
     match run_all(rt, alloc, settings, reader, &desk, writer, progress) {
         Ok(()) => {
@@ -350,6 +379,7 @@ fn run_named<
 ) -> Result<(), Refusal>
     requires book { blank ≡ J.book }
     requires most { J.most ≡ 1000000 }
+    ensures { settings.now.listen ≡ None → OnOk result (PrintsOfSome settings.now.filter (W.contents writer.old) (W.contents writer.new)) }
 {
     let (mut desk, mut readers) = open_store::<J, D>(keep, alloc, blank, readers_of(settings))?;
     let Some(mut reader) = readers.pop() else {
@@ -398,13 +428,9 @@ pub fn run_sync<
         + Sync,
     W: Write,
     P: Write + Send,
->(
-    rt: &R,
-    alloc: Global,
-    text: &str,
-    writer: &mut W,
-    progress: &Progress<P>,
-) -> Result<(), Refusal> {
+>(rt: &R, alloc: Global, text: &str, writer: &mut W, progress: &Progress<P>) -> Result<(), Refusal>
+    ensures { OnOk result (IsSyncDone text.now (W.contents writer.old) (W.contents writer.new)) }
+{
     let settings = read_settings(alloc, text, true)?;
     run_named::<Brand, &R, R, W, P>(rt, rt, alloc, Blank::new(), &settings, writer, progress)
 }

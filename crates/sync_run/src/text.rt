@@ -1,5 +1,8 @@
 //! What the job prints.
 
+ghost use Rattle.std.specs.Prelude.{◌≡◌, ◌++◌, OnOk, codes, decimal, flat_map, string_bytes};
+ghost use Rattle.sync_run.specs.Lines.{end_line, ends_text, group_line, number_line, plan_text, round_text, counts_text};
+
 use crate::fetching::Counts;
 use fetch_plan::Plan;
 use mirror_core::End;
@@ -16,6 +19,11 @@ pub struct SessionLine {
 }
 
 impl fmt::Display for SessionLine {
+    ghost use Rattle.std.specs.Prelude.{Some};
+    ghost use Rattle.sync_run.specs.Lines.{session_text};
+
+    ghost output = { λ l. Some (session_text l.relay l.needed) };
+
     fn fmt<W: fmt::Write>(&self, f: &mut fmt::Formatter<W>) -> fmt::Result {
         let relay = self.relay;
         match self.needed {
@@ -29,7 +37,9 @@ impl fmt::Display for SessionLine {
 }
 
 /// How the session with a relay ended.
-fn put_end(alloc: Global, text: &mut String, relay: usize, end: &End) -> Result<(), AllocError> {
+fn put_end(alloc: Global, text: &mut String, relay: usize, end: &End) -> Result<(), AllocError>
+    ensures { OnOk result (string_bytes text.new ≡ string_bytes text.old ++ end_line relay end.now) }
+{
     let needed = match end {
         End::Finished(outcome) => Ok(outcome.need.len()),
         End::Failed(fault) => Err(*fault),
@@ -39,37 +49,69 @@ fn put_end(alloc: Global, text: &mut String, relay: usize, end: &End) -> Result<
 }
 
 /// How the sessions ended, a line each.
-pub fn put_ends(alloc: Global, text: &mut String, ends: &[End]) -> Result<(), AllocError> {
-    for relay in 0..ends.len() {
-        put_end(alloc, text, relay, &ends[relay])?;
+pub fn put_ends(alloc: Global, text: &mut String, ends: &[End]) -> Result<(), AllocError>
+    ensures { OnOk result (string_bytes text.new ≡ string_bytes text.old ++ ends_text ends.now) }
+{
+    for (relay, end) in ends.iter().enumerate() {
+        put_end(alloc, text, relay, end)?;
+    }
+    Ok(())
+}
+
+/// The members of a group, each behind a space.
+fn put_members(alloc: Global, text: &mut String, group: RelaySet) -> Result<(), AllocError>
+    ensures { OnOk result (string_bytes text.new ≡ string_bytes text.old ++ flat_map (λ r. codes " " ++ decimal r) group) }
+{
+    for relay in group.iter() {
+        text.push_str(format!(in alloc; " {relay}")?.as_str())?;
     }
     Ok(())
 }
 
 /// The line of a group.
-fn put_group(alloc: Global, text: &mut String, group: RelaySet) -> Result<(), AllocError> {
+fn put_group(alloc: Global, text: &mut String, group: RelaySet) -> Result<(), AllocError>
+    ensures { OnOk result (string_bytes text.new ≡ string_bytes text.old ++ group_line group) }
+{
     text.push_str("group")?;
-    for relay in group.iter() {
-        text.push_str(format!(in alloc; " {relay}")?.as_str())?;
-    }
+    put_members(alloc, text, group)?;
     text.push('\n')?;
     Ok(())
 }
 
+/// A name and a number.
+fn put_number(alloc: Global, text: &mut String, name: &str, number: u64) -> Result<(), AllocError>
+    ensures { OnOk result (string_bytes text.new ≡ string_bytes text.old ++ number_line name.now number) }
+{
+    text.push_str(name)?;
+    text.push_str(format!(in alloc; " {number}\n")?.as_str())
+}
+
 /// The least busiest load of a plan, and its group.
-pub fn put_plan(alloc: Global, text: &mut String, plan: &Plan) -> Result<(), AllocError> {
-    let least = plan.least_max();
-    text.push_str(format!(in alloc; "least {least}\n")?.as_str())?;
+pub fn put_plan(alloc: Global, text: &mut String, plan: &Plan) -> Result<(), AllocError>
+    ensures { OnOk result (string_bytes text.new ≡ string_bytes text.old ++ plan_text plan.now) }
+{
+    put_number(alloc, text, "least", plan.least_max())?;
     put_group(alloc, text, plan.group())
 }
 
-/// The line of a later round.
-pub fn put_round(alloc: Global, text: &mut String, round: u64) -> Result<(), AllocError> {
-    text.push_str(format!(in alloc; "round {round}\n")?.as_str())
+/// A later round, and its plan.
+pub fn put_round(
+    alloc: Global,
+    text: &mut String,
+    round: u64,
+    plan: &Plan,
+) -> Result<(), AllocError>
+    ensures { OnOk result (string_bytes text.new ≡ string_bytes text.old ++ round_text round plan.now) }
+{
+    put_number(alloc, text, "round", round)?;
+    put_plan(alloc, text, plan)
 }
 
 /// What became of the ids.
-pub fn counts_text(alloc: Global, counts: &Counts) -> Result<String, AllocError> {
-    let (given, missed, left) = (counts.given, counts.missed, counts.left);
-    format!(in alloc; "given {given}\nmissed {missed}\nleft {left}\n")
+pub fn put_counts(alloc: Global, text: &mut String, counts: &Counts) -> Result<(), AllocError>
+    ensures { OnOk result (string_bytes text.new ≡ string_bytes text.old ++ counts_text counts.now) }
+{
+    put_number(alloc, text, "given", counts.given)?;
+    put_number(alloc, text, "missed", counts.missed)?;
+    put_number(alloc, text, "left", counts.left)
 }

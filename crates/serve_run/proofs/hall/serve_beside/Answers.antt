@@ -1,6 +1,6 @@
 use denote.Exit.{no}
 use denote.Param.{param}
-use denote.Param.Send.{IsSync, param_send, param_sync, arg_send, arg_sync}
+use denote.Param.Send.{param_send, param_sync, arg_send, arg_sync}
 use Rattle.event_store.proofs.Crossing.{desk_send, reader_send}
 use Rattle.serve_run.proofs.hall.Hall.TheSendSync as hall
 use Rattle.serve_run.proofs.hall.serve_beside.Goals as goal

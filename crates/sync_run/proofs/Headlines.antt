@@ -1,0 +1,37 @@
+-- What is known of sessions, said of the logs alone.
+use Rattle.std.proofs.Common.{◌∙◌, ℕ, List, [], ◌∷◌, ap, map}
+use Rattle.std.specs.Bool.{⊤}
+use Rattle.core.specs.Option.{option_map}
+use Rattle.std.proofs.lemmas.Option.{slice_get-map}
+use Rattle.neg_codec.specs.declared.Item.{Item}
+use Rattle.neg_session.specs.Exchange.{Exchange}
+use Rattle.neg_session.specs.declared.limits.SessionLimits.{SessionLimits}
+use Rattle.offer_table.specs.Table.{Table}
+use Rattle.fetch_plan.specs.Plan.{Planned}
+use Rattle.mirror_core.specs.declared.end.End.{End}
+use Rattle.mirror_core.specs.Ends.{EachRan}
+use Rattle.mirror_core.specs.Headline.{Headline}
+use Rattle.sync_run.specs.Printed.{Log}
+
+module _ {P : Type 0} (log : P → List Exchange) (faults : P → ℕ) where
+  abbrev pub logged : P → Log
+  logged p = (log p, faults p)
+
+  pub ran_of_logs : (becomes : P → P → Type 0) (own : List Item) (limits : SessionLimits) (olds news : List P) (ends : List End)
+      → EachRan log faults becomes own limits olds news ends
+      → EachRan (λ (l : Log). l.0) (λ (l : Log). l.1) (λ (k l : Log). ⊤) own limits (map logged olds) (map logged news) ends
+  ran_of_logs becomes own limits [] [] [] ran = tt
+  ran_of_logs becomes own limits [] [] (end ∷ ends) ran = absurd ran
+  ran_of_logs becomes own limits [] (q ∷ news) ends ran = absurd ran
+  ran_of_logs becomes own limits (p ∷ olds) [] ends ran = absurd ran
+  ran_of_logs becomes own limits (p ∷ olds) (q ∷ news) [] ran = absurd ran
+  ran_of_logs becomes own limits (p ∷ olds) (q ∷ news) (end ∷ ends) ran = ((ran.0.0, tt), ran_of_logs becomes own limits olds news ends ran.1)
+
+  pub headline_of_logs : (base : ℕ → ℕ) (own : List Item) (olds news : List P) (ends : List End) (table : Table) (plan : Planned)
+      → Headline log base own olds news ends table plan → Headline (λ (l : Log). l.0) base own (map logged olds) (map logged news) ends table plan
+  headline_of_logs base own olds news ends table plan h =
+      λ holds may. h holds (λ r p q o before after finished.
+      may r (logged p) (logged q) o
+      (slice_get-map logged olds r ∙ ap (option_map logged) before)
+      (slice_get-map logged news r ∙ ap (option_map logged) after)
+      finished)
