@@ -1,4 +1,5 @@
-pub mod Insertion
-pub mod Layers
-pub mod Choosing
+pub mod Ranks
+pub mod Lists
+pub mod Parts
+pub mod Chosen
 pub mod Crossing

@@ -1,94 +1,84 @@
 //! Which events filters choose.
-ghost use Rattle.std.specs.Prelude.{◌≡◌, ◌++◌, ◌≤◌, ℕ, List, Some, IsTrue, IfOk, OnOk, length, map, take, []};
+ghost use Rattle.std.specs.Prelude.{◌≡◌, ◌≤◌, ◌++◌, ◌∷◌, ℕ, List, IfOk, OnOk, All, length, map, take};
 ghost use Rattle.std.specs.Arc.{arc_value};
 ghost use Rattle.std.specs.declared.alloc.Global.{Global as AGlobal};
 ghost use Rattle.std.specs.declared.sync.Arc.{Arc as AnArc};
 ghost use Rattle.nostr_event.specs.EventView.{EventView};
-ghost use Rattle.nostr_filter.specs.Choice.{chosen};
-ghost use Rattle.newest.specs.Newest.{rank, IsNewestFirst, AreOf, hits};
-ghost use Rattle.newest.specs.Nodes.{seen, last_of, entries_of, IsKept};
+ghost use Rattle.nostr_filter.specs.Choice.{newest_first, in_order, picked, chosen};
+ghost use Rattle.newest.specs.Newest.{AreOf, AreApart, IsNewestFirst, IsRest, BeginsMatched, joined, hits, placed_at};
 
-use crate::node::{Entry, Node};
+use crate::entry::Entry;
+use crate::heads::head_of;
 use crate::order::Newest;
-use nostr_filter::{Filter, Rank, put_in_order};
+use crate::rests::{from_latest, from_match};
+use crate::run::Run;
+use nostr_filter::{Filter, Rank, cut, put_in_order};
 use std::alloc::{AllocError, Global};
+use std::sync::Arc;
 
-// Whether all up to an entry is later than the filter's latest time.
-fn is_too_late(filter: &Filter, last: &Rank) -> bool
-    ensures { (ps : List (ℕ × EventView)) → IsNewestFirst ps → last_of (map rank ps) ≡ Some last.now → IsTrue result → hits filter.now ps ≡ [] }
+// What is left of the run where the entries before the first that the filter matches are passed over.
+fn first_match<'a>(run: &'a Run, filter: &Filter) -> &'a [Entry]
+    ensures rest { IsRest filter.now result.now run.now }
+    ensures begins { BeginsMatched filter.now result.now }
 {
-    match filter.until {
-        Some(until) => until < last.time.0,
-        None => false,
-    }
+    from_match(from_latest(run.as_slice(), filter), filter)
 }
 
-// Whether all behind an entry is earlier than the filter's earliest time.
-fn is_at_end(filter: &Filter, last: &Rank) -> bool
-    ensures { (ps qs : List (ℕ × EventView)) → IsNewestFirst (ps ++ qs) → last_of (map rank ps) ≡ Some last.now → IsTrue result → hits filter.now qs ≡ [] }
+// The same of each run.
+fn matching<'a>(
+    alloc: Global,
+    last: &'a Run,
+    runs: &'a [Arc<Run>],
+    filter: &Filter,
+) -> Result<Vec<&'a [Entry]>, AllocError>
+    ensures hits { IfOk result (λ v. hits filter.now (joined (map (λ r. r.now) v.items)) ≡ hits filter.now (joined (last.now ∷ map arc_value runs.now))) }
+    ensures part { IfOk result (λ v. (n : ℕ) → placed_at n (joined (map (λ r. r.now) v.items)) ≤ placed_at n (joined (last.now ∷ map arc_value runs.now))) }
+    ensures sorted { IfOk result (λ v. All IsNewestFirst (map (λ r. r.now) v.items)) }
+    ensures begins { IfOk result (λ v. All (BeginsMatched filter.now) (map (λ r. r.now) v.items)) }
 {
-    match filter.since {
-        Some(since) => last.time.0 < since,
-        None => false,
+    let mut rests = Vec::with_capacity(alloc, runs.len().saturating_add(1))?;
+    rests.push(first_match(last, filter))?;
+    for run in runs {
+        rests.push(first_match(run, filter))?;
     }
+    Ok(rests)
 }
 
-// Puts behind the others what orders the entries that the filter matches, as many as are to be had.
+// What orders the entries that the filter matches, in order, as many as are to be had. Each list begins with one of them.
 fn take_hits(
-    entries: &[Entry],
+    alloc: Global,
+    lists: Vec<&[Entry]>,
     filter: &Filter,
     most: usize,
-    found: &mut Vec<Rank>,
-) -> Result<(), AllocError>
-    requires { length found.old.items ≤ most }
-    ensures { OnOk result (found.new.items ≡ take most (found.old.items ++ hits filter.now (map seen entries.now))) }
+) -> Result<Vec<Rank>, AllocError>
+    requires sorted { All IsNewestFirst (map (λ r. r.now) lists.items) }
+    requires begins { All (BeginsMatched filter.now) (map (λ r. r.now) lists.items) }
+    ensures { AreApart (joined (map (λ r. r.now) lists.entry.items)) → IfOk result (λ v. v.items ≡ take most (in_order newest_first (hits filter.now (joined (map (λ r. r.now) lists.entry.items))))) }
 {
-    for entry in entries {
-        if found.len() == most {
-            return Ok(());
-        }
-        if entry.event.matches(filter) {
-            found.push(entry.rank())?;
-        }
+    let mut rests = lists;
+    let mut found = Vec::new(alloc);
+    while found.len() < most {
+        let Some(head) = head_of(rests.as_slice()) else {
+            return Ok(found);
+        };
+        found.push(head.first.rank())?;
+        rests[head.at] = from_match(head.rest, filter);
     }
-    Ok(())
+    Ok(found)
 }
 
-/// The same beneath a node. What the filter's times leave out is passed over.
-pub fn walk(
-    node: &Node,
-    layers: usize,
+/// What orders the events of the runs that the filter chooses, of each run but what its times leave, and no more than has to be
+/// passed to find as many as it chooses.
+pub fn pick_from(
+    alloc: Global,
+    last: &Run,
+    runs: &[Arc<Run>],
     filter: &Filter,
-    most: usize,
-    found: &mut Vec<Rank>,
-) -> Result<(), AllocError>
-    requires newest { IsNewestFirst (entries_of layers node.now) }
-    requires kept { IsKept layers node.now }
-    requires few { length found.old.items ≤ most }
-    ensures { OnOk result (found.new.items ≡ take most (found.old.items ++ hits filter.now (entries_of layers node.now))) }
+) -> Result<Vec<Rank>, AllocError>
+    ensures { (events : List (AnArc EventView AGlobal)) → AreOf (map arc_value events) (joined (last.now ∷ map arc_value runs.now)) → IfOk result (λ v. v.items ≡ picked events filter.now) }
 {
-    match node {
-        Node::Leaf(entries) => take_hits(entries, filter, most, found),
-        Node::Fork(children) => {
-            if layers == 0 {
-                return Ok(());
-            }
-            for at in 0..children.as_slice().len() {
-                let child = &children[at];
-                if found.len() == most {
-                    return Ok(());
-                }
-                if is_too_late(filter, &child.last) {
-                    continue;
-                }
-                walk(&child.node, layers - 1, filter, most, found)?;
-                if is_at_end(filter, &child.last) {
-                    return Ok(());
-                }
-            }
-            Ok(())
-        }
-    }
+    let rests = matching(alloc, last, runs, filter)?;
+    take_hits(alloc, rests, filter, cut(filter))
 }
 
 /// The places of the events that the filters choose, in the order in which they are sent: each filter chooses the newest

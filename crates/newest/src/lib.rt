@@ -1,12 +1,13 @@
-//! Events in the order in which they are sent, the newest first, and choosing from their newest end.
+//! Events in runs of which each has the newest first, and choosing from their newest ends.
 #![tactic(auto)]
 
 mod choice;
-mod cutting;
-mod growth;
-mod node;
+mod entry;
+mod heads;
 mod noted;
 mod order;
+mod rests;
+mod run;
 
 pub use choice::choose;
 pub use order::Newest;

@@ -1,0 +1,69 @@
+//! Events with their places.
+ghost use Rattle.std.specs.Prelude.{◌≡◌, IfOk};
+ghost use Rattle.nostr_filter.specs.Matching.{matches_of};
+ghost use Rattle.newest.specs.Newest.{rank};
+
+use crate::noted::Noted;
+use nostr_event::Event;
+use nostr_filter::{Filter, Rank, rank_at};
+use std::alloc::AllocError;
+use std::marker::Model;
+use std::sync::Arc;
+
+/// A shared event with its place among all events, and beside them what orders it, so that a search reads no event. Contracts
+/// see it as the place with the event.
+#[derive(Drop)]
+pub struct Entry {
+    rank: Rank,
+    event: Noted,
+}
+
+impl Model for Entry {
+    ghost use Rattle.std.specs.Prelude.{◌≡◌, ℕ};
+    ghost use Rattle.std.specs.Arc.{arc_value};
+    ghost use Rattle.nostr_event.specs.EventView.{EventView};
+    ghost use Rattle.nostr_filter.specs.Choice.{rank_of};
+
+    ghost Value = { ℕ × EventView };
+
+    ghost view = { λ e. (e.rank.place, arc_value e.event) };
+
+    ghost invariant = { λ e. e.rank ≡ rank_of e.rank.place (arc_value e.event) };
+}
+
+impl Entry {
+    pub fn new(place: usize, event: Arc<Event>) -> Entry
+        ensures { result ≡ (place, event.value) }
+    {
+        let rank = rank_at(place, &event);
+        Entry {
+            rank,
+            event: Noted::new(event),
+        }
+    }
+
+    /// What orders it.
+    pub fn rank(&self) -> Rank
+        ensures { result ≡ rank self.now }
+    {
+        self.rank
+    }
+
+    /// The same, with the event shared.
+    pub fn share(&self) -> Result<Entry, AllocError>
+        ensures { IfOk result (λ e. e ≡ self.now) }
+    {
+        let event = self.event.share()?;
+        Ok(Entry {
+            rank: self.rank,
+            event,
+        })
+    }
+
+    /// Whether the filter matches the event.
+    pub fn matches(&self, filter: &Filter) -> bool
+        ensures { result ≡ matches_of filter.now self.now.1 }
+    {
+        self.event.matches(filter)
+    }
+}

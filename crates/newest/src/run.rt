@@ -1,0 +1,95 @@
+//! Runs: entries in order.
+ghost use Rattle.std.specs.Prelude.{◌≡◌, ◌++◌, ◌∷◌, ◌≤◌, [], false, length, take, drop, All, IsPermutation, IfOk, OnOk};
+ghost use Rattle.newest.specs.Newest.{rank, comes_before, NoneBefore, IsNewestFirst};
+
+use crate::entry::Entry;
+use nostr_filter::Rank;
+use std::alloc::{AllocError, Global};
+use std::marker::Model;
+
+/// Some entries, the newest first. Contracts see them as their list.
+#[derive(Drop)]
+pub struct Run {
+    entries: Vec<Entry>,
+}
+
+impl Model for Run {
+    ghost use Rattle.std.specs.Prelude.{List, ℕ};
+    ghost use Rattle.nostr_event.specs.EventView.{EventView};
+    ghost use Rattle.newest.specs.Newest.{IsNewestFirst};
+
+    ghost Value = { List (ℕ × EventView) };
+
+    ghost view = { λ r. r.entries.items };
+
+    ghost invariant = { λ r. IsNewestFirst r.entries.items };
+}
+
+// Puts the entries behind the others, shared.
+fn share_entries(all: &mut Vec<Entry>, entries: &[Entry]) -> Result<(), AllocError>
+    ensures { OnOk result (all.new.items ≡ all.old.items ++ entries.now) }
+{
+    for entry in entries {
+        all.push(entry.share()?)?;
+    }
+    Ok(())
+}
+
+// At which place what is ordered so goes among others.
+fn place_for(new: &Rank, entries: &[Entry]) -> usize
+    requires { IsNewestFirst entries.now }
+    ensures within { result ≤ length entries.now }
+    ensures front { All (λ p. comes_before new.now (rank p) ≡ false) (take result entries.now) }
+    ensures behind { NoneBefore new.now (drop result entries.now) }
+{
+    let mut low = 0;
+    let mut high = entries.len();
+    while low < high {
+        let middle = low + (high - low) / 2;
+        if new.cmp(&entries[middle].rank()).is_lt() {
+            high = middle;
+        } else {
+            low = middle + 1;
+        }
+    }
+    low
+}
+
+impl Run {
+    /// Of no entries.
+    pub fn new(alloc: Global) -> Run
+        ensures { result ≡ [] }
+    {
+        Run {
+            entries: Vec::new(alloc),
+        }
+    }
+
+    /// Of entries that stand in order.
+    pub fn of(entries: Vec<Entry>) -> Run
+        requires { IsNewestFirst entries.items }
+        ensures { result ≡ entries.items }
+    {
+        Run { entries }
+    }
+
+    pub fn as_slice(&self) -> &[Entry]
+        ensures list { result.now ≡ self.now }
+        ensures sorted { IsNewestFirst result.now }
+    {
+        self.entries.as_slice()
+    }
+
+    /// The entries, shared, with one more in its place. All are copied.
+    pub fn with(&self, alloc: Global, entry: Entry) -> Result<Run, AllocError>
+        ensures { IfOk result (λ r. IsPermutation (entry ∷ self.now) r) }
+    {
+        let entries = self.entries.as_slice();
+        let at = place_for(&entry.rank(), entries);
+        let mut all = Vec::with_capacity(alloc, entries.len() + 1)?;
+        share_entries(&mut all, &entries[..at])?;
+        all.push(entry)?;
+        share_entries(&mut all, &entries[at..])?;
+        Ok(Run { entries: all })
+    }
+}
