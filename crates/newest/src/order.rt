@@ -17,10 +17,7 @@ use std::alloc::{AllocError, Global};
 use std::marker::Model;
 use std::sync::Arc;
 
-// So many events make a run.
-const BATCH: usize = 64;
-
-// So many runs of one size become one.
+// So many events make a run, and so many runs of one size become one.
 const FAN: usize = 8;
 
 /// Events, each with its place in the order of publishing, in runs of which each has the newest first. It is never
@@ -97,9 +94,9 @@ impl Newest {
         })
     }
 
-    /// These and the event that is published next. It copies the last run, of fewer than 64 entries. Once in 64 times that
-    /// becomes one of the shared runs, by itself or with the last 7, 14, 21 and so on: so each entry is copied once in each of
-    /// as many layers as there are digits in the number of events by 64, to the base of 8, and there are at most 7 runs of a size.
+    /// These and the event that is published next. It copies the last run, of fewer than eight entries. Once in eight times
+    /// that becomes one of the shared runs, by itself or with the last 7, 14, 21 and so on: so there are at most seven runs of a
+    /// size, of as many sizes as the number of events has digits in base 8, and each entry is copied once for each size.
     pub fn insert(
         &self,
         alloc: Global,
@@ -113,7 +110,7 @@ impl Newest {
         ensures events { (events : List EventView) → AreOf events self.now → IfOk result (λ n. AreOf (events ++ event.value ∷ []) n) }
     {
         let last = self.last.with(alloc, Entry::new(place, event))?;
-        if last.as_slice().len() < BATCH {
+        if last.as_slice().len() < FAN {
             return Ok(Newest {
                 last: Arc::new(alloc, last)?,
                 runs: Arc::try_clone(&self.runs)?,

@@ -7,8 +7,8 @@ use Rattle.newest.specs.Newest.{joined}
 use Rattle.newest.proofs.Lists.{still_of, one_longer}
 use Rattle.newest.proofs.order.Newest.insert.Goals as goal
 
-pub returns-then-as_slice-lt-BATCH-clause-inserted : goal.returns-then-as_slice-lt-BATCH-clause-inserted
-returns-then-as_slice-lt-BATCH-clause-inserted c =
+pub returns-then-as_slice-lt-FAN-clause-inserted : goal.returns-then-as_slice-lt-FAN-clause-inserted
+returns-then-as_slice-lt-FAN-clause-inserted c =
     let e : ℕ × EventView = (c.args.place, c.args.event.value) in
     let old = arc_value c.self.inside.last in
     let runs = joined (map arc_value (arc_value c.self.inside.runs).items) in
@@ -17,12 +17,12 @@ returns-then-as_slice-lt-BATCH-clause-inserted c =
     subst (λ xs. IsPermutation (e ∷ xs) (arc_value c.in_ok-new.field-0 ++ joined (map arc_value (arc_value c.in_ok-try_clone.field-0).items))) c.self.view_is
     (subst (IsPermutation (e ∷ (old ++ runs))) (λ i. sym c.in_ok-new.ensures.ok i ++ joined (map arc_value (sym c.in_ok-try_clone.ensures i).items)) whole)
 
-pub returns-then-as_slice-lt-BATCH-clause-len : goal.returns-then-as_slice-lt-BATCH-clause-len
-returns-then-as_slice-lt-BATCH-clause-len c = one_longer (c.args.place, c.args.event.value) c.args.self.now _ (returns-then-as_slice-lt-BATCH-clause-inserted c)
+pub returns-then-as_slice-lt-FAN-clause-len : goal.returns-then-as_slice-lt-FAN-clause-len
+returns-then-as_slice-lt-FAN-clause-len c = one_longer (c.args.place, c.args.event.value) c.args.self.now _ (returns-then-as_slice-lt-FAN-clause-inserted c)
 
-pub returns-then-as_slice-lt-BATCH-clause-events : goal.returns-then-as_slice-lt-BATCH-clause-events
-returns-then-as_slice-lt-BATCH-clause-events c events of =
-    still_of events c.args.self.now _ c.args.place c.args.event.value c.requires (returns-then-as_slice-lt-BATCH-clause-inserted c) of
+pub returns-then-as_slice-lt-FAN-clause-events : goal.returns-then-as_slice-lt-FAN-clause-events
+returns-then-as_slice-lt-FAN-clause-events c events of =
+    still_of events c.args.self.now _ c.args.place c.args.event.value c.requires (returns-then-as_slice-lt-FAN-clause-inserted c) of
 
 pub returns-clause-inserted : goal.returns-clause-inserted
 returns-clause-inserted c =
