@@ -67,8 +67,8 @@ fn take_hits(
     Ok(found)
 }
 
-/// What orders the events of the runs that the filter chooses, of each run but what its times leave, and no more than has to be
-/// passed to find as many as it chooses.
+/// What orders the events of these runs that the filter chooses. Of each run it reads what the filter's times leave, up to the
+/// last event that is chosen.
 pub fn pick_from(
     alloc: Global,
     last: &Run,

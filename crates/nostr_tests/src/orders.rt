@@ -56,7 +56,7 @@ fn event(alloc: Global, text: &str) -> Result<Arc<Event>, Fail> {
     Ok(Arc::new(alloc, event)?)
 }
 
-// The events, newest first.
+// The events in runs, put in one by one.
 fn arranged(alloc: Global, events: &[Arc<Event>]) -> Result<Newest, Fail> {
     let mut newest = Newest::new(alloc)?;
     for place in 0..events.len() {
@@ -95,7 +95,7 @@ fn chooses_as_all(alloc: Global, newest: &Newest, events: &[Arc<Event>]) -> Resu
     Ok(true)
 }
 
-// 1,200 events lie under two layers of nodes. The three come again and again, and what ties goes by its place.
+// 1,200 events make runs of three sizes. The three come again and again, and what ties goes by its place.
 #[test]
 fn many_events_and_an_older_order(rt: HostRuntime) -> Result<(), Fail> {
     let alloc = rt.alloc();

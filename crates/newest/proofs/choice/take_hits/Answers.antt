@@ -1,7 +1,8 @@
-use Rattle.std.proofs.Common.{◌≡◌, ◌∙◌, ◌∷◌, ◌++◌, ◌<◌, [], length, length-append, get_or, map, take, sym, ap, subst, arith}
+use Rattle.std.proofs.Common.{◌≡◌, List, ◌∙◌, ◌∷◌, ◌++◌, ◌<◌, [], length, length-append, get_or, map, take, sym, ap, subst, arith}
 use Rattle.std.specs.Prelude.{All, set}
 use Rattle.std.proofs.lemmas.List.{length-map, map-set}
 use Rattle.std.proofs.lemmas.List.Elements.{All-set}
+use Rattle.nostr_filter.specs.declared.choice.Rank.{Rank}
 use Rattle.nostr_filter.specs.Choice.{newest_first, in_order}
 use Rattle.newest.specs.Newest.{rank, joined, hits, AreApart, NoneBefore, IsNewestFirst, BeginsMatched}
 use Rattle.newest.proofs.Lists.{head_moved, apart_rest, apart_fewer, count_set}
@@ -20,7 +21,7 @@ loop-rests-preserved c =
     let within : i < length lists = omega (arith, subst (λ xs. i < length xs) c.as_slice.ensures.value c.in-Some.ensures.within, length-map c.loop-rests.rests.items (λ r. r.now)) in
     let first : NoneBefore (rank e) (joined lists) = subst (λ xs. NoneBefore (rank e) (joined (map (λ r. r.now) xs))) c.as_slice.ensures.value c.in-Some.ensures.first in
     let new : map (λ r. r.now) (set c.loop-rests.rests.items i c.from_match.result) ≡ set lists i q = map-set (λ r. r.now) c.loop-rests.rests.items i c.from_match.result in
-    let put : c.push.new.self.items ≡ c.loop-rests.found.items ++ rank e ∷ [] = c.in_ok-push.ensures.items ∙ ap (λ x. c.loop-rests.found.items ++ x ∷ []) c.rank.ensures in
+    let put : c.push.new.self.items ≡ c.loop-rests.found.items ++ rank e ∷ [] = ◌∙◌ {A = List Rank} c.in_ok-push.ensures.items (ap (λ x. c.loop-rests.found.items ++ x ∷ []) c.rank.ensures) in
     record {
       few = omega (arith, ap length put, length-append c.loop-rests.found.items (rank e ∷ []), c.loop-rests-test.true, c.len.ensures);
       sorted = subst (All IsNewestFirst) (sym new) (All-set IsNewestFirst lists i q c.from_match.ensures.rest.sorted old.sorted);
