@@ -6,3 +6,4 @@ pub mod Laws
 pub mod ReadsBack
 pub mod Utf8
 pub mod Bytes
+pub mod Plain

@@ -1,11 +1,12 @@
 // The text of a draft, and the digest of it that is an event's id.
-ghost use Rattle.std.specs.Prelude.{◌≡◌, ◌<◌, ◌∷◌, ◌++◌, flat_map, OnOk, IfOk, string_bytes, decimal};
+ghost use Rattle.std.specs.Prelude.{◌≡◌, ◌<◌, ◌∷◌, ◌++◌, flat_map, length, OnOk, IfOk, string_bytes, decimal};
 ghost use Rattle.std.specs.Char.{digit_char};
 ghost use Rattle.std.specs.Str.{IsUtf8};
 ghost use Rattle.sha2.specs.Sha256.{sha256};
 ghost use Rattle.nostr_event.specs.IdText.{escape_letter, byte_text, string_text, tag_text, tags_text, id_text_of};
 
 use crate::draft::{Draft, Spelling};
+use crate::runs::plain_len;
 use crate::texts::{Tag, Tags, Text};
 use itoa::Buffer;
 use neg_codec::Id;
@@ -63,14 +64,35 @@ fn put_byte(out: &mut Vec<u8>, byte: u8, spelling: Spelling) -> Result<(), Alloc
     }
 }
 
+// Puts the text of the plain bytes that come first and of the byte behind them, and gives the bytes that follow.
+fn put_run<'b>(
+    out: &mut Vec<u8>,
+    bytes: &'b [u8],
+    spelling: Spelling,
+) -> Result<&'b [u8], AllocError>
+    ensures text { IfOk result (λ rest. out.new.items ++ flat_map (byte_text spelling) rest.now
+        ≡ out.old.items ++ flat_map (byte_text spelling) bytes.now) }
+    ensures bound { IfOk result (λ rest. 0 < length bytes.now → length rest.now < length bytes.now) }
+{
+    let (plain, rest) = bytes.split_at(plain_len(bytes));
+    out.extend_from_slice(plain)?;
+    match rest.split_first() {
+        Some((byte, rest)) => {
+            put_byte(out, *byte, spelling)?;
+            Ok(rest)
+        }
+        None => Ok(rest),
+    }
+}
+
 fn put_string(out: &mut Vec<u8>, text: &str, spelling: Spelling) -> Result<(), AllocError>
     ensures text { OnOk result (out.new.items ≡ out.old.items ++ string_text spelling text.now) }
     ensures utf8 { OnOk result (IsUtf8 out.old.items → IsUtf8 out.new.items) }
 {
-    let bytes = text.as_bytes();
     out.push(b'"')?;
-    for byte in bytes {
-        put_byte(out, *byte, spelling)?;
+    let mut rest = text.as_bytes();
+    while !rest.is_empty() {
+        rest = put_run(out, rest, spelling)?;
     }
     out.push(b'"')?;
     Ok(())

@@ -12,6 +12,7 @@ mod hexes;
 mod ids;
 mod printing;
 mod reading;
+mod runs;
 mod texts;
 mod writing;
 
