@@ -7,3 +7,4 @@ pub mod ReadsBack
 pub mod Utf8
 pub mod Bytes
 pub mod Plain
+pub mod Halves

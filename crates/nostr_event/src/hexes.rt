@@ -1,10 +1,9 @@
 // Texts of lower-case hexadecimal digits.
-ghost use Rattle.std.specs.Prelude.{◌≡◌, List, ℕ, IfSome, None, IfOk, IfErr};
+ghost use Rattle.std.specs.Prelude.{◌≡◌, ◌++◌, List, ℕ, IfSome, None, IfOk, IfErr};
 ghost use Rattle.hex.specs.Hex.{encode_lower};
 ghost use Rattle.nostr_event.specs.EventView.{IsBytesOf};
 
 use crate::fault::{EventFault, EventField};
-use hex::FromHex;
 use id_text::parse_id;
 
 /// The 32 bytes that the text spells in 64 lower-case hexadecimal digits, if it does.
@@ -16,19 +15,29 @@ pub fn bytes32_of(text: &str) -> Option<[u8; 32]>
     Some(id.0)
 }
 
+// The first bytes, and the second behind them.
+fn joined(first: &[u8; 32], second: &[u8; 32]) -> [u8; 64]
+    ensures { result ≡ first.now ++ second.now }
+{
+    let mut both = [0; 64];
+    both[..32].copy_from_slice(first);
+    both[32..].copy_from_slice(second);
+    both
+}
+
 /// The 64 bytes that the text spells in 128 lower-case hexadecimal digits, if it does.
 pub fn bytes64_of(text: &str) -> Option<[u8; 64]>
     ensures found { IfSome result (λ b. IsBytesOf 64 b × (text.now ≡ encode_lower b)) }
     ensures missing { result ≡ None → (b : List ℕ) → IsBytesOf 64 b → ¬ (text.now ≡ encode_lower b) }
 {
-    let bytes = <[u8; 64] as FromHex>::from_hex(text).ok()?;
-    let mut again = [0u8; 128];
-    hex::encode_to_slice(bytes.as_slice(), &mut again).ok()?;
-    if text.as_bytes() == again.as_slice() {
-        Some(bytes)
-    } else {
-        None
+    let digits = text.as_bytes();
+    if digits.len() != 128 {
+        return None;
     }
+    let (first, second) = digits.split_at(64);
+    let first = parse_id(first)?;
+    let second = parse_id(second)?;
+    Some(joined(&first.0, &second.0))
 }
 
 // The 32 bytes that the field's text spells.

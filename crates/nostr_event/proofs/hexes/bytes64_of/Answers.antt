@@ -1,21 +1,34 @@
-use Rattle.std.proofs.Common.{◌≡◌, Ok, Some, true, is_some, refl, sym, ◌∙◌, ap, rules}
-use Rattle.std.proofs.lemmas.Slice.Eq.{bytes_eq-Decides}
-use Rattle.hex.specs.Hex.{encode_lower}
-use Rattle.hex.proofs.HexLemmas.{decode_sized-encode_lower}
+use Rattle.std.proofs.Common.{◌++◌, ℕ, length, List, sym, ap, ap₂, subst, ◌∙◌, arith}
+use Rattle.hex.specs.Hex.{encode_lower, lower_digits}
+use Rattle.hex.proofs.HexLemmas.{length-encode_with}
+use Rattle.id_text.proofs.HexLemmas.{encode-append}
+use Rattle.nostr_event.specs.EventView.{IsBytesOf}
+use Rattle.nostr_event.proofs.Bytes.{id_of_bytes, bytes_of_id}
+use Rattle.nostr_event.proofs.Halves.{halves, joined_bytes}
 use Rattle.nostr_event.proofs.hexes.bytes64_of.Goals as goal
 
-pub returns-in_err-bytes-clause-missing : goal.returns-in_err-bytes-clause-missing
-returns-in_err-bytes-clause-missing c = λ none b of same.
-    let read : c.from_hex.result ≡ Ok b = c.from_hex.ensures ∙ rw same (decode_sized-encode_lower b 64 of.0 of.1) in
-    let good : is_some c.ok.result ≡ true = c.ok.ensures.variant ∙ rw read refl in
-    cc (rw c.in_err-bytes.was at good)
+pub returns-then-digits-ne128-clause-missing : goal.returns-then-digits-ne128-clause-missing
+returns-then-digits-ne128-clause-missing c = λ none b of same.
+    let long = length-encode_with lower_digits b in
+    omega (arith, long, of.0, ap length (c.as_bytes-digits.ensures.value ∙ same))
 
-pub returns-else-eq-clause-missing : goal.returns-else-eq-clause-missing
-returns-else-eq-clause-missing c = λ none b of same.
-    let read : c.from_hex.result ≡ Ok b = c.from_hex.ensures ∙ rw same (decode_sized-encode_lower b 64 of.0 of.1) in
-    let found : Some c.in_ok-bytes.bytes ≡ Some b = sym c.in_ok-bytes.was ∙ c.ok.ensures.value ∙ rw read refl in
-    let is : c.in_ok-bytes.bytes ≡ b = cc in
-    let again : c.encode_to_slice.new.output ≡ encode_lower c.in_ok-bytes.bytes = search rules in
-    let texts : c.as_bytes.result.now ≡ c.as_slice-2.result.now = c.as_bytes.ensures.value ∙ same ∙ sym (c.as_slice-2.ensures ∙ again ∙ ap encode_lower is) in
-    let passes : c.eq.result ≡ true = c.eq.ensures ∙ (bytes_eq-Decides _ _).1 texts in
-    cc (sym passes ∙ c.if-eq.false)
+pub returns-in_err-first-clause-missing : goal.returns-in_err-first-clause-missing
+returns-in_err-first-clause-missing c = λ none b of same.
+    let half = halves c.as_bytes-digits.result.now b of (c.as_bytes-digits.ensures.value ∙ same) in
+    c.in_err-first.ensures.none (record { 0 = _ }) (id_of_bytes _ half.front_bytes) (c.split_at.ensures.front ∙ half.front)
+
+pub returns-in_err-second-clause-missing : goal.returns-in_err-second-clause-missing
+returns-in_err-second-clause-missing c = λ none b of same.
+    let half = halves c.as_bytes-digits.result.now b of (c.as_bytes-digits.ensures.value ∙ same) in
+    c.in_err-second.ensures.none (record { 0 = _ }) (id_of_bytes _ half.back_bytes) (c.split_at.ensures.back ∙ half.back)
+
+pub returns-clause-found : goal.returns-clause-found
+returns-clause-found c =
+    let first = c.in_ok-first in
+    let second = c.in_ok-second in
+    let bytes : IsBytesOf 64 c.joined.result = subst (IsBytesOf 64) (sym c.joined.ensures) (joined_bytes _ _ (bytes_of_id _ first.ensures.id) (bytes_of_id _ second.ensures.id)) in (
+      bytes,
+      sym c.as_bytes-digits.ensures.value ∙ c.split_at.ensures.by_index.0
+          ∙ ap₂ (λ (a b : List ℕ). a ++ b) first.ensures.found second.ensures.found
+          ∙ sym (encode-append first.first.0 second.second.0) ∙ ap encode_lower (sym c.joined.ensures),
+    )
