@@ -3,7 +3,11 @@ use Rattle.std.proofs.Common.{◌≡◌, ℕ, zero, suc, ◌<◌, ◌≤◌, Boo
 use Rattle.std.proofs.lemmas.Bool.{and_parts, cases_lt, cases_eq}
 use Rattle.std.proofs.lemmas.Bool.Decides.{nat_tests}
 use Rattle.std.proofs.lemmas.List.Concat.{flat_map-append}
-use Rattle.std.proofs.lemmas.Str.{IsUtf8-append, IsUtf8-nil, IsUtf8-encode, encode_ascii, inside_one}
+use Rattle.std.proofs.lemmas.Str.{IsUtf8-append, IsUtf8-nil, IsUtf8-encode, IsUtf8-from_ascii, encode_ascii, inside_one}
+use Rattle.std.proofs.lemmas.Str.Ascii.{IsAscii-nil, IsAscii-cons}
+use Rattle.std.specs.Str.{IsAscii}
+use Rattle.hex.specs.Hex.{encode_lower, lower_digits}
+use Rattle.hex.proofs.HexLemmas.{IsAscii-encode_with}
 use lib.Utf8.{scalar, scalars, encode, encodes, low_scalar}
 use Rattle.nostr_event.specs.declared.draft.Spelling.{Spelling}
 use Rattle.nostr_event.specs.declared.draft.Spelling.TheVariants.{Plain, Escaped}
@@ -68,3 +72,10 @@ IsUtf8-string_text s text u = ascii_then 34 _ (omega arith) (IsUtf8-append _ _ (
 
 pub after_ascii : (xs ys : List ℕ) (x : ℕ) → ys ≡ xs ++ x ∷ [] → x < 128 → IsUtf8 xs → IsUtf8 ys
 after_ascii xs ys x e small u = subst IsUtf8 (sym e) (IsUtf8-append xs (x ∷ []) u (ascii_then x [] small IsUtf8-nil))
+
+IsAscii-are_ascii : (xs : List ℕ) → are_ascii xs ≡ true → IsAscii xs
+IsAscii-are_ascii [] e = IsAscii-nil
+IsAscii-are_ascii (x ∷ xs) e = let p = and_parts _ _ e in IsAscii-cons x xs (ltb-true _ _ p.0) (IsAscii-are_ascii xs p.1)
+
+pub digits_utf8 : (bytes : List ℕ) → IsUtf8 (encode_lower bytes)
+digits_utf8 bytes = IsUtf8-from_ascii _ (IsAscii-encode_with lower_digits bytes (IsAscii-are_ascii lower_digits refl))

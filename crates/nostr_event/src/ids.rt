@@ -8,10 +8,17 @@ ghost use Rattle.nostr_event.specs.IdText.{escape_letter, byte_text, string_text
 use crate::draft::{Draft, Spelling};
 use crate::runs::plain_len;
 use crate::texts::{Tag, Tags, Text};
+use id_text::digits_of;
 use itoa::Buffer;
 use neg_codec::Id;
 use sha2::{Digest, Sha256};
 use std::alloc::{AllocError, Global};
+
+/// As many bytes as the texts of most drafts have.
+const MOST_TEXTS: usize = 1_024;
+
+/// As many of them as most drafts have beside their content.
+const MOST_OTHERS: usize = 512;
 
 // The letter of the byte's short escape.
 fn letter_of(byte: u8) -> Option<u8>
@@ -85,17 +92,25 @@ fn put_run<'b>(
     }
 }
 
-fn put_string(out: &mut Vec<u8>, text: &str, spelling: Spelling) -> Result<(), AllocError>
-    ensures text { OnOk result (out.new.items ≡ out.old.items ++ string_text spelling text.now) }
-    ensures utf8 { OnOk result (IsUtf8 out.old.items → IsUtf8 out.new.items) }
+// The string of these bytes, with its quotes.
+fn put_quoted(out: &mut Vec<u8>, bytes: &[u8], spelling: Spelling) -> Result<(), AllocError>
+    ensures text { OnOk result (out.new.items ≡ out.old.items ++ string_text spelling bytes.now) }
+    ensures utf8 { OnOk result (IsUtf8 bytes.now → IsUtf8 out.old.items → IsUtf8 out.new.items) }
 {
     out.push(b'"')?;
-    let mut rest = text.as_bytes();
+    let mut rest = bytes;
     while !rest.is_empty() {
         rest = put_run(out, rest, spelling)?;
     }
     out.push(b'"')?;
     Ok(())
+}
+
+fn put_string(out: &mut Vec<u8>, text: &str, spelling: Spelling) -> Result<(), AllocError>
+    ensures text { OnOk result (out.new.items ≡ out.old.items ++ string_text spelling text.now) }
+    ensures utf8 { OnOk result (IsUtf8 out.old.items → IsUtf8 out.new.items) }
+{
+    put_quoted(out, text.as_bytes(), spelling)
 }
 
 fn put_others(out: &mut Vec<u8>, values: &[Text], spelling: Spelling) -> Result<(), AllocError>
@@ -159,13 +174,23 @@ fn put_number(out: &mut Vec<u8>, number: u64) -> Result<(), AllocError>
     Ok(())
 }
 
+// As many bytes as the text of most drafts with this content has.
+fn room_for(draft: &Draft) -> usize {
+    draft
+        .content
+        .as_str()
+        .len()
+        .saturating_add(MOST_OTHERS)
+        .max(MOST_TEXTS)
+}
+
 fn id_bytes(alloc: Global, draft: &Draft, spelling: Spelling) -> Result<Vec<u8>, AllocError>
     ensures text { IfOk result (λ v. v.items ≡ id_text_of spelling draft.now) }
     ensures utf8 { IfOk result (λ v. IsUtf8 v.items) }
 {
-    let mut out = Vec::from_slice(alloc, b"[0,")?;
-    let pubkey = hex::encode(alloc, draft.pubkey.as_slice())?;
-    put_string(&mut out, pubkey.as_str(), spelling)?;
+    let mut out = Vec::with_capacity(alloc, room_for(draft))?;
+    out.extend_from_slice(b"[0,")?;
+    put_quoted(&mut out, &digits_of(&Id(draft.pubkey)), spelling)?;
     put_number(&mut out, draft.created_at)?;
     put_number(&mut out, u64::from(draft.kind))?;
     out.push(b',')?;

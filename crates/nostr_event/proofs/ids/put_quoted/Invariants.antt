@@ -1,6 +1,6 @@
 use Rattle.std.proofs.Common.{◌≡◌, ◌++◌, flat_map, length}
 use Rattle.nostr_event.specs.IdText.{byte_text}
-use Rattle.nostr_event.proofs.ids.put_string.Given as goal
+use Rattle.nostr_event.proofs.ids.put_quoted.Given as goal
 
 abbrev pub invariant-loop-rest : goal.invariant-loop-rest
 invariant-loop-rest l = l.out.items ++ flat_map (byte_text l.spelling) l.rest ≡ l.initial.out.items ++ flat_map (byte_text l.spelling) l.initial.rest
