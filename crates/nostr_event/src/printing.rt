@@ -1,5 +1,5 @@
 // The text of an event, written token by token.
-ghost use Rattle.std.specs.Prelude.{◌≡◌, ◌<◌, ◌^◌, ◌∷◌, ◌++◌, [], map, flat_map, decimal, OnOk, IfOk, string_bytes};
+ghost use Rattle.std.specs.Prelude.{◌≡◌, ◌<◌, ◌≤◌, ◌^◌, ◌∷◌, ◌++◌, [], length, map, flat_map, decimal, OnOk, IfOk, string_bytes};
 ghost use Rattle.json.specs.Token.{string, number, key as key_token, begin_array, end_array};
 ghost use Rattle.json.specs.Tree.{json_tokens};
 ghost use Rattle.hex.specs.Hex.{encode_lower};
@@ -72,33 +72,35 @@ fn put_number(out: &mut Writer, name: &str, value: u64) -> Result<(), AllocError
     out.u64(value)
 }
 
-// A member that is a text of hexadecimal digits.
-fn put_hex(out: &mut Writer, alloc: Global, name: &str, bytes: &[u8]) -> Result<(), AllocError>
+// A member that is a text of the hexadecimal digits of at most 64 bytes.
+fn put_hex(out: &mut Writer, name: &str, bytes: &[u8]) -> Result<(), AllocError>
+    requires { length bytes.now ≤ 64 }
     ensures tokens { OnOk result (out.new.tokens ≡ out.old.tokens ++ key_token name.now ∷ string (encode_lower bytes.now) ∷ []) }
     ensures before { out.new.before ≡ out.old.before }
 {
-    let digits = hex::encode(alloc, bytes)?;
-    put_string(out, name, digits.as_str())
+    let mut room = [0; 128];
+    let digits = &mut room[..2 * bytes.len()];
+    if hex::encode_to_slice(bytes, digits).is_err() {
+        unreachable!();
+    }
+    match str::from_utf8(digits) {
+        Ok(text) => put_string(out, name, text),
+        Err(_) => unreachable!(),
+    }
 }
 
 // Puts the tokens of the JSON object of an event of these parts behind the others.
-fn put_object(
-    out: &mut Writer,
-    alloc: Global,
-    id: &Id,
-    draft: &Draft,
-    sig: &[u8; 64],
-) -> Result<(), AllocError>
+fn put_object(out: &mut Writer, id: &Id, draft: &Draft, sig: &[u8; 64]) -> Result<(), AllocError>
     ensures tokens { OnOk result (out.new.tokens ≡ out.old.tokens ++ json_tokens (outline (object_of (record { id = id.now; draft = draft.now; sig = sig.now })))) }
     ensures before { out.new.before ≡ out.old.before }
 {
     out.begin_object()?;
     put_string(out, "content", draft.content.as_str())?;
     put_number(out, "created_at", draft.created_at)?;
-    put_hex(out, alloc, "id", id.0.as_slice())?;
+    put_hex(out, "id", id.0.as_slice())?;
     put_number(out, "kind", u64::from(draft.kind))?;
-    put_hex(out, alloc, "pubkey", draft.pubkey.as_slice())?;
-    put_hex(out, alloc, "sig", sig.as_slice())?;
+    put_hex(out, "pubkey", draft.pubkey.as_slice())?;
+    put_hex(out, "sig", sig.as_slice())?;
     out.key("tags")?;
     put_tags(out, draft.tags.as_slice())?;
     out.end_object()?;
@@ -110,7 +112,7 @@ pub fn text_of(alloc: Global, id: &Id, draft: &Draft, sig: &[u8; 64]) -> Result<
     ensures { IfOk result (λ s. string_bytes s ≡ compact_text (object_of (record { id = id.now; draft = draft.now; sig = sig.now }))) }
 {
     let mut out = Writer::new(Vec::with_capacity(alloc, MOST_EVENTS)?);
-    put_object(&mut out, alloc, id, draft, sig)?;
+    put_object(&mut out, id, draft, sig)?;
     match String::from_utf8(out.into_inner()) {
         Ok(text) => String::from_str(alloc, text.as_str()),
         Err(_) => unreachable!(),
