@@ -6,9 +6,9 @@ ghost use Rattle.sha2.specs.Sha256.{sha256};
 ghost use Rattle.nostr_event.specs.IdText.{escape_letter, byte_text, string_text, tag_text, tags_text, id_text_of};
 
 use crate::draft::{Draft, Spelling};
+use crate::hexes::digits32_of;
 use crate::runs::plain_len;
 use crate::texts::{Tag, Tags, Text};
-use id_text::digits_of;
 use itoa::Buffer;
 use neg_codec::Id;
 use sha2::{Digest, Sha256};
@@ -190,7 +190,7 @@ fn id_bytes(alloc: Global, draft: &Draft, spelling: Spelling) -> Result<Vec<u8>,
 {
     let mut out = Vec::with_capacity(alloc, room_for(draft))?;
     out.extend_from_slice(b"[0,")?;
-    put_quoted(&mut out, &digits_of(&Id(draft.pubkey)), spelling)?;
+    put_quoted(&mut out, &digits32_of(&draft.pubkey), spelling)?;
     put_number(&mut out, draft.created_at)?;
     put_number(&mut out, u64::from(draft.kind))?;
     out.push(b',')?;

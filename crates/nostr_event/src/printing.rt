@@ -1,5 +1,6 @@
 // The text of an event, written token by token.
-ghost use Rattle.std.specs.Prelude.{◌≡◌, ◌<◌, ◌≤◌, ◌^◌, ◌∷◌, ◌++◌, [], length, map, flat_map, decimal, OnOk, IfOk, string_bytes};
+ghost use Rattle.std.specs.Prelude.{◌≡◌, ◌<◌, ◌^◌, ◌∷◌, ◌++◌, [], map, flat_map, decimal, OnOk, IfOk, string_bytes};
+ghost use Rattle.std.specs.Str.{IsUtf8};
 ghost use Rattle.json.specs.Token.{string, number, key as key_token, begin_array, end_array};
 ghost use Rattle.json.specs.Tree.{json_tokens};
 ghost use Rattle.hex.specs.Hex.{encode_lower};
@@ -8,6 +9,7 @@ ghost use Rattle.serde_json.specs.Written.{outline, compact_text};
 ghost use Rattle.nostr_event.specs.EventJson.{object_of, tag_items, tags_items};
 
 use crate::draft::Draft;
+use crate::hexes::{digits32_of, digits64_of};
 use crate::texts::{Tag, Text};
 use json::Writer;
 use neg_codec::Id;
@@ -72,21 +74,32 @@ fn put_number(out: &mut Writer, name: &str, value: u64) -> Result<(), AllocError
     out.u64(value)
 }
 
-// A member that is a text of the hexadecimal digits of at most 64 bytes.
-fn put_hex(out: &mut Writer, name: &str, bytes: &[u8]) -> Result<(), AllocError>
-    requires { length bytes.now ≤ 64 }
-    ensures tokens { OnOk result (out.new.tokens ≡ out.old.tokens ++ key_token name.now ∷ string (encode_lower bytes.now) ∷ []) }
+// A member that is a string of these digits.
+fn put_digits(out: &mut Writer, name: &str, digits: &[u8]) -> Result<(), AllocError>
+    requires { IsUtf8 digits.now }
+    ensures tokens { OnOk result (out.new.tokens ≡ out.old.tokens ++ key_token name.now ∷ string digits.now ∷ []) }
     ensures before { out.new.before ≡ out.old.before }
 {
-    let mut room = [0; 128];
-    let digits = &mut room[..2 * bytes.len()];
-    if hex::encode_to_slice(bytes, digits).is_err() {
-        unreachable!();
-    }
     match str::from_utf8(digits) {
         Ok(text) => put_string(out, name, text),
         Err(_) => unreachable!(),
     }
+}
+
+// A member that is a string of the hexadecimal digits of 32 bytes.
+fn put_hex32(out: &mut Writer, name: &str, bytes: &[u8; 32]) -> Result<(), AllocError>
+    ensures tokens { OnOk result (out.new.tokens ≡ out.old.tokens ++ key_token name.now ∷ string (encode_lower bytes.now) ∷ []) }
+    ensures before { out.new.before ≡ out.old.before }
+{
+    put_digits(out, name, &digits32_of(bytes))
+}
+
+// A member that is a string of the hexadecimal digits of 64 bytes.
+fn put_hex64(out: &mut Writer, name: &str, bytes: &[u8; 64]) -> Result<(), AllocError>
+    ensures tokens { OnOk result (out.new.tokens ≡ out.old.tokens ++ key_token name.now ∷ string (encode_lower bytes.now) ∷ []) }
+    ensures before { out.new.before ≡ out.old.before }
+{
+    put_digits(out, name, &digits64_of(bytes))
 }
 
 // Puts the tokens of the JSON object of an event of these parts behind the others.
@@ -97,10 +110,10 @@ fn put_object(out: &mut Writer, id: &Id, draft: &Draft, sig: &[u8; 64]) -> Resul
     out.begin_object()?;
     put_string(out, "content", draft.content.as_str())?;
     put_number(out, "created_at", draft.created_at)?;
-    put_hex(out, "id", id.0.as_slice())?;
+    put_hex32(out, "id", &id.0)?;
     put_number(out, "kind", u64::from(draft.kind))?;
-    put_hex(out, "pubkey", draft.pubkey.as_slice())?;
-    put_hex(out, "sig", sig.as_slice())?;
+    put_hex32(out, "pubkey", &draft.pubkey)?;
+    put_hex64(out, "sig", sig)?;
     out.key("tags")?;
     put_tags(out, draft.tags.as_slice())?;
     out.end_object()?;
