@@ -80,10 +80,7 @@ fn put_digits(out: &mut Writer, name: &str, digits: &[u8]) -> Result<(), AllocEr
     ensures tokens { OnOk result (out.new.tokens ≡ out.old.tokens ++ key_token name.now ∷ string digits.now ∷ []) }
     ensures before { out.new.before ≡ out.old.before }
 {
-    match str::from_utf8(digits) {
-        Ok(text) => put_string(out, name, text),
-        Err(_) => unreachable!(),
-    }
+    put_string(out, name, unsafe { str::from_utf8_unchecked(digits) })
 }
 
 // A member that is a string of the hexadecimal digits of 32 bytes.
@@ -126,8 +123,8 @@ pub fn text_of(alloc: Global, id: &Id, draft: &Draft, sig: &[u8; 64]) -> Result<
 {
     let mut out = Writer::new(Vec::with_capacity(alloc, MOST_EVENTS)?);
     put_object(&mut out, id, draft, sig)?;
-    match String::from_utf8(out.into_inner()) {
-        Ok(text) => String::from_str(alloc, text.as_str()),
-        Err(_) => unreachable!(),
-    }
+    let bytes = out.into_inner();
+    // A second look at each byte would take longer than to write them.
+    let text = unsafe { str::from_utf8_unchecked(bytes.as_slice()) };
+    String::from_str(alloc, text)
 }

@@ -13,5 +13,5 @@ returns c =
     let e : EventView = record { id = c.args.id.now; draft = c.args.draft.now; sig = c.args.sig.now } in
     let before : c.put_object.new.out.before ≡ [] = c.in_ok-put_object.ensures.before ∙ c.new-out.ensures.before ∙ c.in_ok-with_capacity.ensures.items in
     let tokens : c.put_object.new.out.tokens ≡ json_tokens (outline (object_of e)) = c.in_ok-put_object.ensures.tokens ∙ ap (λ ts. ts ++ json_tokens (outline (object_of e))) c.new-out.ensures.tokens in
-    let whole = ap (λ v. v.items) c.in-Ok.ensures.ok ∙ c.into_inner.ensures.items ∙ ap₂ (λ b ts. b ++ print ts) before tokens ∙ print-outline (object_of e) in
-    IfOk-weaker c.from_str.result _ _ (λ s same. same ∙ c.as_str.ensures.value ∙ whole) c.from_str.ensures.ok
+    let whole = c.into_inner-bytes.ensures.items ∙ ap₂ (λ b ts. b ++ print ts) before tokens ∙ print-outline (object_of e) in
+    IfOk-weaker c.from_str.result _ _ (λ s same. same ∙ c.from_utf8_unchecked-text.ensures ∙ c.as_slice.ensures.value ∙ whole) c.from_str.ensures.ok
