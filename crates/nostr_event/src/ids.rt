@@ -93,7 +93,7 @@ fn put_run<'b>(
 }
 
 // The string of these bytes, with its quotes.
-fn put_quoted(out: &mut Vec<u8>, bytes: &[u8], spelling: Spelling) -> Result<(), AllocError>
+pub fn put_quoted(out: &mut Vec<u8>, bytes: &[u8], spelling: Spelling) -> Result<(), AllocError>
     ensures text { OnOk result (out.new.items ≡ out.old.items ++ string_text spelling bytes.now) }
     ensures utf8 { OnOk result (IsUtf8 bytes.now → IsUtf8 out.old.items → IsUtf8 out.new.items) }
 {
@@ -106,7 +106,8 @@ fn put_quoted(out: &mut Vec<u8>, bytes: &[u8], spelling: Spelling) -> Result<(),
     Ok(())
 }
 
-fn put_string(out: &mut Vec<u8>, text: &str, spelling: Spelling) -> Result<(), AllocError>
+// The string of this text, with its quotes.
+pub fn put_string(out: &mut Vec<u8>, text: &str, spelling: Spelling) -> Result<(), AllocError>
     ensures text { OnOk result (out.new.items ≡ out.old.items ++ string_text spelling text.now) }
     ensures utf8 { OnOk result (IsUtf8 out.old.items → IsUtf8 out.new.items) }
 {
@@ -150,7 +151,8 @@ fn put_other_tags(out: &mut Vec<u8>, tags: &[Tag], spelling: Spelling) -> Result
     Ok(())
 }
 
-fn put_tags(out: &mut Vec<u8>, tags: &Tags, spelling: Spelling) -> Result<(), AllocError>
+// An array of arrays of strings.
+pub fn put_tags(out: &mut Vec<u8>, tags: &Tags, spelling: Spelling) -> Result<(), AllocError>
     ensures text { OnOk result (out.new.items ≡ out.old.items ++ tags_text spelling tags.now) }
     ensures utf8 { OnOk result (IsUtf8 out.old.items → IsUtf8 out.new.items) }
 {
@@ -163,13 +165,12 @@ fn put_tags(out: &mut Vec<u8>, tags: &Tags, spelling: Spelling) -> Result<(), Al
     Ok(())
 }
 
-// A comma, and then the number.
-fn put_number(out: &mut Vec<u8>, number: u64) -> Result<(), AllocError>
-    ensures text { OnOk result (out.new.items ≡ out.old.items ++ 44 ∷ decimal number) }
+// A number in decimal.
+pub fn put_number(out: &mut Vec<u8>, number: u64) -> Result<(), AllocError>
+    ensures text { OnOk result (out.new.items ≡ out.old.items ++ decimal number) }
     ensures utf8 { OnOk result (IsUtf8 out.old.items → IsUtf8 out.new.items) }
 {
     let mut buffer = Buffer::new();
-    out.push(b',')?;
     out.extend_from_slice(buffer.format(number).as_bytes())?;
     Ok(())
 }
@@ -191,7 +192,9 @@ fn id_bytes(alloc: Global, draft: &Draft, spelling: Spelling) -> Result<Vec<u8>,
     let mut out = Vec::with_capacity(alloc, room_for(draft))?;
     out.extend_from_slice(b"[0,")?;
     put_quoted(&mut out, &digits32_of(&draft.pubkey), spelling)?;
+    out.push(b',')?;
     put_number(&mut out, draft.created_at)?;
+    out.push(b',')?;
     put_number(&mut out, u64::from(draft.kind))?;
     out.push(b',')?;
     put_tags(&mut out, &draft.tags, spelling)?;
