@@ -1,6 +1,6 @@
 //! The parts of a roll, and what stands beside each.
 
-ghost use Rattle.std.specs.Prelude.{◌≡◌, ◌+◌, ◌<◌, ◌≤◌, length, get_or, IfOk, OnOk, OnErr};
+ghost use Rattle.std.specs.Prelude.{◌≡◌, ◌+◌, ◌<◌, ◌≤◌, true, length, get_or, IfOk, OnOk, OnErr};
 ghost use Rattle.std.specs.List.{insert};
 ghost use Rattle.std.specs.Arc.{arc_value};
 ghost use Rattle.neg_print.specs.Total.{total_of};
@@ -32,12 +32,27 @@ impl<P> Entry<P> {
     }
 }
 
+/// Whether the item at a place is in a part that has others behind it.
+fn is_in<P: Part>(entries: &[Entry<P>], place: usize, i: usize) -> bool
+    requires tells { Tells P.items P.most 0 0 entries.now }
+    requires within { i + 1 < length entries.now }
+    ensures { result ≡ true → IsAt P.items entries.now place i }
+{
+    let (entry, next) = (&entries[i], &entries[i + 1]);
+    entry.before <= place && place < next.before
+}
+
 /// The part of the item at a place.
 pub fn entry_at<P: Part>(entries: &[Entry<P>], place: usize) -> usize
     requires tells { Tells P.items P.most 0 0 entries.now }
     requires within { place < length (joined P.items entries.now) }
     ensures { IsAt P.items entries.now place result }
 {
+    // Where the parts before it are full, it is this one.
+    let guess = place / P::full_len();
+    if guess < entries.len().saturating_sub(1) && is_in(entries, place, guess) {
+        return guess;
+    }
     let mut low = 0;
     let mut high = entries.len();
     'search: while high - low > 1 {
