@@ -107,7 +107,7 @@ pub ascending_front : (xs ys : List Item) → Ascending (xs ++ ys) → Ascending
 ascending_front [] ys up = tt
 ascending_front (x ∷ xs) ys up = (all_front (λ y. place x < place y) xs ys up.0, ascending_front xs ys up.1)
 
-ascending_back : (xs ys : List Item) → Ascending (xs ++ ys) → Ascending ys
+pub ascending_back : (xs ys : List Item) → Ascending (xs ++ ys) → Ascending ys
 ascending_back [] ys up = up
 ascending_back (x ∷ xs) ys up = ascending_back xs ys up.1
 

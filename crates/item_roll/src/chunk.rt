@@ -52,7 +52,7 @@ pub fn sum_of_items(items: &[Item]) -> Sum
 }
 
 /// How many items of a list in order stand below another.
-fn items_below(items: &[Item], edge: &Item) -> usize
+pub fn items_below(items: &[Item], edge: &Item) -> usize
     requires { Ascending items.now }
     ensures value { result ≡ count_below items.now edge.now }
     ensures within { result ≤ length items.now }

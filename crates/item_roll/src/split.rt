@@ -56,7 +56,7 @@ fn told_by_prints(
     requires within { hi ≤ length roll.now }
     ensures { IfOk result (λ v. map span_of v.items ≡ prints_at 15 roll.now lo hi (edge_of upper.now)) }
 {
-    let mut ranges = Vec::new(alloc);
+    let mut ranges = Vec::with_capacity(alloc, PIECES)?;
     let mut from = lo;
     for done in 0..PIECES - 1 {
         let next = piece_end(from, hi, PIECES - done);

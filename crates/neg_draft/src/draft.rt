@@ -28,6 +28,8 @@ pub struct Draft {
     ranges: Ranges,
     /// Up to where the draft has come: from where the ranges end to here all is skipped.
     end: Bound,
+    /// Where in a roll the two bounds stand that were looked up last: others are looked for from there on.
+    pub(crate) places: (usize, usize),
 }
 
 impl Model for Draft {
@@ -53,6 +55,7 @@ impl Draft {
             limit,
             ranges: Ranges::none(alloc),
             end: Bound::lowest(),
+            places: (0, 0),
         }
     }
 
@@ -79,9 +82,19 @@ impl Draft {
         ensures draft { IsDraft self }
     {
         let _ = upper.edge();
-        let Draft { limit, ranges, end } = self;
+        let Draft {
+            limit,
+            ranges,
+            end,
+            places,
+        } = self;
         let end = if end.is_below(&upper) { upper } else { end };
-        Draft { limit, ranges, end }
+        Draft {
+            limit,
+            ranges,
+            end,
+            places,
+        }
     }
 
     /// How many bytes of payload the next range may have, if any range fits.
@@ -106,7 +119,12 @@ impl Draft {
     {
         let upper = range.upper;
         let _ = upper.edge();
-        let Draft { limit, ranges, end } = self;
+        let Draft {
+            limit,
+            ranges,
+            end,
+            places,
+        } = self;
         let mut ranges = ranges;
         ranges.fill(end)?;
         ranges.push(range)?;
@@ -114,6 +132,7 @@ impl Draft {
             limit,
             ranges,
             end: upper,
+            places,
         })
     }
 

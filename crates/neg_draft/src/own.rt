@@ -1,6 +1,6 @@
 //! What a roll has between two bounds.
 
-ghost use Rattle.std.specs.Prelude.{◌≡◌, ◌+◌, ◌-◌, ◌*◌, ◌<◌, ◌≤◌, ◌↔◌, ◌⊎◌, [], ◌∷◌, All, IfOk, IsTrue, length, map};
+ghost use Rattle.std.specs.Prelude.{◌≡◌, ◌+◌, ◌-◌, ◌*◌, ◌<◌, ◌≤◌, ◌↔◌, ◌⊎◌, [], ◌∷◌, All, IfOk, IsTrue, length, map, slice_range};
 ghost use Rattle.neg_codec.specs.Keys.{place, infinity};
 ghost use Rattle.neg_codec.specs.Ranges.{ids, edge_of, span_of};
 ghost use Rattle.neg_codec.specs.Ranges as told;
@@ -34,6 +34,34 @@ pub fn is_own_print(roll: &Roll, lower: &Bound, upper: &Bound, print: &[u8; 16])
 }
 
 impl Draft {
+    /// How many of the roll's items stand below each of two bounds. They are found in fewer steps where the bounds stand
+    /// just behind those of the last call.
+    pub fn places(&mut self, roll: &Roll, lower: &Bound, upper: &Bound) -> (usize, usize)
+        requires { place (edge_of lower.now) ≤ place (edge_of upper.now) }
+        ensures kept { self.new ≡ self.old }
+        ensures lower { result.0 ≡ count_below roll.now (edge_of lower.now) }
+        ensures upper { result.1 ≡ count_below roll.now (edge_of upper.now) }
+        ensures within { result.0 ≤ result.1 × result.1 ≤ length roll.now }
+        // The items between them.
+        ensures part { part roll.now (edge_of lower.now) (edge_of upper.now) ≡ slice_range roll.now result.0 result.1 }
+    {
+        let lo = roll.find_near(lower, self.places.1);
+        let hi = roll.find_near(upper, lo);
+        self.places = (lo, hi);
+        (lo, hi)
+    }
+
+    /// The same as `is_own_print`, in fewer steps where the bounds stand just behind those of the last call.
+    pub fn has_print(&mut self, roll: &Roll, lower: &Bound, upper: &Bound, print: &[u8; 16]) -> bool
+        requires { place (edge_of lower.now) ≤ place (edge_of upper.now) }
+        ensures kept { self.new ≡ self.old }
+        ensures own { IsTrue result ↔ (print.now ≡ print_of (ids_of (part roll.now (edge_of lower.now) (edge_of upper.now)))) }
+    {
+        let (lo, hi) = self.places(roll, lower, upper);
+        let own = roll.print(lo, hi);
+        *print == own
+    }
+
     /// Tells all that the roll has left by one fingerprint up to infinity.
     fn close(self, roll: &Roll) -> Result<Draft, AllocError>
         requires { place self.end < place infinity }
@@ -132,8 +160,8 @@ impl Draft {
         ensures told { IfOk result (Told roll.now self (edge_of upper)) }
         ensures exact { IfOk result (λ d. (d ≡ told_more self (edge_of upper) (record { upper = edge_of upper; claim = ids (ids_of (part roll.now self.end (edge_of upper))) } ∷ [])) ⊎ Cut roll.now self (edge_of upper) d) }
     {
-        let lo = roll.find(&self.end());
-        let hi = roll.find(&upper);
+        let lo = roll.find_near(&self.end(), self.places.1);
+        let hi = roll.find_near(&upper, lo);
         self.tell_ids_at(alloc, roll, lo, hi, upper)
     }
 
@@ -192,8 +220,8 @@ impl Draft {
     {
         let lower = self.end();
         let _ = (lower.edge(), upper.edge(), roll.len());
-        let lo = roll.find(&lower);
-        let hi = roll.find(&upper);
+        let lo = roll.find_near(&lower, self.places.0);
+        let hi = roll.find_near(&upper, self.places.1);
         if hi - lo < LISTED_BELOW {
             return self.tell_ids_at(alloc, roll, lo, hi, upper);
         }

@@ -19,13 +19,14 @@ use crate::found::{Found, compare};
 use crate::trust::{trust, trust_skipped};
 use item_roll::Roll;
 use neg_codec::{Bound, Id, Message, Payload, Range};
-use neg_draft::{Draft, is_own_print};
+use neg_draft::Draft;
 use std::alloc::Global;
 
 /// Takes in the ids that are listed of a stretch.
 fn settle_ids(
     alloc: Global,
     roll: &Roll,
+    draft: &mut Draft,
     found: &mut Found,
     lower: &Bound,
     upper: &Bound,
@@ -35,11 +36,13 @@ fn settle_ids(
     ensures finds { OnOk result (Finds roll.now (edge_of lower.now) (record { upper = edge_of upper.now; claim = ids listed.now }) (findings_of found.old) (findings_of found.new)) }
     ensures accounts { OnOk result (AccountsFor roll.now (findings_of found.new) (edge_of lower.now) (edge_of upper.now) (ids listed.now)) }
     ensures most { found.new.most ≡ found.old.most }
+    ensures kept { draft.new ≡ draft.old }
     ensures within { OnOk result (length found.old.need.keys ≤ found.old.most → length found.new.need.keys ≤ found.new.most) }
     ensures full { result ≡ Err InitFault.NeedFull → Passes (ids_of (part roll.now (edge_of lower.now) (edge_of upper.now))) listed.now found.old.need.keys found.old.most }
     ensures fault { IfErr result (λ e. (e ≡ InitFault.NeedFull) ⊎ (e ≡ InitFault.Memory)) }
 {
-    let own = roll.ids(alloc, roll.find(lower), roll.find(upper))?;
+    let (lo, hi) = draft.places(roll, lower, upper);
+    let own = roll.ids(alloc, lo, hi)?;
     match compare(alloc, found, &own, listed) {
         Ok(()) => Ok(()),
         Err(fault) => Err(fault),
@@ -66,13 +69,14 @@ pub fn settle_range(
     ensures fault { IfErr result (λ e. (e ≡ InitFault.NeedFull) ⊎ (e ≡ InitFault.Memory)) }
 {
     let _ = draft.end();
+    let mut draft = draft;
     if !lower.is_below(&range.upper) {
         return Ok(draft.skip(range.upper));
     }
     match &range.payload {
         Payload::Skip => Ok(draft.skip(range.upper)),
         Payload::Print(print) => {
-            if is_own_print(roll, lower, &range.upper, print) {
+            if draft.has_print(roll, lower, &range.upper, print) {
                 trust(&mut found.trusted, *lower, range.upper)?;
                 Ok(draft.skip(range.upper))
             } else {
@@ -80,7 +84,7 @@ pub fn settle_range(
             }
         }
         Payload::Ids(listed) => {
-            match settle_ids(alloc, roll, found, lower, &range.upper, listed) {
+            match settle_ids(alloc, roll, &mut draft, found, lower, &range.upper, listed) {
                 Ok(()) => Ok(draft.skip(range.upper)),
                 Err(fault) => Err(fault),
             }

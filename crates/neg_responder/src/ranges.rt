@@ -9,7 +9,7 @@ ghost use Rattle.neg_responder.specs.Reply.{SkipsSame, Responds};
 
 use item_roll::Roll;
 use neg_codec::{Message, Payload, Range};
-use neg_draft::{Draft, is_own_print};
+use neg_draft::Draft;
 use std::alloc::{AllocError, Global};
 
 /// The draft after a range of the question, which begins where the draft has come to, unless the draft
@@ -19,13 +19,14 @@ fn reply_range(alloc: Global, roll: &Roll, draft: Draft, range: &Range) -> Resul
     ensures draft { IsDraft draft }
 {
     let lower = draft.end();
+    let mut draft = draft;
     if !lower.is_below(&range.upper) {
         return Ok(draft.skip(range.upper));
     }
     match &range.payload {
         Payload::Skip => Ok(draft.skip(range.upper)),
         Payload::Print(print) => {
-            if is_own_print(roll, &lower, &range.upper, print) {
+            if draft.has_print(roll, &lower, &range.upper, print) {
                 Ok(draft.skip(range.upper))
             } else {
                 draft.tell_split(alloc, roll, range.upper)
