@@ -58,7 +58,7 @@ notes_none others old = record { kept = λ i h. h; news = λ i h. inl h; noted =
 whole : (xs : List Id) (n : ℕ) (i : Id) → Contains (take n xs) i → Contains xs i
 whole xs n i h = subst (λ (t : List Id). Contains t i) (take-append-drop n xs) (Contains-append_left (take n xs) (drop n xs) i h)
 
-there : (xs : List Id) (n : ℕ) (d : Id) → n < length xs → Contains xs (get_or xs n d)
+pub there : (xs : List Id) (n : ℕ) (d : Id) → n < length xs → Contains xs (get_or xs n d)
 there xs n d lt = whole xs (n + 1) (get_or xs n d) (seen_there xs n d lt)
 
 pub notes_more : (others xs : List Id) (n : ℕ) (d : Id) (old now new : List Id) → n < length xs → Notes others (take n xs) old now → NotesOne others (get_or xs n d) now new → Notes others (take (n + 1) xs) old new

@@ -1,10 +1,11 @@
 //! What a session has found out.
 
 ghost use Rattle.std.specs.Prelude.{◌≡◌, ◌≤◌, ◌⊎◌, [], ◌∷◌, OnOk, IfErr, Err, length};
+ghost use Rattle.neg_initiator.specs.Lookups.{looked_up};
 ghost use Rattle.neg_initiator.specs.Notes.{NotesOne, Notes, Passes};
 
 use crate::InitFault;
-use crate::ids::{has, put, set_of};
+use crate::ids::{Lookup, has, put};
 use neg_codec::{Bound, Id, Key};
 use std::alloc::{AllocError, Global};
 use std::collections::BTreeSet;
@@ -23,18 +24,13 @@ pub struct Found {
 }
 
 /// Puts an id in where the others lack it, unless there are as many as may be.
-fn note(
-    into: &mut BTreeSet<Id>,
-    id: &Id,
-    others: &BTreeSet<Id>,
-    most: usize,
-) -> Result<(), InitFault>
-    ensures ok { OnOk result (NotesOne others.now.keys id.now into.old.keys into.new.keys) }
+fn note(into: &mut BTreeSet<Id>, id: &Id, others: &Lookup<'_>, most: usize) -> Result<(), InitFault>
+    ensures ok { OnOk result (NotesOne (looked_up others.now) id.now into.old.keys into.new.keys) }
     ensures within { OnOk result (length into.old.keys ≤ most → length into.new.keys ≤ most) }
-    ensures full { result ≡ Err InitFault.NeedFull → Passes others.now.keys (id.now ∷ []) into.old.keys most }
+    ensures full { result ≡ Err InitFault.NeedFull → Passes (looked_up others.now) (id.now ∷ []) into.old.keys most }
     ensures fault { IfErr result (λ e. (e ≡ InitFault.NeedFull) ⊎ (e ≡ InitFault.Memory)) }
 {
-    if has(others, id) {
+    if others.has(id) {
         return Ok(());
     }
     if has(&*into, id) {
@@ -51,12 +47,12 @@ fn note(
 fn note_all(
     into: &mut BTreeSet<Id>,
     listed: &[Id],
-    others: &BTreeSet<Id>,
+    others: &Lookup<'_>,
     most: usize,
 ) -> Result<(), InitFault>
-    ensures ok { OnOk result (Notes others.now.keys listed.now into.old.keys into.new.keys) }
+    ensures ok { OnOk result (Notes (looked_up others.now) listed.now into.old.keys into.new.keys) }
     ensures within { OnOk result (length into.old.keys ≤ most → length into.new.keys ≤ most) }
-    ensures full { result ≡ Err InitFault.NeedFull → Passes others.now.keys listed.now into.old.keys most }
+    ensures full { result ≡ Err InitFault.NeedFull → Passes (looked_up others.now) listed.now into.old.keys most }
     ensures fault { IfErr result (λ e. (e ≡ InitFault.NeedFull) ⊎ (e ≡ InitFault.Memory)) }
 {
     for id in listed {
@@ -69,18 +65,18 @@ fn note_all(
 }
 
 /// Puts an id in where the others lack it.
-fn note_new(into: &mut BTreeSet<Id>, id: &Id, others: &BTreeSet<Id>) -> Result<(), AllocError>
-    ensures { OnOk result (NotesOne others.now.keys id.now into.old.keys into.new.keys) }
+fn note_new(into: &mut BTreeSet<Id>, id: &Id, others: &Lookup<'_>) -> Result<(), AllocError>
+    ensures { OnOk result (NotesOne (looked_up others.now) id.now into.old.keys into.new.keys) }
 {
-    if has(others, id) {
+    if others.has(id) {
         return Ok(());
     }
     put(into, *id)
 }
 
 /// Puts the ids of a list in that the others lack, however many there are.
-fn note_own(into: &mut BTreeSet<Id>, own: &[Id], others: &BTreeSet<Id>) -> Result<(), AllocError>
-    ensures { OnOk result (Notes others.now.keys own.now into.old.keys into.new.keys) }
+fn note_own(into: &mut BTreeSet<Id>, own: &[Id], others: &Lookup<'_>) -> Result<(), AllocError>
+    ensures { OnOk result (Notes (looked_up others.now) own.now into.old.keys into.new.keys) }
 {
     for id in own {
         note_new(into, id, others)?;
@@ -97,8 +93,8 @@ pub fn compare(alloc: Global, found: &mut Found, own: &[Id], listed: &[Id]) -> R
     ensures full { result ≡ Err InitFault.NeedFull → Passes own.now listed.now found.old.need.keys found.old.most }
     ensures fault { IfErr result (λ e. (e ≡ InitFault.NeedFull) ⊎ (e ≡ InitFault.Memory)) }
 {
-    let own_set = set_of(alloc, own)?;
-    let listed_set = set_of(alloc, listed)?;
+    let own_set = Lookup::of(alloc, own)?;
+    let listed_set = Lookup::of(alloc, listed)?;
     match note_all(&mut found.need, listed, &own_set, found.most) {
         Ok(()) => {}
         Err(fault) => return Err(fault),

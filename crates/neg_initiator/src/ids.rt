@@ -2,6 +2,7 @@
 
 ghost use Rattle.std.specs.Prelude.{◌≡◌, ◌≤◌, ◌+◌, ◌⊎◌, ◌↔◌, length, IsTrue, IfOk, OnOk, OnErr, Contains};
 ghost use Rattle.neg_codec.specs.declared.Id.{Id};
+ghost use Rattle.neg_initiator.specs.Lookups.{looked_up};
 
 use neg_codec::Id;
 use std::alloc::{AllocError, Global};
@@ -33,4 +34,49 @@ pub fn set_of(alloc: Global, ids: &[Id]) -> Result<BTreeSet<Id>, AllocError>
         put(&mut set, *id)?;
     }
     Ok(set)
+}
+
+/// A list of so many ids is looked through as it stands.
+const FEW_IDS: usize = 32;
+
+/// Ids of which it is asked whether they have another among them.
+#[derive(Drop)]
+pub enum Lookup<'a> {
+    Few(&'a [Id]),
+    Many(BTreeSet<Id>),
+}
+
+/// Whether an id stands in a list, by a pass over it.
+fn is_among(ids: &[Id], id: &Id) -> bool
+    ensures { IsTrue result ↔ Contains ids.now id.now }
+{
+    for other in ids {
+        if other.cmp(id).is_eq() {
+            return true;
+        }
+    }
+    false
+}
+
+impl<'a> Lookup<'a> {
+    /// The ids of a list, n log n in its length. A short one takes no memory.
+    pub fn of(alloc: Global, ids: &'a [Id]) -> Result<Lookup<'a>, AllocError>
+        ensures { IfOk result (λ l. (i : Id) → Contains (looked_up l) i ↔ Contains ids.now i) }
+    {
+        if ids.len() <= FEW_IDS {
+            return Ok(Lookup::Few(ids));
+        }
+        let set = set_of(alloc, ids)?;
+        Ok(Lookup::Many(set))
+    }
+
+    /// Whether the id is among them.
+    pub fn has(&self, id: &Id) -> bool
+        ensures { IsTrue result ↔ Contains (looked_up self.now) id.now }
+    {
+        match self {
+            Lookup::Few(ids) => is_among(ids, id),
+            Lookup::Many(set) => has(set, id),
+        }
+    }
 }
