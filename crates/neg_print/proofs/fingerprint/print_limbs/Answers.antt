@@ -1,28 +1,28 @@
-use Rattle.std.proofs.Common.{◌≡◌, ℕ, ◌++◌, ◌-◌, ◌<◌, ◌^◌, List, length, get_or, take, replicate, sym, ap, ◌∙◌}
-use Rattle.std.proofs.Math.Seq.{take-append_seam}
-use Rattle.std.specs.Int.{w64, to_le_bytes}
+use Rattle.std.proofs.Common.{◌≡◌, ℕ, zero, suc, ◌++◌, ◌+◌, ◌-◌, ◌/◌, List, refl, length, take, replicate, sym, ap, ◌∙◌}
+use Rattle.std.proofs.Math.Seq.{take-append_seam, take-append-add}
 use Rattle.sha2.specs.Sha256.{sha256}
 use Rattle.neg_varint.specs.Spelling.{spelling}
 use Rattle.neg_print.specs.Print.{print_by, little_bytes}
 use Rattle.neg_print.specs.Total.{limb_number}
-use Rattle.neg_print.proofs.Digits.{limbs_bytes}
 use Rattle.neg_print.proofs.fingerprint.print_limbs.Goals as goal
+
+little_len : (n x : ℕ) → length (little_bytes n x) ≡ n
+unfolding little_bytes
+little_len zero x = refl
+little_len (suc n) x = ap suc (little_len n (x / 256))
 
 front : (bytes text zeros : List ℕ) (len : ℕ) → length text ≡ len → bytes ≡ text ++ zeros → take len bytes ≡ text
 front bytes text zeros len e is = rw (is, ← e) (take-append_seam text zeros)
 
 -- the message that was hashed
-message : (limbs a b c d text digits : List ℕ) → length limbs ≡ 4 → ((i : ℕ) → get_or limbs i 0 < 2 ^ 64)
-    → a ≡ to_le_bytes w64 (get_or limbs 0 0) → b ≡ to_le_bytes w64 (get_or limbs 1 0) → c ≡ to_le_bytes w64 (get_or limbs 2 0) → d ≡ to_le_bytes w64 (get_or limbs 3 0)
-    → digits ≡ text → (((a ++ b) ++ c) ++ d) ++ digits ≡ little_bytes 32 (limb_number limbs) ++ text
-message limbs a b c d text digits len fits ea eb ec ed e = rw (ea, eb, ec, ed, e) (ap (λ (bs : List ℕ). bs ++ text) (limbs_bytes limbs len fits))
+message : (number len : ℕ) (bytes digits text zeros : List ℕ) → bytes ≡ little_bytes 32 number ++ digits → length text ≡ len → digits ≡ text ++ zeros → take (32 + len) bytes ≡ little_bytes 32 number ++ text
+message number len bytes digits text zeros e f is =
+    ap (λ (xs : List ℕ). take (32 + len) xs) e ∙ ap (λ (n : ℕ). take (n + len) (little_bytes 32 number ++ digits)) (sym (little_len 32 number))
+    ∙ take-append-add (little_bytes 32 number) digits len ∙ ap (λ (xs : List ℕ). little_bytes 32 number ++ xs) (front digits text zeros len f is)
 
 pub returns : goal.returns
 unfolding print_by
 returns c =
-    let f = front c.spell-len.result.0 (spelling c.args.count) (replicate (10 - c.spell-len.result.1) 0) c.spell-len.result.1 (sym c.spell-len.ensures.len) c.spell-len.ensures.value in
-    let d : c.finalize-digest.result ≡ sha256 ((((c.to_le_bytes.result ++ c.to_le_bytes-2.result) ++ c.to_le_bytes-3.result) ++ c.to_le_bytes-4.result) ++ take c.spell-len.result.1 c.spell-len.result.0) =
-    c.finalize-digest.ensures _ (c.update-5.ensures _ (c.update-4.ensures _ (c.update-3.ensures _ (c.update-2.ensures _ (c.update.ensures _ c.new-hasher.ensures))))) in
-    let m = message c.args.limbs.now c.to_le_bytes.result c.to_le_bytes-2.result c.to_le_bytes-3.result c.to_le_bytes-4.result (spelling c.args.count) (take c.spell-len.result.1 c.spell-len.result.0)
-    c.told-limbs c.fits-limbs c.to_le_bytes.ensures c.to_le_bytes-2.ensures c.to_le_bytes-3.ensures c.to_le_bytes-4.ensures f in
+    let d : c.finalize-digest.result ≡ sha256 (take (32 + c.spell-len.result.1) c.text_of-text.result) = c.finalize-digest.ensures _ (c.update.ensures _ c.new-hasher.ensures) in
+    let m = message (limb_number c.args.limbs.now) c.spell-len.result.1 c.text_of-text.result c.spell-len.result.0 (spelling c.args.count) (replicate (10 - c.spell-len.result.1) 0) c.text_of-text.ensures (sym c.spell-len.ensures.len) c.spell-len.ensures.value in
     c.copy_from_slice.ensures.after ∙ ap (take 16) (d ∙ ap sha256 m)
