@@ -120,7 +120,7 @@ fn ids_listed(alloc: Global, count: u64, bytes: &[u8]) -> Result<Vec<Id>, AllocE
     requires { length bytes.now ≡ 32 * count }
     ensures { IfOk result (λ v. v.items ≡ ids_of count bytes.now) }
 {
-    let mut list = Vec::new(alloc);
+    let mut list = Vec::with_capacity(alloc, bytes.len() / 32)?;
     let mut rest = bytes;
     for _ in 0..count {
         let (front, after) = rest.split_at(32);

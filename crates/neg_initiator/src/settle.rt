@@ -126,7 +126,7 @@ fn walk(
 }
 
 /// The next ask, of no more bytes than the limit, after a reply to the last one: what the reply leaves
-/// open. Ask and reply are walked once, each list of ids is put in order, and each fingerprint costs a
+/// open. Ask and reply are walked once, each long list of ids is put in order, and each fingerprint costs a
 /// pass over the items it tells of.
 pub fn settle(
     alloc: Global,
