@@ -6,4 +6,3 @@ mod own;
 mod ranges;
 
 pub use draft::Draft;
-pub use own::is_own_print;

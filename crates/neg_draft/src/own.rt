@@ -23,16 +23,6 @@ const ID_BYTES: usize = 32;
 /// How many bytes a fingerprint has.
 const PRINT_BYTES: usize = 16;
 
-/// Whether a fingerprint is the roll's own between two bounds, the lower inclusive (Negentropy protocol
-/// V1, "Fingerprint").
-pub fn is_own_print(roll: &Roll, lower: &Bound, upper: &Bound, print: &[u8; 16]) -> bool
-    requires { place (edge_of lower.now) ≤ place (edge_of upper.now) }
-    ensures { IsTrue result ↔ (print.now ≡ print_of (ids_of (part roll.now (edge_of lower.now) (edge_of upper.now)))) }
-{
-    let own = roll.print(roll.find(lower), roll.find(upper));
-    *print == own
-}
-
 impl Draft {
     /// How many of the roll's items stand below each of two bounds. They are found in fewer steps where the bounds stand
     /// just behind those of the last call.
@@ -51,7 +41,8 @@ impl Draft {
         (lo, hi)
     }
 
-    /// The same as `is_own_print`, in fewer steps where the bounds stand just behind those of the last call.
+    /// Whether a fingerprint is the roll's own between two bounds, the lower inclusive (Negentropy protocol V1,
+    /// "Fingerprint"). It takes fewer steps where the bounds stand just behind those of the last call.
     pub fn has_print(&mut self, roll: &Roll, lower: &Bound, upper: &Bound, print: &[u8; 16]) -> bool
         requires { place (edge_of lower.now) ≤ place (edge_of upper.now) }
         ensures kept { self.new ≡ self.old }

@@ -3,7 +3,7 @@ ghost use Rattle.std.specs.Prelude.{◌≤◌};
 use crate::fixtures::{Told, are_prints, are_told, at, line, many};
 use item_roll::Roll;
 use neg_codec::{Bound, Message, Payload, Range, encode};
-use neg_draft::{Draft, is_own_print};
+use neg_draft::Draft;
 use std::alloc::{AllocError, Global};
 use std::test::*;
 
@@ -210,22 +210,23 @@ fn tells_sixteen(alloc: Global, roll: &Roll) -> bool {
 }
 
 /// Whether a fingerprint is the roll's own between two times, where they don't descend.
-fn is_own(roll: &Roll, from: u32, to: u32, print: &[u8; 16]) -> Option<bool> {
+fn is_own(draft: &mut Draft, roll: &Roll, from: u32, to: u32, print: &[u8; 16]) -> Option<bool> {
     let (lower, upper) = (upto(from), upto(to));
     if upper.is_below(&lower) {
         return None;
     }
-    Some(is_own_print(roll, &lower, &upper, print))
+    Some(draft.has_print(roll, &lower, &upper, print))
 }
 
 /// Whether fingerprints of 40 items are known as own ones, and others not.
-fn knows_its_own(roll: &Roll) -> bool {
+fn knows_its_own(alloc: Global, roll: &Roll) -> bool {
+    let mut draft = Draft::new(alloc, 4_096);
     let of_two = b"\x7f\x2d\xa0\x89\xf1\xf5\x29\xe2\x16\x95\x15\x8e\x4a\x2d\x6f\x43";
     let of_none = b"\x7f\x9c\x9e\x31\xac\x82\x56\xca\x2f\x25\x85\x83\xdf\x26\x2d\xbc";
-    is_own(roll, 5, 7, of_two) == Some(true)
-        && is_own(roll, 5, 8, of_two) == Some(false)
-        && is_own(roll, 4, 7, of_two) == Some(false)
-        && is_own(roll, 5, 5, of_none) == Some(true)
+    is_own(&mut draft, roll, 5, 7, of_two) == Some(true)
+        && is_own(&mut draft, roll, 5, 8, of_two) == Some(false)
+        && is_own(&mut draft, roll, 4, 7, of_two) == Some(false)
+        && is_own(&mut draft, roll, 5, 5, of_none) == Some(true)
 }
 
 #[test]
@@ -233,7 +234,7 @@ fn messages_are_drafted(rt: HostRuntime) -> Result<(), Fail> {
     let roll = line(rt.alloc(), 40)?;
     assert!(rt; writes_forward(rt.alloc(), &roll));
     assert!(rt; tells_sixteen(rt.alloc(), &roll));
-    assert!(rt; knows_its_own(&roll));
+    assert!(rt; knows_its_own(rt.alloc(), &roll));
     Ok(())
 }
 
