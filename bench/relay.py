@@ -4,10 +4,10 @@
     bench/relay.py [--baseline PATH] [--mirror PATH] [--events N] [--only WORD,WORD,..] [--runs R]
 
 Each row starts the program anew. `serve` reads a file of events with right ids (`inputs.py`), and is then asked by clients of
-this script (`wire.py`): it takes all events from one client and from eight, answers 1,000 requests, is connected to 200
-times. `sync` brings a store that has a part of the events level with four relays that have half of them each. The relays
-are the same program's. Shown are the processor time that the work took, without the reading and writing of the file, and
-the greatest peak of resident memory.
+this script (`wire.py`): it takes all events from one client, from eight, and in the order of their times, answers 1,000
+requests, is connected to 200 times. `sync` brings a store that has a part of the events level with four relays that
+have half of them each. The relays are the same program's. Shown are the processor time that the work took, without the
+reading and writing of the file, and the greatest peak of resident memory.
 
 With `--baseline`, a plain program with the same commands, both run in turn, R times each; the least times are shown, and
 the ratio of ours to its.
@@ -209,6 +209,10 @@ def row_of_syncing(program, folder, lines, relays, share, partner, cut=None):
     return (usage.ru_utime + usage.ru_stime, usage.ru_maxrss / 1024), str(told)
 
 
+def time_of(line):
+    return json.loads(line)["created_at"]
+
+
 def filters_of(lines, rng):
     events = [json.loads(line) for line in lines]
     pick = lambda: rng.choice(events)
@@ -227,7 +231,7 @@ def main():
     parser.add_argument("--baseline", help="a plain program to compare with")
     parser.add_argument("--mirror", default=program_of("mirror_app"))
     parser.add_argument("--events", type=int, default=50000)
-    parser.add_argument("--only", default="put1,put8,ids,kind,author,tag,newest,connect,sync,sync16,cut")
+    parser.add_argument("--only", default="put1,put8,rising,ids,kind,author,tag,newest,connect,sync,sync16,cut")
     parser.add_argument("--runs", type=int, default=2)
     options = parser.parse_args()
     programs = [options.mirror] + ([options.baseline] if options.baseline else [])
@@ -240,6 +244,7 @@ def main():
         rows = {
             "put1": lambda it: row_of_putting(it, folder, lines, 1),
             "put8": lambda it: row_of_putting(it, folder, lines, 8),
+            "rising": lambda it: row_of_putting(it, folder, sorted(lines, key=time_of), 1),
             "connect": lambda it: row_of_connecting(it, folder, 200),
             "sync": lambda it: row_of_syncing(it, folder, lines, 4, 0.6, programs[-1]),
             "sync16": lambda it: row_of_syncing(it, folder, lines, 16, 0.6, programs[-1]),

@@ -140,24 +140,20 @@ pub fn fetched<J: Naming + Send + Sync, R: Threads + Wait + Sync>(
     let (board, lanes) = board(alloc, &lower, &upper)?;
     let mut sources = [Giving::new(alloc, lower), Giving::new(alloc, upper)];
     match fetch_all(rt, alloc, board, lanes, &mut sources, desk) {
-        Ok(report) => reported(alloc, reader, &report),
-        Err(FetchFault::Memory) => { Said::memory(has(alloc, reader, 0) == has(alloc, reader, 1)) }
+        Ok(report) => reported(reader, &report),
+        Err(FetchFault::Memory) => Said::memory(has(reader, 0) == has(reader, 1)),
         Err(FetchFault::Lanes) => Said::wrong(),
     }
 }
 
 /// What a report comes to, whose cells and stops have to agree with what is published.
-fn reported<J: Naming>(
-    alloc: Global,
-    reader: &mut Reader<J>,
-    report: &FetchReport<J>,
-) -> Option<Said> {
+fn reported<J: Naming>(reader: &mut Reader<J>, report: &FetchReport<J>) -> Option<Said> {
     let (cells, stops) = (report.cells.as_slice(), report.stops.as_slice());
     let ([lower, upper], [first, second]) = (cells, stops) else {
         return Said::wrong();
     };
-    let first = worked(alloc, reader, 1, *lower, first);
-    let second = worked(alloc, reader, 0, *upper, second);
+    let first = worked(reader, 1, *lower, first);
+    let second = worked(reader, 0, *upper, second);
     let (Some(first), Some(second)) = (first, second) else {
         return Said::wrong();
     };
@@ -169,8 +165,8 @@ fn reported<J: Naming>(
 }
 
 /// Whether the event at a place in the list is published.
-fn has<J: Naming>(alloc: Global, reader: &mut Reader<J>, at: usize) -> bool {
-    let Ok(all) = reader.pin(alloc, &Filter::all()) else {
+fn has<J: Naming>(reader: &mut Reader<J>, at: usize) -> bool {
+    let Ok(all) = reader.all() else {
         return false;
     };
     for place in 0..all.events().len() {
@@ -183,7 +179,6 @@ fn has<J: Naming>(alloc: Global, reader: &mut Reader<J>, at: usize) -> bool {
 
 /// Whether the worker of an event's cell came through, unless the cell or the store isn't as it has to be.
 fn worked<J: Naming>(
-    alloc: Global,
     reader: &mut Reader<J>,
     at: usize,
     cell: Cell,
@@ -195,8 +190,8 @@ fn worked<J: Naming>(
         _ => return None,
     };
     let is_right = match cell {
-        Cell::Done => has(alloc, reader, at),
-        Cell::Free => !is_through && !has(alloc, reader, at),
+        Cell::Done => has(reader, at),
+        Cell::Free => !is_through && !has(reader, at),
         _ => false,
     };
     is_right.then_some(is_through)

@@ -14,8 +14,8 @@ use std::thread::Threads;
 pub enum Call {
     Insert,
     Pin,
-    ChooseAll,
-    ChoosePicked,
+    PinAll,
+    Choose,
     Event,
     Request,
     NegOpen,
@@ -34,8 +34,8 @@ pub fn call_of(name: &str) -> Option<Call> {
     match name {
         "Desk::insert" => Some(Call::Insert),
         "Reader::pin" => Some(Call::Pin),
-        "Snapshot::choose all" => Some(Call::ChooseAll),
-        "Snapshot::choose picked" => Some(Call::ChoosePicked),
+        "Reader::pin all" => Some(Call::PinAll),
+        "AllEvents::choose" => Some(Call::Choose),
         "Conn::serve EVENT" => Some(Call::Event),
         "Conn::serve REQ" => Some(Call::Request),
         "Conn::serve NEG-OPEN" => Some(Call::NegOpen),
@@ -55,7 +55,7 @@ pub fn call_of(name: &str) -> Option<Call> {
 fn held(call: Call) -> usize {
     match call {
         Call::Fetch | Call::InsertLines => 0,
-        Call::Insert | Call::Pin | Call::ChooseAll | Call::ChoosePicked | Call::WriteLines => 2,
+        Call::Insert | Call::Pin | Call::PinAll | Call::Choose | Call::WriteLines => 2,
         _ => 1,
     }
 }
@@ -78,9 +78,9 @@ pub fn over_store<J: Naming + Send + Sync, R: Threads + Wait + Sync>(
         Call::InsertLines => jobs::insert(rt, alloc, &mut desk, &mut reader),
         Call::WriteLines => jobs::write(alloc, &mut reader),
         Call::Insert => stores::insert(rt, alloc, &mut desk, &mut reader),
-        Call::Pin => stores::pin(alloc, &mut reader),
-        Call::ChooseAll => stores::chosen(alloc, &mut reader, "{}"),
-        Call::ChoosePicked => stores::chosen(alloc, &mut reader, r##"{"kinds":[1,7]}"##),
+        Call::Pin => stores::pin(alloc, &mut reader, r##"{"kinds":[7]}"##, 1),
+        Call::PinAll => stores::pin(alloc, &mut reader, "{}", 2),
+        Call::Choose => stores::chosen(alloc, &mut reader),
         _ => conns::said_of(rt, alloc, call, &mut desk, &mut reader),
     }
 }

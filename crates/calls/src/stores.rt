@@ -8,7 +8,6 @@ use event_store::{
     Blank, Desk, EventList, InsertFault, Naming, PinFault, Reader, StoreFault, open_small,
     open_store,
 };
-use nostr_filter::Filter;
 use std::alloc::Global;
 use std::sync::Wait;
 
@@ -16,8 +15,8 @@ use std::sync::Wait;
 pub const NAMES: &[&str] = &[
     "Desk::insert",
     "Reader::pin",
-    "Snapshot::choose all",
-    "Snapshot::choose picked",
+    "Reader::pin all",
+    "AllEvents::choose",
 ];
 
 /// Opens a store with two readers.
@@ -81,7 +80,7 @@ fn are_first(events: &EventList, count: usize) -> bool {
 
 /// Whether the first events are published, so many of them, and no others.
 pub fn publishes<J: Naming>(alloc: Global, reader: &mut Reader<J>, count: usize) -> bool {
-    let Ok(all) = reader.pin(alloc, &Filter::all()) else {
+    let Ok(all) = reader.all() else {
         return false;
     };
     all.front() == count && are_first(all.events(), count)
@@ -95,7 +94,7 @@ pub fn insert<J: Naming, R: Wait>(
     reader: &mut Reader<J>,
 ) -> Option<Said> {
     let third = event(alloc, 2)?;
-    let before = reader.pin(alloc, &Filter::all()).ok()?;
+    let before = reader.all().ok()?;
     let placed = desk.insert(rt, third);
     let is_pin_kept = are_first(before.events(), 2);
     match placed {
@@ -113,27 +112,32 @@ pub fn insert<J: Naming, R: Wait>(
     }
 }
 
-/// Pins one of the two events.
-pub fn pin<J: Naming>(alloc: Global, reader: &mut Reader<J>) -> Option<Said> {
-    let filter = filter(alloc, r##"{"kinds":[7]}"##)?;
+/// Pins as many of the two events as the filter matches.
+pub fn pin<J: Naming>(
+    alloc: Global,
+    reader: &mut Reader<J>,
+    asked: &str,
+    count: usize,
+) -> Option<Said> {
+    let filter = filter(alloc, asked)?;
     match reader.pin(alloc, &filter) {
         Ok(pinned) => Said::ample(
-            pinned.front() == 2 && pinned.events().len() == 1 && pinned.roll().len() == 1,
+            pinned.front() == 2 && pinned.events().len() == count && pinned.roll().len() == count,
         ),
         Err(PinFault::Memory) => Said::memory(publishes(alloc, reader, 2)),
         Err(PinFault::Gone) => Said::allowed(publishes(alloc, reader, 2)),
     }
 }
 
-/// Chooses among what is pinned by a filter that both events match.
-pub fn chosen<J: Naming>(alloc: Global, reader: &mut Reader<J>, pinned: &str) -> Option<Said> {
+/// Chooses by filters that match one event each.
+pub fn chosen<J: Naming>(alloc: Global, reader: &mut Reader<J>) -> Option<Said> {
     let filters = [
         filter(alloc, r##"{"limit":1}"##)?,
         filter(alloc, r##"{"until":9}"##)?,
     ];
-    let pinned = reader.pin(alloc, &filter(alloc, pinned)?).ok()?;
-    match pinned.choose(alloc, &filters) {
+    let all = reader.all().ok()?;
+    match all.choose(alloc, &filters) {
         Ok(places) => Said::ample(places.as_slice() == [1, 0].as_slice()),
-        Err(_) => Said::memory(are_first(pinned.events(), 2)),
+        Err(_) => Said::memory(are_first(all.events(), 2)),
     }
 }

@@ -4,7 +4,7 @@ ghost use Rattle.std.specs.Prelude.{◌≡◌};
 
 use crate::events::{filter, read_shared};
 use crate::stores;
-use event_store::{Blank, Desk, EventList, Naming, Placed, Reader, Snapshot};
+use event_store::{AllEvents, Blank, Desk, EventList, Naming, Placed, Reader};
 use nostr_event::Event;
 use nostr_filter::{Bytes32List, Filter};
 use std::alloc::Global;
@@ -19,7 +19,7 @@ const IDS: usize = 100;
 
 /// How often all is pinned, and so on, with the filter.
 static PINS: [(&str, usize, &str); 3] = [
-    ("pin all", 100_000, "{}"),
+    ("pin all", 1_000, "{}"),
     (
         "pin a day",
         100,
@@ -84,7 +84,7 @@ fn measured<J: Naming, R: Print + Eprint + CpuClock + Wait>(
     let fresh = inserted(rt, alloc, &mut desk, &mut reader, events);
     tell(rt, "insert", times, fresh, start)?;
     if has_reads {
-        let all = reader.pin(alloc, &Filter::all()).ok()?;
+        let all = reader.all().ok()?;
         pins(rt, alloc, &mut reader, all.events())?;
         choices(rt, alloc, &all)?;
     }
@@ -121,7 +121,7 @@ fn insert_again<J: Naming, R: Wait>(
     event: Arc<Event>,
     published: usize,
 ) -> Option<Placed<J>> {
-    let seen = reader.pin(alloc, &Filter::all()).ok()?;
+    let seen = reader.all().ok()?;
     if seen.front() != published || seen.events().len() != published {
         return None;
     }
@@ -193,7 +193,7 @@ fn pin<J: Naming, R: Print + Eprint + CpuClock>(
 }
 
 /// Measures the choices of these events.
-fn choices<R: Print + Eprint + CpuClock>(rt: &R, alloc: Global, all: &Snapshot) -> Option<()> {
+fn choices<R: Print + Eprint + CpuClock>(rt: &R, alloc: Global, all: &AllEvents) -> Option<()> {
     for (name, times, text) in &CHOICES {
         choose(rt, alloc, all, &[filter(alloc, text)?], name, *times)?;
     }
@@ -204,7 +204,7 @@ fn choices<R: Print + Eprint + CpuClock>(rt: &R, alloc: Global, all: &Snapshot) 
 fn choose<R: Print + Eprint + CpuClock>(
     rt: &R,
     alloc: Global,
-    all: &Snapshot,
+    all: &AllEvents,
     filters: &[Filter],
     name: &str,
     times: usize,

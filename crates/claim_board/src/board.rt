@@ -149,6 +149,7 @@ impl Board {
     pub fn new(alloc: Global, plan: &Plan, lanes: &[u16]) -> Result<(Board, Vec<Lane>), BoardFault>
         ensures board { IfOk result (λ r. (r.0.cells ≡ plan.now.gives) × (r.0.lanes ≡ lanes.now)) }
         ensures lanes { IfOk result (λ r. r.1.items ≡ map (placed_at r.0.board) (named 0 lanes.now)) }
+        ensures count { IfOk result (λ _. (0 < length lanes.now) × (length lanes.now ≤ 1024)) }
         ensures fault { IfErr result (λ f. (f ≡ Lanes) ↔ ((length lanes.now ≡ 0) ⊎ (1024 < length lanes.now))) }
     {
         if lanes.is_empty() || lanes.len() > MOST_LANES {

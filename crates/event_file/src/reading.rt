@@ -1,10 +1,10 @@
 //! Reading a file of events into a store.
-ghost use Rattle.std.specs.Prelude.{◌≡◌, ℕ, ◌+◌, IfOk, OnErr, OnOk, Err};
+ghost use Rattle.std.specs.Prelude.{◌≡◌, ℕ, ◌+◌, take, IfOk, OnErr, OnOk, Err};
 ghost use Rattle.std.specs.Arc.{arc_value};
 ghost use Rattle.nostr_event.specs.EventView.{EventView};
 ghost use Rattle.mirror_run.specs.Lines.{lines_of};
 ghost use Rattle.event_file.specs.Lines.{IsEventOf, LineTells, LinesTell, IsWrong, WrongBehind};
-ghost use Rattle.event_file.specs.declared.fault.FileFault.TheVariants.{Line as line_fault};
+ghost use Rattle.event_file.specs.declared.fault.FileFault.TheVariants.{Line as line_fault, Memory as memory};
 ghost use Rattle.event_file.specs.declared.fault.LineFault.TheVariants.{Wrong as wrong};
 
 use crate::fault::{FileFault, LineFault};
@@ -68,6 +68,7 @@ pub fn insert_lines<W: Wait, J: Naming, D: Wait + Drop>(
 ) -> Result<(), FileFault>
     ensures told { OnOk result (LinesTell (lines_of text.now) desk.old desk.new) }
     ensures wrong { (n : ℕ) → result ≡ Err (line_fault n) → (before : ℕ) × (n ≡ before + 1) × WrongBehind J.most before (lines_of text.now) desk.old desk.new }
+    ensures memory { result ≡ Err memory → (before : ℕ) × LinesTell (take before (lines_of text.now)) desk.old desk.new }
 {
     let mut rest = text;
     let mut number = 0;

@@ -18,7 +18,7 @@ use Rattle.event_store.specs.contracts.state.State as State
 use Rattle.event_store.specs.contracts.state.State.TheInside as InState
 use Rattle.event_store.specs.contracts.shown.Shown as Shown
 use Rattle.event_store.specs.contracts.shown.Shown.TheInside as InShown
-use Rattle.event_store.proofs.list.EventList.TheSendSync as list
+use Rattle.event_store.proofs.event_list.EventList.TheSendSync as list
 use Rattle.event_store.proofs.mark.Mark.TheSendSync as mark
 use Rattle.event_store.proofs.blank.Front.TheSendSync as front
 use Rattle.event_store.proofs.blank.Head.TheSendSync as head

@@ -53,7 +53,7 @@ indexed_grown events more old new h is grown =
     let all : take old.count events ++ more ≡ events = ap (λ (xs : List EventView). take old.count events ++ xs) is ∙ take-append-drop old.count events in
     indexed_whole events new (subst (λ (xs : List EventView). Covers xs new) all (grown (take old.count events) h.covers))
 
-at_place : (places : List ℕ) (i : ℕ) → Contains places i → list_any (λ p. p == i) places ≡ true
+pub at_place : (places : List ℕ) (i : ℕ) → Contains places i → list_any (λ p. p == i) places ≡ true
 at_place places i h =
     let same : (i == i) ≡ true = grind (arith, nat_tests) in
     list_any_at (λ p. p == i) places h.0 i h.1 (ap (λ p. p == i) h.2 ∙ same)

@@ -7,5 +7,6 @@ pub mod Indexed
 pub mod Picked
 pub mod Asked
 pub mod Stands
+pub mod Rolled
 pub mod Ranked
 pub mod Crossing

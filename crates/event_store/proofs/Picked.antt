@@ -114,7 +114,7 @@ within_cons : (o : Option ℕ) (high : ℕ) (places : List ℕ) → ((p : ℕ) �
 within_cons None high places lt h = h
 within_cons (Some p) high places lt h = (lt p refl, h)
 
-found_within : (events : List EventView) (ids : List Id) → AllByRecursion (λ p. p < length events) (places_in events ids)
+pub found_within : (events : List EventView) (ids : List Id) → AllByRecursion (λ p. p < length events) (places_in events ids)
 found_within events [] = tt
 found_within events (id ∷ ids) =
     within_cons (place_in events id) (length events) (places_in events ids) (λ p is. place_within 0 (length events) p id events is (omega arith)) (found_within events ids)
@@ -140,7 +140,7 @@ asked_at true x id events ids i same is any later =
     first_cons (place_in events x) i (places_in events ids) (subst (λ (y : Id). place_in events y ≡ Some i) one is)
 asked_at false x id events ids i same is any later = any_cons (place_in events x) i (places_in events ids) (later any)
 
-asked_found : (events : List EventView) (ids : List Id) (id : Id) (i : ℕ) → place_in events id ≡ Some i → list_any (λ (x : Id). bytes_eq x.0 id.0) ids ≡ true
+pub asked_found : (events : List EventView) (ids : List Id) (id : Id) (i : ℕ) → place_in events id ≡ Some i → list_any (λ (x : Id). bytes_eq x.0 id.0) ids ≡ true
     → list_any (λ p. p == i) (places_in events ids) ≡ true
 asked_found events [] id i is any = absurd (true≢false (sym any))
 asked_found events (x ∷ ids) id i is any = asked_at (bytes_eq x.0 id.0) x id events ids i refl is any (asked_found events ids id i is)
@@ -151,12 +151,6 @@ have_matching f events ids apart asked = record {
   whole = λ i e lt yes. any_in_order nat_cmp_total nat_cmp-IsAntisymmetric (λ p. p == i) (places_in events ids)
       ∙ asked_found events ids (get_or events i e).id i (place_at 0 i events i e apart lt (omega arith)) (asked i e lt yes);
 }
-
-pub have_at : (f : Filter) (state events : List EventView) (ids asked : List Id) (found places : List ℕ) → events ≡ state → Distinct state → asked ≡ ids → AreAsked f state ids
-    → found ≡ in_order nat_cmp (places_in state asked) → places ≡ found → HaveMatching f events places
-have_at f state events ids asked found places same apart named all is at =
-    let one : in_order nat_cmp (places_in state ids) ≡ places = ap (λ xs. in_order nat_cmp (places_in state xs)) (sym named) ∙ sym is ∙ sym at in
-    subst (λ (xs : List EventView). HaveMatching f xs places) (sym same) (subst (λ (ps : List ℕ). HaveMatching f state ps) one (have_matching f state ids apart all))
 
 -- ---- one turn of a loop
 

@@ -3,7 +3,7 @@ use Rattle.std.proofs.Common.{◌≡◌, ℕ, suc, inl, inr, ◌+◌, ◌<◌, �
 use Rattle.std.specs.Prelude.{option_to_list}
 use Rattle.std.specs.List.{list_any, filter, enumerate_from}
 use Rattle.std.proofs.lemmas.Bool.{cases_lt}
-use Rattle.std.proofs.lemmas.List.{append-nil, map-append}
+use Rattle.std.proofs.lemmas.List.{append-nil}
 use Rattle.std.proofs.lemmas.Grind.{flat_map-append}
 use Rattle.std.proofs.lemmas.Option.{slice_get-get_or}
 use Rattle.std.specs.Arc.{arc_value}
@@ -13,7 +13,7 @@ use Rattle.nostr_event.specs.EventView.{EventView}
 use Rattle.nostr_filter.specs.declared.filter.Filter.{Filter}
 use Rattle.nostr_filter.specs.declared.choice.Rank.{Rank}
 use Rattle.nostr_filter.specs.Matching.{matches_of}
-use Rattle.nostr_filter.specs.Choice.{newest_first, in_order, rank_of, matching_from, cut_of, picked, chosen}
+use Rattle.nostr_filter.specs.Choice.{newest_first, in_order, rank_of, matching_from, cut_of, picked}
 use Rattle.event_store.specs.Picking.{Rise, HaveMatching, ranks_from}
 use Rattle.event_store.proofs.Picked.{rise_more, none_at, tail_at, missed, took_more}
 
@@ -34,9 +34,6 @@ picked_are f events list is = ap (λ rs. take (cut_of f) (in_order newest_first 
 all_picked : (fs : List Filter) (xs ys : List (Arc EventView Global)) → map arc_value xs ≡ map arc_value ys → flat_map (picked xs) fs ≡ flat_map (picked ys) fs
 all_picked [] xs ys is = refl
 all_picked (f ∷ fs) xs ys is = (λ i. (picked_are f xs (map arc_value ys) is ∙ sym (picked_are f ys (map arc_value ys) refl)) i ++ all_picked fs xs ys is i)
-
-pub chosen_same : (fs : List Filter) (xs ys : List (Arc EventView Global)) → map arc_value xs ≡ map arc_value ys → chosen fs xs ≡ chosen fs ys
-chosen_same fs xs ys is = ap (λ rs. map (λ (r : Rank). r.place) (in_order newest_first rs)) (all_picked fs xs ys is)
 
 -- ---- the ranks of the events at some places, among them all that match
 
@@ -93,7 +90,3 @@ ranks_more f events all more places i e lt at is put =
     ∙ sym (flat_map-append (rank_at f events) (take i places) (p ∷ [])) ∙ ap (flat_map (rank_at f events)) (sym (took_more places i p (slice_get-get_or places i 0 lt)))
 
 -- one turn of a loop that shares references
-pub arcs_more : (list : List EventView) (all more : List (Arc EventView Global)) (a : Arc EventView Global) (i : ℕ) (e : EventView) → slice_get list i ≡ Some e → map arc_value all ≡ take i list → more ≡ all ++ a ∷ []
-    → arc_value a ≡ e → map arc_value more ≡ take (i + 1) list
-arcs_more list all more a i e at is put same =
-    ap (map arc_value) put ∙ map-append arc_value all (a ∷ []) ∙ (λ j. is j ++ same j ∷ []) ∙ sym (took_more list i e at)

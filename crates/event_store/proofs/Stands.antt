@@ -2,21 +2,21 @@
 use Rattle.std.proofs.Common.{◌≡◌, ℕ, ◌+◌, ◌≤◌, inl, inr, ltb, leb, true, false, List, [], ◌∷◌, ◌++◌, length, map, None, Some, Option, ap, sym, subst, arith, append_assoc, length-append, ◌∙◌}
 use Rattle.std.specs.Prelude.{All, IsPermutation, filter, bytes_eq, if◌then◌else◌}
 use Rattle.std.proofs.lemmas.Bool.{cases_lt, lt-ltb, le-ltb, le-leb, lt-leb}
-use Rattle.std.proofs.lemmas.List.{map-append}
+use Rattle.std.proofs.lemmas.List.{map-append, length-map, take_all, take-append-le}
 use Rattle.std.proofs.lemmas.List.Elements.{All-head, All-tail}
-use Rattle.std.proofs.lemmas.List.Sorted.{IsPermutation-refl, IsPermutation-cons, IsPermutation-sym, IsPermutation-trans, IsPermutation-append_left, IsPermutation-to_front}
+use Rattle.std.proofs.lemmas.List.Sorted.{length_permutation, IsPermutation-refl, IsPermutation-cons, IsPermutation-sym, IsPermutation-trans, IsPermutation-append_left, IsPermutation-to_front}
 use Rattle.neg_codec.specs.declared.Id.{Id}
 use Rattle.neg_codec.specs.declared.Item.{Item}
 use Rattle.neg_codec.specs.Keys.{place, least, infinity, IsKey}
 use Rattle.neg_codec.proofs.Stretches.{key_below}
 use Rattle.nostr_event.specs.EventView.{EventView, item_of}
-use Rattle.item_roll.specs.Parts.{IsRoll, is_between, part}
+use Rattle.item_roll.specs.Parts.{is_between, part}
 use Rattle.id_map.specs.declared.map.IdMap.{IdMap}
 use Rattle.id_map.specs.Places.{place_of, SetsPlace}
 use Rattle.newest.specs.Newest.{AreOf}
 use Rattle.event_store.specs.Events.{has_id}
 use Rattle.event_index.specs.Postings.{Covered, Covers}
-use Rattle.event_store.specs.States.{IsState, IsIndexed}
+use Rattle.event_store.specs.States.{IsState, IsRolled, IsIndexed}
 use Rattle.event_store.proofs.Ids.{distinct_push, place_push}
 use Rattle.event_store.proofs.Indexed.{indexed_whole}
 
@@ -50,7 +50,7 @@ cut_in_two k (x ∷ items) keys =
           rw (a, b, c, d) (IsPermutation-trans (x ∷ items) (x ∷ (front ++ back)) (front ++ x ∷ back) (IsPermutation-cons x items (front ++ back) rest) (moved_past front back x))
     ]
 
-items_push : (events : List EventView) (e : EventView) (roll : List Item) (k : Item) → k ≡ item_of e → All IsKey roll → IsPermutation (map item_of events) roll
+pub items_push : (events : List EventView) (e : EventView) (roll : List Item) (k : Item) → k ≡ item_of e → All IsKey roll → IsPermutation (map item_of events) roll
     → IsPermutation (map item_of (events ++ e ∷ [])) (part roll least k ++ k ∷ part roll k infinity)
 items_push events e roll k is keys moved =
     let all = map item_of events in
@@ -62,27 +62,46 @@ items_push events e roll k is keys moved =
     (IsPermutation-trans (all ++ k ∷ []) (k ∷ all) (front ++ k ∷ back) (IsPermutation-to_front all k)
     (IsPermutation-trans (k ∷ all) (k ∷ (front ++ back)) (front ++ k ∷ back) first (moved_past front back k)))
 
+-- ---- a roll of the first events
+
+pub rolled_whole : (events : List EventView) (roll : List Item) → IsPermutation (map item_of events) roll → IsRolled events roll
+rolled_whole events roll moved =
+    let len : length roll ≡ length events = length_permutation (map item_of events) roll moved ∙ length-map events item_of in
+    record {
+      within = omega (arith, len);
+      items = subst (λ (xs : List EventView). IsPermutation (map item_of xs) roll) (sym (take_all (length roll) events (omega (arith, len)))) moved;
+    }
+
+pub whole_rolled : (events : List EventView) (roll : List Item) → IsRolled events roll → length roll ≡ length events → IsPermutation (map item_of events) roll
+whole_rolled events roll h len = subst (λ (xs : List EventView). IsPermutation (map item_of xs) roll) (take_all (length roll) events (omega (arith, len))) h.items
+
+-- an event behind the others isn't among those that the roll has
+pub rolled_more : (events more : List EventView) (e : EventView) (roll : List Item) → more ≡ events ++ e ∷ [] → IsRolled events roll → IsRolled more roll
+rolled_more events more e roll is h = subst (λ (xs : List EventView). IsRolled xs roll) (sym is) (record {
+  within = omega (arith, h.within, length-append events (e ∷ []));
+  items = subst (λ (xs : List EventView). IsPermutation (map item_of xs) roll) (sym (take-append-le (length roll) events (e ∷ []) h.within)) h.items;
+})
+
 pub nothing_stands : (events : List EventView) (ids : IdMap) (roll : List Item) (newest : List (ℕ × EventView)) (index : Covered) → events ≡ [] → ((id : Id) → place_of ids id ≡ None) → IsPermutation [] roll → newest ≡ []
     → Covers [] index → IsState events ids roll newest index
 nothing_stands events ids roll newest index is none moved empty covers = subst (λ (xs : List EventView). IsState xs ids roll newest index) (sym is) (record {
   distinct = λ i j d lt within. absurd (omega arith);
   finds = none;
-  items = moved;
+  rolled = rolled_whole [] roll moved;
   ordered = subst (λ (xs : List (ℕ × EventView)). AreOf [] xs) (sym empty) (IsPermutation-refl []);
   counted = ap length empty;
   indexed = indexed_whole [] index covers;
 })
 
 -- a new event behind all others
-pub more_stands : (events more : List EventView) (ids new : IdMap) (roll longer : List Item) (newest newer : List (ℕ × EventView)) (index wider : Covered) (e : EventView) (k : Item) → IsState events ids roll newest index → has_id e.id events ≡ false
-    → more ≡ events ++ e ∷ [] → SetsPlace e.id (length events) ids new → IsRoll roll → k ≡ item_of e → longer ≡ part roll least k ++ k ∷ part roll k infinity
-    → AreOf (events ++ e ∷ []) newer → length newer ≡ length newest + 1 → IsIndexed more wider → IsState more new longer newer wider
-more_stands events more ids new roll longer newest newer index wider e k h none is sets ordered item put among counted indexed =
+pub more_stands : (events more : List EventView) (ids new : IdMap) (roll longer : List Item) (newest newer : List (ℕ × EventView)) (index wider : Covered) (e : EventView) → IsState events ids roll newest index → has_id e.id events ≡ false
+    → more ≡ events ++ e ∷ [] → SetsPlace e.id (length events) ids new → AreOf (events ++ e ∷ []) newer → length newer ≡ length newest + 1 → IsRolled more longer → IsIndexed more wider → IsState more new longer newer wider
+more_stands events more ids new roll longer newest newer index wider e h none is sets among counted rolled indexed =
     subst (λ (xs : List EventView). IsState xs new longer newer wider) (sym is) (record {
       distinct = distinct_push events e h.distinct none;
       finds = λ id. sets id ∙ ap (λ (o : Option ℕ). if bytes_eq e.id.0 id.0 then Some (length events) else o) (h.finds id)
           ∙ sym (place_push 0 (length events) id e events (omega arith) none);
-      items = subst (λ (xs : List Item). IsPermutation (map item_of (events ++ e ∷ [])) xs) (sym put) (items_push events e roll k item ordered.keys h.items);
+      rolled = subst (λ (xs : List EventView). IsRolled xs longer) is rolled;
       ordered = among;
       counted = omega (arith, counted, h.counted, length-append events (e ∷ []));
       indexed = subst (λ (xs : List EventView). IsIndexed xs wider) is indexed;

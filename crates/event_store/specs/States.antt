@@ -14,12 +14,16 @@ pub record IsIndexed (events : List EventView) (index : Covered) : Type 0 where
   pub within : index.count ≤ length events
   pub covers : Covers (take index.count events) index
 
--- the map finds each event at its place, the roll has the events' items, the order has each event with its place, and the index is of
--- the first of them
+-- the roll has the items of the first of the events
+pub record IsRolled (events : List EventView) (roll : List Item) : Type 0 where
+  pub within : length roll ≤ length events
+  pub items : IsPermutation (map item_of (take (length roll) events)) roll
+
+-- the map finds each event at its place, the order has each event with its place, and the roll and the index are of the first of them
 pub record IsState (events : List EventView) (ids : IdMap) (roll : List Item) (newest : List (ℕ × EventView)) (index : Covered) : Type 0 where
   pub distinct : Distinct events
   pub finds : (id : Id) → place_of ids id ≡ place_in events id
-  pub items : IsPermutation (map item_of events) roll
+  pub rolled : IsRolled events roll
   pub ordered : AreOf events newest
   pub counted : length newest ≡ length events
   pub indexed : IsIndexed events index

@@ -7,9 +7,9 @@ ghost use Rattle.nostr_event.specs.EventView.{EventView};
 ghost use Rattle.nostr_filter.specs.Choice.{newest_first, in_order, cut_of, picked, chosen};
 ghost use Rattle.event_store.specs.Picking.{HaveMatching, ranks_from};
 
+use crate::event_list::EventList;
 use crate::indexing::places_marked;
-use crate::list::EventList;
-use crate::picking::{listed, places_of};
+use crate::picking::places_listed;
 use crate::state::State;
 use nostr_event::Event;
 use nostr_filter::{Bytes32List, Filter, Rank, cut, put_in_order, rank_at};
@@ -65,8 +65,7 @@ fn pick_by_ids(
     requires { filter.now.ids ≡ Some ids.now }
     ensures { (events : List (AnArc EventView AGlobal)) → map arc_value events ≡ state.now → IfOk result (λ v. v.items ≡ picked events filter.now) }
 {
-    let ids = listed(alloc, ids)?;
-    let places = places_of(alloc, state, ids.as_slice())?;
+    let places = places_listed(alloc, state, filter, ids)?;
     pick_at(alloc, state.events(), filter, places.as_slice())
 }
 
@@ -123,19 +122,4 @@ fn put_rank(
         ranks.push(rank_at(place, event))?;
     }
     Ok(())
-}
-
-/// The same for a list of events, each of which is looked at for each filter.
-pub fn choose_among(
-    alloc: Global,
-    list: &EventList,
-    filters: &[Filter],
-) -> Result<Vec<usize>, AllocError>
-    ensures { (events : List (AnArc EventView AGlobal)) → map arc_value events ≡ list.now → IfOk result (λ v. v.items ≡ chosen filters.now events) }
-{
-    let mut all = Vec::with_capacity(alloc, list.len())?;
-    for place in 0..list.len() {
-        all.push(Arc::try_clone(list.get(place))?)?;
-    }
-    nostr_filter::choose(alloc, filters, all.as_slice())
 }

@@ -4,7 +4,7 @@ ghost use Rattle.std.specs.Arc.{arc_value};
 ghost use Rattle.event_store.specs.States.{IsIndexed};
 ghost use Rattle.event_store.specs.Picking.{HaveMatching};
 
-use crate::list::EventList;
+use crate::event_list::EventList;
 use crate::picking::put_in_order;
 use crate::state::State;
 use event_index::{BATCH, Index};
@@ -43,8 +43,8 @@ pub fn index_over(
     Ok(Arc::new(alloc, index.grown(alloc, more.as_slice())?)?)
 }
 
-// Puts the places from one on below another behind the others.
-fn put_range(places: &mut Vec<usize>, start: usize, end: usize) -> Result<(), AllocError>
+/// Puts the places from one on below another behind the others.
+pub fn put_range(places: &mut Vec<usize>, start: usize, end: usize) -> Result<(), AllocError>
     ensures below { OnOk result (All (λ p. p < end) places.old.items → All (λ p. p < end) places.new.items) }
     ensures kept { OnOk result ((i : ℕ) → Contains places.old.items i → Contains places.new.items i) }
     ensures put { OnOk result ((i : ℕ) → start ≤ i → i < end → Contains places.new.items i) }

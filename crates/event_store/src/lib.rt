@@ -1,9 +1,11 @@
 //! A store of events: one desk that inserts, and readers that pin what is published and never wait.
 #![tactic(auto)]
 
+mod all;
 mod blank;
 mod choosing;
 mod desk;
+mod event_list;
 mod indexing;
 mod list;
 mod mark;
@@ -12,15 +14,17 @@ mod open;
 mod picking;
 mod placed;
 mod reader;
+mod rolling;
 mod rule;
 mod shown;
 mod snapshot;
 mod state;
 mod steps;
 
+pub use all::AllEvents;
 pub use blank::Blank;
 pub use desk::{Desk, Filled, InsertFault};
-pub use list::EventList;
+pub use event_list::EventList;
 pub use name::Naming;
 pub use open::{StoreFault, open_small, open_store};
 pub use placed::Placed;

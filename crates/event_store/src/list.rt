@@ -1,4 +1,4 @@
-//! Lists of events, in chunks that lists share.
+//! Events in chunks, which lists share.
 ghost use Rattle.std.specs.Prelude.{◌≡◌, ◌<◌, ◌+◌, ◌^◌, [], ◌∷◌, ◌++◌, length, map, slice_get, Some, IfOk, OnOk, OnErr};
 ghost use Rattle.std.specs.Arc.{arc_value};
 ghost use Rattle.event_store.specs.Chunks.{joined, AreFull, IsChunked};
@@ -29,7 +29,8 @@ impl Model for Chunk {
 }
 
 impl Chunk {
-    fn new(alloc: Global) -> Chunk
+    /// No events.
+    pub fn new(alloc: Global) -> Chunk
         ensures { result ≡ [] }
     {
         Chunk {
@@ -37,13 +38,15 @@ impl Chunk {
         }
     }
 
-    fn len(&self) -> usize
+    /// How many events there are.
+    pub fn len(&self) -> usize
         ensures { result ≡ length self.now }
     {
         self.events.len()
     }
 
-    fn get(&self, i: usize) -> &Arc<Event>
+    /// The event at a place, the first at 0.
+    pub fn get(&self, i: usize) -> &Arc<Event>
         requires { i < length self.now }
         ensures { slice_get self.now i ≡ Some (arc_value result.now) }
     {
@@ -89,8 +92,8 @@ fn shared_chunks(alloc: Global, chunks: &[Arc<Chunk>]) -> Result<Vec<Arc<Chunk>>
     Ok(all)
 }
 
-// Puts the event behind the others of the chunk, which is copied where it is shared.
-fn put_last(chunk: &mut Arc<Chunk>, alloc: Global, event: &Arc<Event>) -> Result<(), AllocError>
+/// Puts the event behind the others of the chunk, which is copied where it is shared.
+pub fn put_last(chunk: &mut Arc<Chunk>, alloc: Global, event: &Arc<Event>) -> Result<(), AllocError>
     ensures ok { OnOk result (arc_value chunk.new ≡ arc_value chunk.old ++ arc_value event.now ∷ []) }
     ensures err { OnErr result (chunk.new ≡ chunk.old) }
 {
@@ -169,12 +172,12 @@ fn event_at(chunks: &[Arc<Chunk>], place: usize) -> &Arc<Event>
 
 /// Events in the order in which they were put in. Contracts see them as their list.
 #[derive(Drop)]
-pub struct EventList {
+pub struct Chunks {
     full: Arc<Vec<Arc<Chunk>>>,
     last: Arc<Chunk>,
 }
 
-impl Model for EventList {
+impl Model for Chunks {
     ghost use Rattle.std.specs.Prelude.{List, ◌++◌, map};
     ghost use Rattle.std.specs.Arc.{arc_value};
     ghost use Rattle.nostr_event.specs.EventView.{EventView};
@@ -187,11 +190,11 @@ impl Model for EventList {
     ghost invariant = { λ l. IsChunked (map arc_value (arc_value l.full).items) (arc_value l.last) };
 }
 
-impl EventList {
-    pub(crate) fn new(alloc: Global) -> Result<EventList, AllocError>
+impl Chunks {
+    pub fn new(alloc: Global) -> Result<Chunks, AllocError>
         ensures { IfOk result (λ l. l ≡ []) }
     {
-        Ok(EventList {
+        Ok(Chunks {
             full: Arc::new(alloc, Vec::new(alloc))?,
             last: Arc::new(alloc, Chunk::new(alloc))?,
         })
@@ -218,17 +221,17 @@ impl EventList {
     }
 
     /// The same list. No event is copied, and no chunk.
-    pub(crate) fn share(&self) -> Result<EventList, AllocError>
+    pub fn share(&self) -> Result<Chunks, AllocError>
         ensures { IfOk result (λ l. l ≡ self.now) }
     {
-        Ok(EventList {
+        Ok(Chunks {
             full: Arc::try_clone(&self.full)?,
             last: Arc::try_clone(&self.last)?,
         })
     }
 
     /// Puts the event behind all others. What is shared with other lists is copied: of the events one chunk at most.
-    pub(crate) fn push(&mut self, alloc: Global, event: &Arc<Event>) -> Result<(), AllocError>
+    pub fn push(&mut self, alloc: Global, event: &Arc<Event>) -> Result<(), AllocError>
         requires { length self.old + 1 < 2 ^ 64 }
         ensures ok { OnOk result (self.new ≡ self.old ++ arc_value event.now ∷ []) }
         ensures err { OnErr result (self.new ≡ self.old) }

@@ -11,8 +11,8 @@ ghost use Rattle.nostr_filter.specs.Choice.{in_order};
 ghost use Rattle.event_store.specs.Events.{matching, places_in};
 ghost use Rattle.event_store.specs.Picking.{AreAsked, AreWithin, HaveMatching};
 
-use crate::indexing::places_marked;
-use crate::list::EventList;
+use crate::event_list::EventList;
+use crate::indexing::{places_marked, put_range};
 use crate::state::State;
 use item_roll::Roll;
 use neg_codec::{Bound, Id, Key};
@@ -41,11 +41,8 @@ pub fn leaves_none_out(filter: &Filter) -> bool
 pub fn pick(alloc: Global, state: &State, filter: &Filter) -> Result<EventList, AllocError>
     ensures { IfOk result (λ l. l ≡ matching filter.now state.now) }
 {
-    match ids_asked(alloc, state, filter)? {
-        Some(ids) => {
-            let places = places_of(alloc, state, ids.as_slice())?;
-            pick_at(alloc, state.events(), filter, places.as_slice())
-        }
+    match places_asked(alloc, state, filter)? {
+        Some(places) => pick_at(alloc, state.events(), filter, places.as_slice()),
         None => pick_marked(alloc, state, filter),
     }
 }
@@ -61,14 +58,55 @@ fn pick_marked(alloc: Global, state: &State, filter: &Filter) -> Result<EventLis
     }
 }
 
-// The ids among which are those of all events that the filter matches, where they are few.
-fn ids_asked(alloc: Global, state: &State, filter: &Filter) -> Result<Option<Vec<Id>>, AllocError>
-    ensures { IfOk result (λ o. IfSome o (λ ids. AreAsked filter.now state.now ids.items)) }
+// Places of events in order, among them those of all that the filter matches: of its ids, or else of what stands within its times,
+// where that is few.
+fn places_asked(
+    alloc: Global,
+    state: &State,
+    filter: &Filter,
+) -> Result<Option<Vec<usize>>, AllocError>
+    ensures { IfOk result (λ o. IfSome o (λ v. HaveMatching filter.now state.now v.items)) }
 {
-    if let Some(ids) = &filter.ids {
-        return Ok(Some(listed(alloc, ids)?));
+    match &filter.ids {
+        Some(ids) => Ok(Some(places_listed(alloc, state, filter, ids)?)),
+        None => places_within(alloc, state, filter),
     }
-    ids_within(alloc, state.roll(), filter)
+}
+
+/// The places of the events with the filter's ids, in order.
+pub fn places_listed(
+    alloc: Global,
+    state: &State,
+    filter: &Filter,
+    ids: &Bytes32List,
+) -> Result<Vec<usize>, AllocError>
+    requires { filter.now.ids ≡ Some ids.now }
+    ensures { IfOk result (λ v. HaveMatching filter.now state.now v.items) }
+{
+    let ids = listed(alloc, ids)?;
+    state.events();
+    let mut places = found(alloc, state, ids.as_slice())?;
+    put_in_order(&mut places);
+    Ok(places)
+}
+
+// Of the events of which the roll has the items the places of those within the filter's times, if they are few, and those of all
+// others.
+fn places_within(
+    alloc: Global,
+    state: &State,
+    filter: &Filter,
+) -> Result<Option<Vec<usize>>, AllocError>
+    ensures { IfOk result (λ o. IfSome o (λ v. HaveMatching filter.now state.now v.items)) }
+{
+    let roll = state.roll();
+    let Some(ids) = ids_within(alloc, roll, filter)? else {
+        return Ok(None);
+    };
+    let mut places = found(alloc, state, ids.as_slice())?;
+    put_range(&mut places, roll.len(), state.events().len())?;
+    put_in_order(&mut places);
+    Ok(Some(places))
 }
 
 // The ids of the items from the filter's first time on, up to its last, where they are few.
@@ -109,21 +147,13 @@ fn last_bound(filter: &Filter) -> Bound
     }
 }
 
-pub fn listed(alloc: Global, ids: &Bytes32List) -> Result<Vec<Id>, AllocError>
+fn listed(alloc: Global, ids: &Bytes32List) -> Result<Vec<Id>, AllocError>
     ensures { IfOk result (λ v. v.items ≡ map id_of_bytes ids.now) }
 {
     ids.as_slice().iter().map(|bytes| Id(*bytes)).collect(alloc)
 }
 
-/// The places of the events with these ids, in order.
-pub fn places_of(alloc: Global, state: &State, ids: &[Id]) -> Result<Vec<usize>, AllocError>
-    ensures { IfOk result (λ v. v.items ≡ in_order nat_cmp (places_in state.now ids.now)) }
-{
-    let mut places = found(alloc, state, ids)?;
-    put_in_order(&mut places);
-    Ok(places)
-}
-
+// The places of the events with these ids.
 fn found(alloc: Global, state: &State, ids: &[Id]) -> Result<Vec<usize>, AllocError>
     ensures { IfOk result (λ v. v.items ≡ places_in state.now ids.now) }
 {

@@ -7,6 +7,7 @@ ghost use Rattle.nostr_event.specs.EventView.{item_of};
 ghost use Rattle.item_roll.specs.Parts.{IsRoll};
 ghost use Rattle.event_store.specs.Events.{matching, Distinct};
 
+use crate::all::AllEvents;
 use crate::blank::Front;
 use crate::name::Naming;
 use crate::placed::Placed;
@@ -73,7 +74,7 @@ impl<J: Naming> Reader<J> {
     }
 
     /// Pins the events that match, of the list that is published. That list begins with all that was seen or learnt. The
-    /// filter's limit has no part in it. A filter that leaves nothing out takes no memory.
+    /// filter's limit has no part in it.
     pub fn pin(&mut self, alloc: Global, filter: &Filter) -> Result<Snapshot, PinFault>
         ensures kept { IsPrefix self.old self.new }
         ensures all { IfOk result (λ s. s.all ≡ self.new) }
@@ -85,6 +86,15 @@ impl<J: Naming> Reader<J> {
     {
         let state = self.see()?;
         Snapshot::of(alloc, state, filter).map_err(|_| PinFault::Memory)
+    }
+
+    /// All that is published. That list begins with all that was seen or learnt. It takes no memory.
+    pub fn all(&mut self) -> Result<AllEvents, PinFault>
+        ensures kept { IsPrefix self.old self.new }
+        ensures list { IfOk result (λ a. a ≡ self.new) }
+        ensures gone { IfErr result (λ f. f ≡ PinFault.Gone → self.new ≡ self.old) }
+    {
+        Ok(AllEvents::of(self.see()?))
     }
 
     fn see(&mut self) -> Result<Arc<State>, PinFault>

@@ -1,15 +1,11 @@
 //! What a pin gives.
-ghost use Rattle.std.specs.Prelude.{◌≡◌, List, length, map, IfOk, IsPermutation};
-ghost use Rattle.std.specs.declared.alloc.Global.{Global as AGlobal};
-ghost use Rattle.std.specs.declared.sync.Arc.{Arc as AnArc};
+ghost use Rattle.std.specs.Prelude.{◌≡◌, length, map, IfOk, IsPermutation};
 ghost use Rattle.std.specs.Arc.{arc_value};
-ghost use Rattle.nostr_event.specs.EventView.{EventView, item_of};
-ghost use Rattle.nostr_filter.specs.Choice.{chosen};
+ghost use Rattle.nostr_event.specs.EventView.{item_of};
 ghost use Rattle.item_roll.specs.Parts.{IsRoll};
 ghost use Rattle.event_store.specs.Events.{matching, Distinct};
 
-use crate::choosing::{choose_among, choose_of};
-use crate::list::EventList;
+use crate::event_list::EventList;
 use crate::picking::{leaves_none_out, pick};
 use crate::state::State;
 use item_roll::Roll;
@@ -22,22 +18,17 @@ use std::sync::Arc;
 #[derive(Drop)]
 pub struct Snapshot {
     state: Arc<State>,
-    // Whether the pinned events are all that were published.
-    whole: bool,
     events: EventList,
     roll: Arc<Roll>,
 }
 
 impl Model for Snapshot {
-    ghost use Rattle.std.specs.Prelude.{◌≡◌, true};
     ghost use Rattle.std.specs.Arc.{arc_value};
     ghost use Rattle.event_store.specs.Events.{Pinned, pinned};
 
     ghost Value = { Pinned };
 
     ghost view = { λ s. pinned (arc_value s.state) s.events (arc_value s.roll) };
-
-    ghost invariant = { λ s. s.whole ≡ true → s.events ≡ arc_value s.state };
 }
 
 impl Snapshot {
@@ -55,11 +46,10 @@ impl Snapshot {
         let all = state.events();
         if leaves_none_out(filter) {
             let events = all.share()?;
-            let roll = Arc::try_clone(state.roll())?;
+            let roll = state.whole_roll(alloc)?;
             roll.len();
             return Ok(Snapshot {
                 state,
-                whole: true,
                 events,
                 roll,
             });
@@ -70,7 +60,6 @@ impl Snapshot {
         let roll = Arc::new(alloc, roll)?;
         Ok(Snapshot {
             state,
-            whole: false,
             events,
             roll,
         })
@@ -95,19 +84,6 @@ impl Snapshot {
         ensures { result.now ≡ self.now.roll }
     {
         &self.roll
-    }
-
-    /// The places in `events` of those that the filters choose, in the order in which they are sent: each filter chooses the newest
-    /// that it matches, as many as the lesser of its limit and 5,000, and each event comes once. Where nothing was left out of the
-    /// snapshot, a filter with ids looks these up, and each other one reads from the newest event on until it has its number.
-    pub fn choose(&self, alloc: Global, filters: &[Filter]) -> Result<Vec<usize>, AllocError>
-        ensures { (events : List (AnArc EventView AGlobal)) → map arc_value events ≡ self.now.events → IfOk result (λ v. v.items ≡ chosen filters.now events) }
-    {
-        if self.whole {
-            choose_of(alloc, &self.state, filters)
-        } else {
-            choose_among(alloc, &self.events, filters)
-        }
     }
 }
 

@@ -4,10 +4,11 @@ ghost use Rattle.nostr_event.specs.EventView.{item_of};
 ghost use Rattle.std.specs.Arc.{arc_value};
 ghost use Rattle.event_store.specs.Events.{has_id, place_in, Distinct};
 ghost use Rattle.newest.specs.Newest.{AreOf};
-ghost use Rattle.event_store.specs.States.{IsState, IsIndexed};
+ghost use Rattle.event_store.specs.States.{IsState, IsRolled, IsIndexed};
 
+use crate::event_list::EventList;
 use crate::indexing::index_over;
-use crate::list::EventList;
+use crate::rolling::{roll_of_all, roll_over};
 use event_index::Index;
 use id_map::IdMap;
 use item_roll::Roll;
@@ -64,11 +65,18 @@ impl State {
         &self.events
     }
 
-    /// The items of the events.
-    pub fn roll(&self) -> &Arc<Roll>
-        ensures { IsPermutation (map item_of self.now) (arc_value result.now) }
+    /// The items of the first of the events.
+    pub fn roll(&self) -> &Roll
+        ensures { IsRolled self.now result.now }
     {
         &self.roll
+    }
+
+    /// The items of all events.
+    pub fn whole_roll(&self, alloc: Global) -> Result<Arc<Roll>, AllocError>
+        ensures { IfOk result (λ r. IsPermutation (map item_of self.now) (arc_value r)) }
+    {
+        roll_of_all(alloc, &self.roll, &self.events)
     }
 
     /// The events in the order in which they are sent.
@@ -99,7 +107,7 @@ impl State {
         self.place(id).is_some()
     }
 
-    /// These events and one more. Of what stands here one chunk of each list is copied, and the lists of chunks.
+    /// These events and one more. Of what stands here the last events are copied, and the nodes and runs that change.
     pub fn with(&self, alloc: Global, event: &Arc<Event>) -> Result<State, AllocError>
         requires fresh { has_id (arc_value event.now).id self.now ≡ false }
         requires room { length self.now < 1000000 }
@@ -110,16 +118,12 @@ impl State {
         let place = self.events.len();
         let ids = self.ids.insert(alloc, event.id(), place)?;
         let newest = self.newest.insert(alloc, place, Arc::try_clone(event)?)?;
-        self.roll.len();
-        let mut roll = self.roll.share(alloc)?;
-        let Ok(()) = roll.insert(event.item()) else {
-            return Err(AllocError);
-        };
+        let roll = roll_over(alloc, &self.roll, &events)?;
         let index = index_over(alloc, &self.index, &events)?;
         Ok(State {
             events,
             ids,
-            roll: Arc::new(alloc, roll)?,
+            roll,
             newest,
             index,
         })

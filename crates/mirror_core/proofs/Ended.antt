@@ -1,7 +1,7 @@
 -- All lanes have left, so each cell has come to its end.
 use Rattle.std.proofs.Common.{◌≡◌, ◌≢◌, ◌⊎◌, ℕ, suc, zero, ◌+◌, ◌<◌, List, [], ◌∷◌, ◌++◌, map, length, get_or, Some, sym, refl, ap, ◌∙◌, subst, ⊎_elim, inl, inr, Bool, true, arith}
 use Rattle.std.specs.Prelude.{All, Contains, slice_get, slice_index}
-use Rattle.std.proofs.lemmas.List.{get_or-map}
+use Rattle.std.proofs.lemmas.List.{get_or-map, drop_all}
 use Rattle.std.proofs.lemmas.Option.{slice_get_within, slice_get-get_or, get_or_from_slice_get}
 use mathlib.Core.Option.{some}
 use lib.ListN.{get_elem?}
@@ -156,3 +156,14 @@ module _ {J S : Type 0} (cells : List (Id × ℕ)) (log : S → List Fetching) (
       let name = named_at 0 lanes w (fresh 0 0) lt in
       let its : at.0.own.relay ≡ relay = at.7.same.relay ∙ (ap (λ (z : LaneRecord). z.relay) name ∙ get_or_from_slice_get lanes w relay 0 mine) in
       subst (λ (r : ℕ). AreIdsOf cells r 0 (length cells) (asked_in (get_or (logs_gained log ss ts) w []))) its (subst (λ (z : List Fetching). AreIdsOf cells at.0.own.relay 0 (length cells) (asked_in z)) at.6 at.7.asked)
+
+-- a log that stays gains nothing
+none_gained : {S : Type 0} (log : S → List Fetching) (ss : List S) (w : ℕ) → get_or (logs_gained log ss ss) w [] ≡ []
+none_gained log [] zero = refl
+none_gained log [] (suc w) = refl
+none_gained log (s ∷ ss) zero = drop_all (length (log s)) (log s) (omega arith)
+none_gained log (s ∷ ss) (suc w) = none_gained log ss w
+
+pub none_asked : {S : Type 0} (cells : List (Id × ℕ)) (lanes : List ℕ) (log : S → List Fetching) (ss : List S) → AskInOrder cells lanes (logs_gained log ss ss)
+none_asked cells lanes log ss w relay mine =
+    subst (λ (z : List Fetching). AreIdsOf cells relay 0 (length cells) (asked_in z)) (sym (none_gained log ss w)) (omega arith)

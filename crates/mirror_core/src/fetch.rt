@@ -1,6 +1,6 @@
 //! Fetching the cells of a board from sources, each with a lane of its own.
 
-ghost use Rattle.std.specs.Prelude.{◌≡◌, ◌≢◌, ◌<◌, ◌^◌, ◌-◌, All, map, length, ℕ, Err, IfOk};
+ghost use Rattle.std.specs.Prelude.{◌≡◌, ◌≢◌, ◌<◌, ◌^◌, ◌-◌, All, map, length, ℕ, Err, IfOk, IfErr};
 ghost use Rattle.claim_board.specs.Rules.{named};
 ghost use Rattle.claim_board.specs.Views.{placed_at};
 ghost use Rattle.mirror_core.specs.Three.{AllThree};
@@ -83,8 +83,10 @@ pub fn fetch_all<
     ensures cells { IfOk result (λ r. EachEnds board.cells board.lanes (logs_gained S.log sources.old sources.new) r.stops.items r.cells.items) }
     ensures sources { IfOk result (λ r. AllThree (λ s t stop. Fetches (S.log s) (S.log t) (S.faults s) (S.faults t) stop × S.becomes s t) sources.old sources.new r.stops.items) }
     ensures asked { IfOk result (λ _. AskInOrder board.cells board.lanes (logs_gained S.log sources.old sources.new)) }
+    ensures asked_too { IfErr result (λ _. AskInOrder board.cells board.lanes (logs_gained S.log sources.old sources.new)) }
     ensures lanes { result ≡ Err FetchFault.Lanes → length lanes.items ≢ 0 → length lanes.items ≢ length sources.old }
     ensures memory { result ≡ Err FetchFault.Memory → length lanes.items ≡ length sources.old }
+    ensures some { result ≡ Err FetchFault.Memory → 0 < length lanes.items }
     ensures paired { IfOk result (λ _. (0 < length lanes.items) × (length lanes.items ≡ length sources.old)) }
     ensures unasked { result ≡ Err FetchFault.Lanes → sources.new ≡ sources.old }
 {

@@ -1,6 +1,6 @@
 //! The plan of a next round.
 
-ghost use Rattle.std.specs.Prelude.{◌≡◌, ℕ, ◌<◌, ◌+◌, ◌==◌, if◌then◌else◌, ◌≤◌, length, map, IfOk, OnErr};
+ghost use Rattle.std.specs.Prelude.{◌≡◌, ℕ, ◌<◌, ◌+◌, ◌==◌, if◌then◌else◌, ◌≤◌, min, length, map, IfOk, OnErr};
 ghost use Rattle.sharing.specs.declared.TheConstants.{RELAYS, MOST_BASE};
 ghost use Rattle.sharing.specs.Bases.{base_of};
 ghost use Rattle.sharing.specs.Offers.{Ascend};
@@ -67,7 +67,7 @@ pub fn next_plan(
 /// Lets a relay's load begin with one more, up to the most.
 fn raise(bases: &mut Bases, relay: u16)
     requires { relay < RELAYS }
-    ensures { (r : ℕ) → base_of bases.old r + (if r == relay then 1 else 0) ≤ MOST_BASE → base_of bases.new r ≡ base_of bases.old r + (if r == relay then 1 else 0) }
+    ensures { (r : ℕ) → base_of bases.new r ≡ min (base_of bases.old r + (if r == relay then 1 else 0)) MOST_BASE }
 {
     let load = bases.of(relay);
     if load < MOST_BASE {
@@ -86,8 +86,8 @@ fn is_asked(cell: Cell) -> bool
 /// [`sharing::MOST_BASE`].
 pub fn grown(bases: &Bases, last: &Plan, cells: &[Cell]) -> Bases
     requires { length cells.now ≡ length last.now.gives }
-    ensures { (r : ℕ) → base_of bases.now r + asked_of last.now.gives cells.now r (length cells.now) ≤ MOST_BASE
-        → base_of result r ≡ base_of bases.now r + asked_of last.now.gives cells.now r (length cells.now) }
+    ensures { (r : ℕ) → base_of bases.now r ≤ MOST_BASE
+        → base_of result r ≡ min (base_of bases.now r + asked_of last.now.gives cells.now r (length cells.now)) MOST_BASE }
 {
     let mut grown = *bases;
     for at in 0..last.len() {

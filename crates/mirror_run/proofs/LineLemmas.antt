@@ -1,5 +1,6 @@
 -- The first line of a text.
-use Rattle.std.proofs.Common.{◌≡◌, ℕ, zero, suc, ◌<◌, ◌==◌, Bool, true, false, List, [], ◌∷◌, length, take, drop, slice_index, refl, ap, if◌then◌else◌, arith}
+use Rattle.std.proofs.Common.{◌≡◌, ℕ, zero, suc, ◌<◌, ◌==◌, Bool, true, false, List, [], ◌∷◌, ◌++◌, length, take, drop, slice_index, refl, ap, if◌then◌else◌, arith}
+use Rattle.std.proofs.lemmas.Bool.{eqb-true}
 use Rattle.mirror_run.specs.Lines.{lines_of, onto_line}
 
 not_true : (b : Bool) → (b ≡ true → ⊥) → b ≡ false
@@ -15,6 +16,12 @@ lines_of-cut (b ∷ bs) (suc k) lt never found =
     let off : (b == 10) ≡ false = not_true _ (never 0 (omega arith)) in
     let ih : lines_of bs ≡ take k bs ∷ lines_of (drop (suc k) bs) = lines_of-cut bs k (omega arith) (λ j l. never (suc j) (omega arith)) found in
     rw off (ap (onto_line b) ih)
+
+-- and the text is that line, the line feed and the rest
+pub parts_at : (text : List ℕ) (at : ℕ) → at < length text → (slice_index text at == 10) ≡ true → text ≡ take at text ++ 10 ∷ drop (suc at) text
+parts_at [] at lt found = absurd (omega arith)
+parts_at (b ∷ bs) zero lt found = ap (λ c. c ∷ bs) (eqb-true b 10 found)
+parts_at (b ∷ bs) (suc k) lt found = ap (λ t. b ∷ t) (parts_at bs k (omega arith) found)
 
 -- a text without a line feed is one line
 whole : (b : ℕ) (bs : List ℕ) → ((k : ℕ) → k < length (b ∷ bs) → (slice_index (b ∷ bs) k == 10) ≡ true → ⊥) → lines_of (b ∷ bs) ≡ (b ∷ bs) ∷ []

@@ -18,6 +18,10 @@ pub struct Address {
 }
 
 impl fmt::Display for Address {
+    ghost use Rattle.std.specs.Prelude.{Some};
+
+    ghost output = { λ a. Some (spelled a) };
+
     fn fmt<W: fmt::Write>(&self, f: &mut fmt::Formatter<W>) -> fmt::Result {
         let host = self.host.as_str();
         let port = self.port;

@@ -45,6 +45,11 @@ impl SettingsKey {
 }
 
 impl fmt::Display for SettingsKey {
+    ghost use Rattle.std.specs.Prelude.{Some};
+    ghost use Rattle.mirror_settings.specs.Keys.{name_of};
+
+    ghost output = { λ k. Some (name_of k) };
+
     fn fmt<W: fmt::Write>(&self, f: &mut fmt::Formatter<W>) -> fmt::Result {
         let name = self.name();
         write!(f, "{name}")

@@ -6,8 +6,8 @@ ghost use Rattle.event_store.specs.Events.{has_id};
 
 use crate::events::event;
 use event_store::{
-    Blank, Desk, EventList, InsertFault, Naming, Placed, Reader, Snapshot, StoreFault, open_small,
-    open_store,
+    AllEvents, Blank, Desk, EventList, InsertFault, Naming, Placed, Reader, Snapshot, StoreFault,
+    open_small, open_store,
 };
 use nostr_event::Event;
 use nostr_filter::Filter;
@@ -182,12 +182,8 @@ fn picks<J: Naming, D: Wait + Drop, R: Wait>(
     reader: &mut Reader<J>,
 ) -> Option<bool> {
     insert_all(rt, alloc, desk, 0, 100)?;
-    let all = reader.pin(alloc, &Filter::all()).ok()?;
-    Some(
-        all_picked(alloc, reader) == Some(true)
-            && all_chosen(alloc, &all) == Some(true)
-            && by_ids(alloc, reader) == Some(true),
-    )
+    let all = reader.all().ok()?;
+    Some(all_picked(alloc, reader) == Some(true) && all_chosen(alloc, &all) == Some(true))
 }
 
 fn all_picked<J: Naming>(alloc: Global, reader: &mut Reader<J>) -> Option<bool> {
@@ -210,7 +206,7 @@ fn has_times<J: Naming>(
     Some(times.as_slice() == want && pinned.roll().len() == want.len())
 }
 
-fn all_chosen(alloc: Global, all: &Snapshot) -> Option<bool> {
+fn all_chosen(alloc: Global, all: &AllEvents) -> Option<bool> {
     let mut right = true;
     for (text, want) in CHOICES {
         let asked = filter(alloc, text)?;
@@ -220,16 +216,9 @@ fn all_chosen(alloc: Global, all: &Snapshot) -> Option<bool> {
 }
 
 // Whether a filter chooses the events at these places.
-fn chooses(alloc: Global, pinned: &Snapshot, filter: Filter, want: &[usize]) -> Option<bool> {
-    let places = pinned.choose(alloc, &[filter]).ok()?;
+fn chooses(alloc: Global, all: &AllEvents, filter: Filter, want: &[usize]) -> Option<bool> {
+    let places = all.choose(alloc, &[filter]).ok()?;
     Some(places.as_slice() == want)
-}
-
-// Whether the newest of the events with those ids are chosen from these alone.
-fn by_ids<J: Naming>(alloc: Global, reader: &mut Reader<J>) -> Option<bool> {
-    let named = filter(alloc, IDS)?;
-    let pinned = reader.pin(alloc, &named).ok()?;
-    chooses(alloc, &pinned, Filter::all(), &[1, 0])
 }
 
 // Filters on tags, the times of the events of six hundred that they pick, in the order of publishing, and the places of those that
@@ -269,7 +258,7 @@ fn finds<J: Naming, D: Wait + Drop, R: Wait>(
     reader: &mut Reader<J>,
 ) -> Option<bool> {
     insert_all(rt, alloc, desk, 0, 600)?;
-    let all = reader.pin(alloc, &Filter::all()).ok()?;
+    let all = reader.all().ok()?;
     let mut right = true;
     for (text, times, places) in MARKED {
         right &= is_found(alloc, reader, &all, filter(alloc, text)?, (times, places))?;
@@ -280,7 +269,7 @@ fn finds<J: Naming, D: Wait + Drop, R: Wait>(
 fn is_found<J: Naming>(
     alloc: Global,
     reader: &mut Reader<J>,
-    all: &Snapshot,
+    all: &AllEvents,
     filter: Filter,
     want: (&[u64], &[usize]),
 ) -> Option<bool> {

@@ -138,7 +138,7 @@ one_of d rs s draft h =
       ]
     ]
 
-in_old : (d : Written) (rs : List Span) (s : Stretch) → IsDraft d → Contains (closed_from least d.spans) s → Contains (closed_from least (d.spans ++ (gap (end_of least d.spans) d.end ++ rs))) s
+pub in_old : (d : Written) (rs : List Span) (s : Stretch) → IsDraft d → Contains (closed_from least d.spans) s → Contains (closed_from least (d.spans ++ (gap (end_of least d.spans) d.end ++ rs))) s
 in_old d rs s draft h = subst (λ (t : List Stretch). Contains t s) (sym (all-closed d rs draft)) (Contains-append_left (closed_from least d.spans) (closed_from (end_of least d.spans) (gap (end_of least d.spans) d.end) ++ closed_from d.end rs) s h)
 
 in_gap : (d : Written) (rs : List Span) (s : Stretch) → IsDraft d → Contains (closed_from (end_of least d.spans) (gap (end_of least d.spans) d.end)) s → Contains (closed_from least (d.spans ++ (gap (end_of least d.spans) d.end ++ rs))) s
@@ -146,7 +146,7 @@ in_gap d rs s draft h = subst (λ (t : List Stretch). Contains t s) (sym (all-cl
     (Contains-append_right (closed_from least d.spans) (closed_from (end_of least d.spans) (gap (end_of least d.spans) d.end) ++ closed_from d.end rs) s
     (Contains-append_left (closed_from (end_of least d.spans) (gap (end_of least d.spans) d.end)) (closed_from d.end rs) s h))
 
-in_new : (d : Written) (rs : List Span) (s : Stretch) → IsDraft d → Contains (closed_from d.end rs) s → Contains (closed_from least (d.spans ++ (gap (end_of least d.spans) d.end ++ rs))) s
+pub in_new : (d : Written) (rs : List Span) (s : Stretch) → IsDraft d → Contains (closed_from d.end rs) s → Contains (closed_from least (d.spans ++ (gap (end_of least d.spans) d.end ++ rs))) s
 in_new d rs s draft h = subst (λ (t : List Stretch). Contains t s) (sym (all-closed d rs draft))
     (Contains-append_right (closed_from least d.spans) (closed_from (end_of least d.spans) (gap (end_of least d.spans) d.end) ++ closed_from d.end rs) s
     (Contains-append_right (closed_from (end_of least d.spans) (gap (end_of least d.spans) d.end)) (closed_from d.end rs) s h))

@@ -8,14 +8,16 @@ use Rattle.neg_codec.specs.declared.Id.{Id}
 use Rattle.neg_codec.specs.Reading.{message_at}
 use Rattle.neg_codec.specs.declared.Item.{Item}
 use Rattle.neg_codec.specs.declared.Range.{Range}
-use Rattle.neg_codec.specs.Keys.{place, least, infinity}
-use Rattle.neg_codec.specs.Ranges.{Claim, print, Span, Stretch, stretches, stretches_from, IsSkip, Ascends, IsSpan, edge_of, span_of}
+use Rattle.neg_codec.specs.Keys.{place, least, infinity, IsKey}
+use Rattle.neg_codec.specs.Ranges.{Claim, print, ids, Span, Stretch, stretches, stretches_from, Lies, IsSkip, Ascends, IsSpan, edge_of, span_of}
 use Rattle.neg_print.specs.Print.{print_of}
 use Rattle.item_roll.specs.Closed.{closed_from}
-use Rattle.item_roll.specs.Parts.{IsRoll, part, ids_of}
+use Rattle.item_roll.specs.Parts.{IsRoll, part, ids_of, count_below}
 use Rattle.item_roll.specs.Truth.{Says, IsTrueOf, Follows}
 use Rattle.std.proofs.lemmas.List.{take-append-drop, map-append}
-use Rattle.neg_draft.specs.Coverage.{begun_at, HasKeys, NoneEmpty, Written, end_of, gap, all_left, IsDraft, Tells, Told}
+use Rattle.neg_codec.specs.Encoding.{text_of}
+use Rattle.item_roll.specs.Splits.{split_of}
+use Rattle.neg_draft.specs.Coverage.{begun_at, HasKeys, NoneEmpty, Written, end_of, gap, told_more, all_left, IsDraft, Tells, Cut, Told}
 use Rattle.neg_draft.proofs.Covering.{stretch_of}
 use Rattle.neg_draft.proofs.Walking.{ranges_at, ranges_upto}
 use Rattle.neg_initiator.specs.Listed.{PassesMost}
@@ -23,7 +25,7 @@ use Rattle.neg_initiator.specs.declared.phase.Phase.{Phase}
 use Rattle.std.proofs.lemmas.Bool.{le-ltb}
 use Rattle.neg_initiator.specs.Made.{asking}
 use Rattle.neg_initiator.specs.Session.{Session, Taken, HasOpen, LeavesOpen, IsAskDue}
-use Rattle.neg_initiator.specs.Settled.{HasOnePrint}
+use Rattle.neg_initiator.specs.Settled.{HasOnePrint, IsSkipped}
 use Rattle.neg_initiator.specs.Settling.{Findings, Finds, Settles, ListsTooMany}
 use Rattle.neg_initiator.specs.Trusting.{bounds_of, TrustsSkipped, IsSkippedPrint, IsOwnPrint}
 use Rattle.neg_initiator.proofs.Meeting.{stretches-append}
@@ -57,13 +59,12 @@ taken_from limit a asked answered next until old mid new most enough roll up ord
   most = refl;
   sound = record { roll = roll; ascends = ascends; none_empty = full; truth = w.truth; enough = enough };
   not_again = w.not_again;
+  need_kept = need_kept;
   need_from = λ i h. found.need_new i (subst (λ (xs : List Id). Contains xs i) need h);
-  need_noted = λ i h.
-      let m = w.accounted.each h.2 h.7 h.9 in
-      let here : m.0 ≡ h.0 = one_stretch answered order h.2 m.0 h.0 m.1 h.3 m.2 h.8 in
-      let owed = subst (λ (s : Stretch). Accounts a asked new.trusted new.need new.have s.lower s.upper s.claim) here m.3 in
-      let listed = subst (λ (c : Claim). Accounts a asked new.trusted new.need new.have h.0.lower h.0.upper c) h.4 owed in
-      listed.0 i h.5 h.6;
+  need_noted = λ i h. (listed h.0 h.1 h.2 h.3 h.4 h.7 h.8 h.9).0 i h.5 h.6;
+  have_kept = have_kept;
+  have_from = λ i h. found.have_new i (subst (λ (xs : List Id). Contains xs i) have h);
+  have_noted = λ i h. (listed h.0 h.1 h.2 h.3 h.4 h.7 h.8 h.9).1 i h.5 h.6;
   trusted_kept = λ x h. trusts.kept x (found.trusted_kept x h);
   trusted_from = λ x h. elim (trusts.right x h) [
     | inl m ↦ elim (found.trusted_new x m) [ inl o ↦ inl o | inr s ↦ inr (s.0, s.1, inr s.2) ]
@@ -80,13 +81,28 @@ taken_from limit a asked answered next until old mid new most enough roll up ord
     settled = λ told one was.
         settled_after a b asked answered next new.trusted old.need old.have new.need new.have roll.keys rb.keys one up truth follows told
         (record {
-          need_kept = λ i h. subst (λ (xs : List Id). Contains xs i) (sym need) (found.need_kept i h);
-          have_kept = λ i h. subst (λ (xs : List Id). Contains xs i) (sym have) (found.have_kept i h);
+          need_kept = need_kept;
+          have_kept = have_kept;
           need_new = from_each _ new.need (λ i h. found.need_new i (subst (λ (xs : List Id). Contains xs i) need h));
           have_new = from_each _ new.have (λ i h. found.have_new i (subst (λ (xs : List Id). Contains xs i) have h));
         }) w.accounted was;
   };
 }
+  where
+    need_kept : (i : Id) → Contains old.need i → Contains new.need i
+    need_kept i h = subst (λ (xs : List Id). Contains xs i) (sym need) (found.need_kept i h)
+
+    have_kept : (i : Id) → Contains old.have i → Contains new.have i
+    have_kept i h = subst (λ (xs : List Id). Contains xs i) (sym have) (found.have_kept i h)
+
+    -- what is owed to a list of the reply of which the next ask skips a key
+    listed : (s : Stretch) (is : List Id) (k : Item) → Contains (stretches answered) s → s.claim ≡ ids is → IsKey k → Lies k s → IsSkipped next k
+        → Accounts a asked new.trusted new.need new.have s.lower s.upper (ids is)
+    listed s is k here claims key lies skipped =
+        let m = w.accounted.each k key skipped in
+        let same : m.0 ≡ s = one_stretch answered order k m.0 s m.1 here m.2 lies in
+        let owed = subst (λ (s : Stretch). Accounts a asked new.trusted new.need new.have s.lower s.upper s.claim) same m.3 in
+        subst (λ (c : Claim). Accounts a asked new.trusted new.need new.have s.lower s.upper c) claims owed
 
 -- ---- too many ids
 
@@ -175,8 +191,12 @@ taken_any answered o n p q t = record {
   most = t.most;
   sound = record { roll = t.sound.roll; ascends = t.sound.ascends; none_empty = t.sound.none_empty; truth = t.sound.truth; enough = t.sound.enough };
   not_again = t.not_again;
+  need_kept = t.need_kept;
   need_from = t.need_from;
   need_noted = t.need_noted;
+  have_kept = t.have_kept;
+  have_from = t.have_from;
+  have_noted = t.have_noted;
   trusted_kept = t.trusted_kept;
   trusted_from = t.trusted_from;
   advances = λ b rb follows. let a = t.advances b rb follows in record { one_print = a.one_print; settled = a.settled };
@@ -225,3 +245,13 @@ begun a limit d e is told =
       truth = all_told (IsTrueOf a) rs tells.ends holds;
       skips_nothing = all_told (λ s. IsSkip s → ⊥) rs tells.ends tells.none_skipped;
     })
+
+pub first_split : (a : List Item) (limit : ℕ) (d e : Written) → e ≡ record { limit = limit; spans = []; end = least }
+    → (d ≡ told_more e infinity (split_of a (count_below a e.end) (count_below a infinity) infinity)) ⊎ Cut a e infinity d
+    → (d.spans ≡ split_of a (count_below a least) (count_below a infinity) infinity) ⊎ (limit ≤ length (text_of d.spans) + 256)
+first_split a limit d e is exact =
+    let all = split_of a (count_below a least) (count_below a infinity) infinity in
+    elim (subst (λ (w : Written). (d ≡ told_more w infinity (split_of a (count_below a w.end) (count_below a infinity) infinity)) ⊎ Cut a w infinity d) is exact) [
+      | inl now ↦ inl (ap (λ (x : Written). x.spans) now ∙ ap (λ (g : List Span). g ++ all) (gap_same least))
+      | inr c ↦ inr c.full
+    ]

@@ -18,6 +18,10 @@ IsListedWhere P a answered i = (s : Stretch) × (is : List Id) × (k : Item) × 
 abbrev pub IsUnlisted : List Item → List Span → Id → Type 0
 IsUnlisted a answered i = (s : Stretch) × (is : List Id) × Contains (stretches answered) s × (s.claim ≡ ids is) × Contains (ids_of (part a s.lower s.upper)) i × (Contains is i → ⊥)
 
+-- the own roll has the id in a stretch where the reply doesn't list it, and which has a key that is so
+abbrev pub IsUnlistedWhere : (Item → Type 0) → List Item → List Span → Id → Type 0
+IsUnlistedWhere P a answered i = (s : Stretch) × (is : List Id) × (k : Item) × Contains (stretches answered) s × (s.claim ≡ ids is) × Contains (ids_of (part a s.lower s.upper)) i × (Contains is i → ⊥) × IsKey k × Lies k s × P k
+
 -- nothing stands twice
 abbrev pub Distinct : {X : Type 0} → List X → Type 0
 Distinct [] = Unit {0}

@@ -8,7 +8,7 @@ ghost use Rattle.neg_codec.specs.declared.CodecFault.{CodecFault};
 ghost use Rattle.neg_codec.specs.declared.CodecFault.TheVariants as codec;
 ghost use Rattle.item_roll.specs.Truth.{Follows};
 ghost use Rattle.neg_draft.specs.Coverage.{NoneEmpty};
-ghost use Rattle.neg_responder.specs.Reply.{SkipsSame, Refuses};
+ghost use Rattle.neg_responder.specs.Reply.{SkipsSame, TellsOthers, Refuses};
 
 use crate::ranges::reply;
 use item_roll::Roll;
@@ -58,6 +58,7 @@ fn answer_message(
 ) -> Result<Vec<u8>, AnswerFault>
     requires { 4096 ≤ limit }
     ensures follows { IfOk result (λ v. (r : List Span) × Spells v.items r × Follows roll.now asked.now r × SkipsSame limit (length v.items) roll.now asked.now r × NoneEmpty r) }
+    ensures tells { IfOk result (λ v. (r : List Span) × Spells v.items r × TellsOthers limit (length v.items) roll.now asked.now r) }
     ensures short { IfOk result (λ v. length v.items ≤ limit) }
     ensures fault { IfErr result (λ e. e ≡ AnswerFault.Memory) }
 {
@@ -108,6 +109,8 @@ pub fn answer(
     // The answer follows the roll, and skips what the query skips or tells by the roll's own fingerprint, as far as it
     // wasn't cut. It tells no empty stretch.
     ensures follows { IfOk result (λ v. (q : List Span) → length query.now ≤ longest → Spells query.now q → (r : List Span) × Spells v.items r × Follows roll.now q r × SkipsSame limit (length v.items) roll.now q r × NoneEmpty r) }
+    // It tells the other ranges by a split, or by the roll's ids where the query lists some, as far as it wasn't cut.
+    ensures tells { IfOk result (λ v. (q : List Span) → length query.now ≤ longest → Spells query.now q → (r : List Span) × Spells v.items r × TellsOthers limit (length v.items) roll.now q r) }
     // It is no longer than the limit.
     ensures short { IfOk result (λ v. length v.items ≤ limit) }
     // A query is refused just where it is no message, and by that fault.

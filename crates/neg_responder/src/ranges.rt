@@ -5,7 +5,7 @@ ghost use Rattle.neg_codec.specs.Ranges.{span_of};
 ghost use Rattle.neg_codec.specs.Encoding.{text_of};
 ghost use Rattle.item_roll.specs.Truth.{Follows};
 ghost use Rattle.neg_draft.specs.Coverage.{IsDraft, NoneEmpty};
-ghost use Rattle.neg_responder.specs.Reply.{SkipsSame, Responds};
+ghost use Rattle.neg_responder.specs.Reply.{SkipsSame, TellsOthers, Responds};
 
 use item_roll::Roll;
 use neg_codec::{Message, Payload, Range};
@@ -45,6 +45,7 @@ pub fn reply(
 ) -> Result<Message, AllocError>
     requires { 4096 ≤ limit }
     ensures follows { IfOk result (λ m. Follows roll.now asked.now m × SkipsSame limit (length (text_of m)) roll.now asked.now m) }
+    ensures others { IfOk result (λ m. TellsOthers limit (length (text_of m)) roll.now asked.now m) }
     ensures none_empty { IfOk result NoneEmpty }
     ensures short { IfOk result (λ m. length (text_of m) ≤ limit) }
 {

@@ -16,7 +16,7 @@ use Rattle.neg_codec.specs.Encoding.{text_of}
 use Rattle.item_roll.specs.Parts.{IsRoll, part}
 use Rattle.item_roll.specs.Truth.{IsTrueOf, Follows}
 use Rattle.neg_initiator.specs.declared.initiator.Outcome.{Outcome}
-use Rattle.neg_initiator.specs.Listed.{IsListed, IsListedWhere, Distinct, PassesMost}
+use Rattle.neg_initiator.specs.Listed.{IsListed, IsListedWhere, IsUnlisted, Distinct, PassesMost}
 use Rattle.neg_initiator.specs.Session.{Session, Starts, Taken, GoesOn, IsDone, NotAskedAgain, Refuses, IsAskDue}
 use Rattle.neg_initiator.specs.Settled.{HasOnePrint, ToldApart, OneTime, IsSkipped, Settled, Needs, Has}
 use Rattle.neg_initiator.specs.Trusting.{IsTrustedBy}
@@ -24,7 +24,7 @@ use Rattle.neg_initiator.proofs.Ends.{settled_first, settled_last}
 use Rattle.neg_session.specs.Exchange.{Exchange, exchange, gained, answered_bytes}
 use Rattle.neg_session.specs.Explaining.{IsExplained, Explains}
 use Rattle.neg_session.specs.Asking.{Resumes, Linked, Chained, MayResume, MayAsk}
-use Rattle.neg_session.specs.Ran.{trusted_of, IsRight, LastAnswer, IsRefused, IsOffered, OffersMore, AsksForFew, IsShown, IsDue, Ran}
+use Rattle.neg_session.specs.Ran.{trusted_of, IsRight, LastAnswer, IsRefused, IsOffered, IsWithheld, OffersMore, AsksForFew, IsShown, IsDue, Ran}
 use Rattle.neg_session.specs.Going.{Knows, IsRead, Going}
 use Rattle.neg_session.specs.Faults.{fault_of}
 use Rattle.neg_session.specs.declared.peer.PeerFault.{PeerFault}
@@ -132,6 +132,12 @@ offered_more own es fs i h = record { pair = h.pair; answered = h.answered; stan
 offered_last : (own : List Item) (es : List Exchange) (e : Exchange) (answered : List Span) → message_at e.answered ≡ Ok answered → (i : Id) → IsListed own answered i → IsOffered own (es ++ e ∷ []) i
 offered_last own es e answered read i h = record { pair = e; answered = answered; stands = Contains-push es e; read = read; listed = h }
 
+withheld_more : (own : List Item) (es fs : List Exchange) (i : Id) → IsWithheld own es i → IsWithheld own (es ++ fs) i
+withheld_more own es fs i h = record { pair = h.pair; answered = h.answered; stands = Contains-append_left es fs h.pair h.stands; read = h.read; unlisted = h.unlisted }
+
+withheld_last : (own : List Item) (es : List Exchange) (e : Exchange) (answered : List Span) → message_at e.answered ≡ Ok answered → (i : Id) → IsUnlisted own answered i → IsWithheld own (es ++ e ∷ []) i
+withheld_last own es e answered read i h = record { pair = e; answered = answered; stands = Contains-push es e; read = read; unlisted = h }
+
 offers_more : (own : List Item) (es : List Exchange) (e : Exchange) (answered : List Span) (need : List Id) (most : ℕ) → message_at e.answered ≡ Ok answered
     → ((i : Id) → Contains need i → IsOffered own es i) → PassesMost own answered need most → OffersMore own (es ++ e ∷ []) most
 offers_more own es e answered need most read before h = record {
@@ -231,6 +237,8 @@ going_first own limits old before text s h = record {
   spelled = h.spelled;
   few = rw h.need (omega arith);
   offered = λ i m. absurd (contains_none i (subst (λ (ns : List Id). Contains ns i) h.need m));
+  withheld = λ i m. absurd (contains_none i (subst (λ (hs : List Id). Contains hs i) h.have m));
+  few_asked = rw gained_none (All-nil (AsksForFew limits.limit own limits.need));
   shown = λ t m. absurd (contains_none t (subst (λ (ts : List (Item × Item)). Contains ts t) h.trusted m));
   knows = λ b e. knows_first own b limits.limit limits.need text s h e.roll;
 }
@@ -252,6 +260,11 @@ ran_none own limits old before = record {
   log_full = λ e. cc;
   within_log = tt;
   few = tt;
+  offered = tt;
+  withheld = tt;
+  few_before = λ front e h. absurd (none_pushed front e (sym (gained_none old) ∙ h));
+  few_done = tt;
+  few_rounds = λ e. cc;
   shown = tt;
   once = tt;
   refused = λ c r l. absurd (subst (LastAnswer (IsRefused c)) (gained_none old) l);
@@ -277,6 +290,12 @@ module _ (own : List Item) (limits : SessionLimits) (asked : ℕ) (old now new :
     log_full = λ h. absurd (log_full (is h));
     within_log = tt;
     few = tt;
+    offered = tt;
+    withheld = tt;
+    few_before = λ front e h. all_front (AsksForFew limits.limit own limits.need) front (e ∷ [])
+        (subst (λ es. All (AsksForFew limits.limit own limits.need) es) (ap (gained old) (sym same) ∙ h) going.few_asked);
+    few_done = tt;
+    few_rounds = λ h. rw same going.few_asked;
     shown = tt;
     once = tt;
     refused = λ c r l. absurd (no_refusal c (gained old now) going.read (subst (λ w. LastAnswer (IsRefused c) (gained old w)) same l));
@@ -357,6 +376,24 @@ module _ (own : List Item) (limits : SessionLimits) (asked : ℕ) (old now new :
     | inr one ↦ shown_last own (gained old now) (exchange question reply) s.asked answered going.spelled read t (subst (λ (w : List Item). IsTrustedBy w s.asked answered t) going.roll one)
   ])
 
+  next_offered : (next : Session) (answered : List Span) → message_at reply ≡ Ok answered → Taken answered s next → (i : Id) → Contains next.need i → IsOffered own (gained old new) i
+  next_offered next answered read taken i m = rw pairs (elim (taken.need_from i m) [
+    | inl was ↦ offered_more own (gained old now) (exchange question reply ∷ []) i (going.offered i was)
+    | inr listed ↦ offered_last own (gained old now) (exchange question reply) answered read i (subst (λ (w : List Item). IsListed w answered i) going.roll listed)
+  ])
+
+  next_withheld : (next : Session) (answered : List Span) → message_at reply ≡ Ok answered → Taken answered s next → (i : Id) → Contains next.have i → IsWithheld own (gained old new) i
+  next_withheld next answered read taken i m = rw pairs (elim (taken.have_from i m) [
+    | inl was ↦ withheld_more own (gained old now) (exchange question reply ∷ []) i (going.withheld i was)
+    | inr unlisted ↦ withheld_last own (gained old now) (exchange question reply) answered read i (subst (λ (w : List Item). IsUnlisted w answered i) going.roll unlisted)
+  ])
+
+  next_few_before : (front : List Exchange) (e : Exchange) → gained old new ≡ front ++ e ∷ [] → All (AsksForFew limits.limit own limits.need) front
+  next_few_before front e h = subst (λ es. All (AsksForFew limits.limit own limits.need) es) (push_front (gained old now) front (exchange question reply) e (sym pairs ∙ h)) going.few_asked
+
+  next_few_asked : AsksForFew limits.limit own limits.need (exchange question reply) → All (AsksForFew limits.limit own limits.need) (gained old new)
+  next_few_asked few = rw pairs (All-push (AsksForFew limits.limit own limits.need) (gained old now) (exchange question reply) going.few_asked few)
+
   pub going_more : OneMessage → (next : Session) (answered : List Span) (text : List ℕ) (rest : ℕ) → rest + length reply ≡ left → Spells reply answered → message_at reply ≡ Ok answered → Taken answered s next → (length s.need ≤ s.most → length next.need ≤ next.most) → GoesOn text next → IsAskDue s.roll reply
       → Going own limits (asked + 1) old new before last text rest next
   going_more one next answered text rest is_rest spells read taken few goes due = record {
@@ -376,10 +413,9 @@ module _ (own : List Item) (limits : SessionLimits) (asked : ℕ) (old now new :
     spelled = goes.spelled;
     few = next_few next answered taken few;
     shown = next_shown next answered read taken;
-    offered = λ i m. rw pairs (elim (taken.need_from i m) [
-      | inl was ↦ offered_more own (gained old now) (exchange question reply ∷ []) i (going.offered i was)
-      | inr listed ↦ offered_last own (gained old now) (exchange question reply) answered read i (subst (λ (w : List Item). IsListed w answered i) going.roll listed)
-    ]);
+    offered = next_offered next answered read taken;
+    withheld = next_withheld next answered read taken;
+    few_asked = next_few_asked (asks_for_few next answered read taken few (inr (text, goes.spelled, next_resumes next answered text spells taken goes)));
     knows = next_knows one next answered spells taken;
   }
 
@@ -401,12 +437,17 @@ module _ (own : List Item) (limits : SessionLimits) (asked : ℕ) (old now new :
     log_full = λ e. cc;
     within_log = omega (arith, next_bytes, going.bytes);
     few = rw is_need (next_few next answered taken few);
+    offered = λ i m. next_offered next answered read taken i (subst (λ (ns : List Id). Contains ns i) is_need m);
+    withheld = λ i m. next_withheld next answered read taken i (subst (λ (hs : List Id). Contains hs i) is_have m);
+    few_before = next_few_before;
+    few_done = next_few_asked (asks_for_few next answered read taken few (inl done.skips_all));
+    few_rounds = λ e. cc;
     shown = λ t m. next_shown next answered read taken t ((is_trusted t).0 m);
     once = once;
     refused = λ c r l. absurd (read_or_refused (exchange question reply) c (answered, read) (last_gives (IsRefused c) (gained old now) (exchange question reply) (subst (LastAnswer (IsRefused c)) pairs l)));
   }
 
-  pub ran_fault : asked < limits.rounds → (e : SessionFault) → (e ≡ PeerFailed → ⊥) → ((c : CodecFault) → e ≡ Bad c → IsRefused c reply) → (e ≡ Rounds → (asked + 1 ≡ limits.rounds) × IsAskDue own reply)
+  pub ran_fault : asked < limits.rounds → (e : SessionFault) → (e ≡ PeerFailed → ⊥) → ((c : CodecFault) → e ≡ Bad c → IsRefused c reply) → (e ≡ Rounds → (asked + 1 ≡ limits.rounds) × IsAskDue own reply × AsksForFew limits.limit own limits.need (exchange question reply))
       → (e ≡ NeedFull → (answered : List Span) × (message_at reply ≡ Ok answered) × PassesMost s.roll answered s.need s.most) → (e ≡ LogFull → (left < length reply) × ((asked + 1 < limits.rounds) ⊎ (IsAskDue own reply → ⊥)) × AsksForFew limits.limit own limits.need (exchange question reply))
       → ((c : CodecFault) → Refuses c → IsRefused c reply → e ≡ Bad c) → Ran own limits old new before last (Err e)
   ran_fault round e failed bad rounds need_full log_full refused = record {
@@ -430,6 +471,11 @@ module _ (own : List Item) (limits : SessionLimits) (asked : ℕ) (old now new :
     );
     within_log = tt;
     few = tt;
+    offered = tt;
+    withheld = tt;
+    few_before = next_few_before;
+    few_done = tt;
+    few_rounds = λ h. next_few_asked (rounds (is h)).2;
     shown = tt;
     once = tt;
     refused = λ c r l. ap Err (refused c r (last_gives (IsRefused c) (gained old now) (exchange question reply) (subst (LastAnswer (IsRefused c)) pairs l)));
@@ -442,8 +488,8 @@ module _ (own : List Item) (limits : SessionLimits) (asked : ℕ) (old now new :
   not_refused m read c refused = let r = read in cc
 
   -- no question may follow
-  pub ran_rounds : asked < limits.rounds → asked + 1 ≡ limits.rounds → IsAskDue own reply → (m : List Span) → message_at reply ≡ Ok m → Ran own limits old new before last (Err Rounds)
-  ran_rounds round end due m read = ran_fault round Rounds (λ e. cc) (λ c e. cc) (λ e. (end, due)) (λ e. cc) (λ e. cc) (λ c r l. absurd (not_refused m read c l))
+  pub ran_rounds : asked < limits.rounds → asked + 1 ≡ limits.rounds → IsAskDue own reply → AsksForFew limits.limit own limits.need (exchange question reply) → (m : List Span) → message_at reply ≡ Ok m → Ran own limits old new before last (Err Rounds)
+  ran_rounds round end due few m read = ran_fault round Rounds (λ e. cc) (λ c e. cc) (λ e. (end, due, few)) (λ e. cc) (λ e. cc) (λ c r l. absurd (not_refused m read c l))
 
   -- the answers have too many bytes
   pub ran_log_full : asked < limits.rounds → left < length reply → (asked + 1 < limits.rounds) ⊎ (IsAskDue own reply → ⊥) → AsksForFew limits.limit own limits.need (exchange question reply) → (m : List Span) → message_at reply ≡ Ok m

@@ -11,7 +11,7 @@ use Rattle.neg_initiator.specs.Settled.{HasOnePrint, ToldApart, OneTime, Settled
 use Rattle.neg_session.specs.Exchange.{Exchange, gained, answered_bytes}
 use Rattle.neg_session.specs.Explaining.{Explains}
 use Rattle.neg_session.specs.Asking.{Chained, MayAsk}
-use Rattle.neg_session.specs.Ran.{IsOffered, IsShown, IsDue}
+use Rattle.neg_session.specs.Ran.{IsOffered, IsWithheld, AsksForFew, IsShown, IsDue}
 use Rattle.neg_session.specs.declared.limits.SessionLimits.{SessionLimits}
 
 -- what the session knows of a list of the other side
@@ -42,5 +42,7 @@ pub record Going (own : List Item) (limits : SessionLimits) (asked : ℕ) (old n
   pub sound : IsSound s
   pub spelled : Spells question s.asked
   pub offered : (i : Id) → Contains s.need i → IsOffered own (gained old now) i
+  pub withheld : (i : Id) → Contains s.have i → IsWithheld own (gained old now) i
+  pub few_asked : All (AsksForFew limits.limit own limits.need) (gained old now)
   pub shown : (t : Item × Item) → Contains s.trusted t → IsShown own (gained old now) t
   pub knows : (b : List Item) → Explains b (gained old now) → Knows own b s

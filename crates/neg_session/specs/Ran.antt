@@ -7,7 +7,7 @@ use Rattle.neg_codec.specs.Ranges.{Span, stretches, IsSkip}
 use Rattle.neg_codec.specs.Reading.{message_at}
 use Rattle.neg_codec.specs.Text.{Spells}
 use Rattle.neg_initiator.specs.declared.initiator.Outcome.{Outcome}
-use Rattle.neg_initiator.specs.Listed.{IsListed, IsListedWhere, Distinct}
+use Rattle.neg_initiator.specs.Listed.{IsListed, IsListedWhere, IsUnlisted, Distinct}
 use Rattle.neg_initiator.specs.Session.{Refuses, IsAskDue}
 use Rattle.neg_initiator.specs.Settled.{Needs, Has, HasOnePrint, ToldApart, OneTime, IsSkipped}
 use Rattle.neg_initiator.specs.Trusting.{IsTrustedBy}
@@ -48,6 +48,14 @@ pub record IsOffered (own : List Item) (log : List Exchange) (i : Id) : Type 0 w
   pub stands : Contains log pair
   pub read : message_at pair.answered ≡ Ok answered
   pub listed : IsListed own answered i
+
+-- some answer lists ids between bounds, and not this one, which the own roll has there
+pub record IsWithheld (own : List Item) (log : List Exchange) (i : Id) : Type 0 where
+  pub pair : Exchange
+  pub answered : List Span
+  pub stands : Contains log pair
+  pub read : message_at pair.answered ≡ Ok answered
+  pub unlisted : IsUnlisted own answered i
 
 -- more ids are offered than may be needed
 pub record OffersMore (own : List Item) (log : List Exchange) (most : ℕ) : Type 0 where
@@ -97,6 +105,13 @@ pub record Ran (own : List Item) (limits : SessionLimits) (old new : List Exchan
   pub done : OnOk result (IsDue own (gained old new) → ⊥)
   pub within_log : OnOk result (answered_bytes (gained old new) ≤ limits.log)
   pub few : IfOk result (λ o. length o.need.keys ≤ limits.need)
+  -- whatever the answers are, each id that was found is told of by one of them
+  pub offered : IfOk result (λ o. (i : Id) → Contains o.need.keys i → IsOffered own (gained old new) i)
+  pub withheld : IfOk result (λ o. (i : Id) → Contains o.have.keys i → IsWithheld own (gained old new) i)
+  -- no question, and no good end, follows an answer that asks for too many ids; nor is it told as one question too many
+  pub few_before : (front : List Exchange) (e : Exchange) → gained old new ≡ front ++ e ∷ [] → All (AsksForFew limits.limit own limits.need) front
+  pub few_done : OnOk result (All (AsksForFew limits.limit own limits.need) (gained old new))
+  pub few_rounds : result ≡ Err Rounds → All (AsksForFew limits.limit own limits.need) (gained old new)
   -- each trusted stretch was shown to be the same, and is told once
   pub shown : IfOk result (λ o. (t : Item × Item) → Contains (trusted_of o) t → IsShown own (gained old new) t)
   pub once : IfOk result (λ o. Distinct o.trusted.items)

@@ -1,6 +1,6 @@
 //! A peer in this process.
 
-ghost use Rattle.std.specs.Prelude.{◌≡◌, ◌≤◌, ◌<◌, ◌^◌, ◌-◌, ◌≢◌, [], All, IfOk, IfErr};
+ghost use Rattle.std.specs.Prelude.{◌≡◌, ◌≤◌, ◌<◌, ◌^◌, ◌+◌, ◌-◌, ◌≢◌, ◌∷◌, ◌++◌, [], All, Err, IfOk, IfErr, OnErr};
 ghost use Rattle.item_roll.specs.Parts.{IsRoll};
 ghost use Rattle.neg_session.specs.Exchange.{exchange};
 ghost use Rattle.neg_session.specs.Explaining.{AnswersBy};
@@ -91,7 +91,16 @@ impl Peer for LocalPeer {
 
     ghost goes_on = { keeps_on };
 
-    fn ask(&mut self, question: &[u8]) -> Result<Vec<u8>, PeerFault> {
+    fn ask(&mut self, question: &[u8]) -> Result<Vec<u8>, PeerFault>
+        requires { self.old.faults < 2 ^ 64 - 1 }
+        ensures ok { IfOk result (λ answer. (self.new.log ≡ self.old.log ++ exchange question.now answer.items ∷ []) × (self.new.faults ≡ self.old.faults)) }
+        ensures err { OnErr result (self.new.log ≡ self.old.log) }
+        ensures failed { result ≡ Err PeerFault.Failed → (self.old.faults < self.new.faults) × IsRefused question.now }
+        ensures memory { result ≡ Err PeerFault.Memory → self.new.faults ≡ self.old.faults }
+        ensures becomes { Keeps self.old self.new }
+        // A failure is counted once.
+        ensures counted { result ≡ Err PeerFault.Failed → self.new.faults ≡ self.old.faults + 1 }
+    {
         let reply = match answer(self.alloc, &self.roll, question, self.limit) {
             Ok(reply) => reply,
             Err(AnswerFault::Bad(_)) => {

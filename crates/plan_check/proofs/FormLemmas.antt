@@ -185,6 +185,21 @@ wrong_at_bases rest lines e first =
     (λ none file form same. two_lines file (ended (codes "nostr-plan 2")) same)
     (first_weaker IsBaseLine (λ l. Begins ((ended (codes "nostr-plan 2") ∷ []) ++ l ∷ [])) (λ l b. first_base b.0.bases l b.1 _ b.2.bases (b.3 ∙ plan_lines-is b.0)) rest first)
 
+-- lines that don't begin with a header, and the bases that it announces
+pub no_header : (lines : List (List ℕ)) → FirstIsNot (λ line. line ≡ ended (codes "nostr-plan 1")) lines → FirstIsNot (λ line. line ≡ ended (codes "nostr-plan 2")) lines
+    → (bs : List (ℕ × ℕ)) (rest : List (List ℕ)) → lines ≢ ended (header_line bs) ∷ (map based bs ++ rest)
+no_header lines first second bs rest e =
+    subst (FirstIsNot (λ l. l ≡ ended (header_line bs))) e (not_both (λ line. line ≡ ended (codes "nostr-plan 1")) (λ line. line ≡ ended (codes "nostr-plan 2")) (λ l. l ≡ ended (header_line bs)) (header_is bs) lines first second) refl
+
+pub no_bases : (after lines : List (List ℕ)) → lines ≡ ended (codes "nostr-plan 2") ∷ after → FirstIsNot IsBaseLine after → (bs : List (ℕ × ℕ)) (rest : List (List ℕ)) → All IsBase bs → lines ≢ ended (header_line bs) ∷ (map based bs ++ rest)
+no_bases [] lines e first [] rest h same =
+    let whole = sym e ∙ same in
+    let head : ended (codes "nostr-plan 2") ≡ ended (codes "nostr-plan 1") = cc in
+    let d : get_or (ended (codes "nostr-plan 2")) 11 0 ≡ get_or (ended (codes "nostr-plan 1")) 11 0 = ap (λ t. get_or t 11 0) head in
+    omega (arith, d)
+no_bases [] lines e first (b ∷ bs) rest h same = let whole = sym e ∙ same in cc
+no_bases (l ∷ after) lines e first bs rest h same = first (first_base bs l after rest h (sym e ∙ same))
+
 -- the same first line, whatever follows it
 same_first : {X : Type 0} (P : X → Type 0) (us xs ys : List X) (x : X) → FirstIsNot P (us ++ x ∷ xs) → FirstIsNot P (us ++ x ∷ ys)
 same_first P [] xs ys x h = h

@@ -28,7 +28,7 @@ module _ {K : Type 0} (c : K → K → Ordering) where
   later_behind None x xs h = h
   later_behind (Some b) x xs h = tail_sorted c b (x ∷ xs) h
 
-rising_back : (before : Option ℕ) (xs : List ℕ) → Behind nat_cmp before xs → rises_from before xs ≡ true
+pub rising_back : (before : Option ℕ) (xs : List ℕ) → Behind nat_cmp before xs → rises_from before xs ≡ true
 rising_back before [] h = refl
 rising_back before (x ∷ xs) h = both_true (is_behind nat_cmp before x) (rises_from (Some x) xs) (first_behind nat_cmp before x xs h) (rising_back (Some x) xs (later_behind nat_cmp before x xs h))
 
@@ -37,7 +37,7 @@ module _ {X : Type 0} where
   no_place p n [] h = refl
   no_place p n (x ∷ xs) h = ap (λ b. cond b (Some n) (first_at p (n + 1) xs)) (All-head (λ x. p x ≡ false) x xs h) ∙ no_place p (n + 1) xs (All-tail (λ x. p x ≡ false) x xs h)
 
-  none_out_back : {K : Type 0} (c : K → K → Ordering) (key : X → K) (fine : X → Bool) (before : Option K) (n : ℕ) (xs : List X) → Behind c before (map key xs) → All (λ x. fine x ≡ true) xs → first_out c key fine before n xs ≡ None
+  pub none_out_back : {K : Type 0} (c : K → K → Ordering) (key : X → K) (fine : X → Bool) (before : Option K) (n : ℕ) (xs : List X) → Behind c before (map key xs) → All (λ x. fine x ≡ true) xs → first_out c key fine before n xs ≡ None
   none_out_back c key fine before n [] h f = refl
   none_out_back c key fine before n (x ∷ xs) h f =
       ap (λ b. cond b (first_out c key fine (Some (key x)) (n + 1) xs) (Some n)) (both_true (is_behind c before (key x)) (fine x) (first_behind c before (key x) (map key xs) h) (All-head (λ x. fine x ≡ true) x xs f))

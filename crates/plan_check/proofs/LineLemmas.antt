@@ -67,3 +67,7 @@ some_lines (b ∷ bs) some e = first_some (b == 10) b bs e
 pub no_lines : (text : List ℕ) → length text ≡ 0 → lines_of text ≡ []
 no_lines [] none = refl
 no_lines (b ∷ bs) none = absurd (omega arith)
+
+pub no_text : (text : List ℕ) → lines_of text ≡ [] → length text ≡ 0
+no_text [] e = refl
+no_text (b ∷ bs) e = absurd (some_lines (b ∷ bs) (omega arith) e)

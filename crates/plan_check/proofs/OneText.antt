@@ -44,7 +44,7 @@ same_offer a b ha hb e =
     let relays : a.1 ≡ b.1 = same_relays a.1 b.1 ha.relays hb.relays (after_id a.0 b.0 (relays_text a.1) (relays_text b.1) ha.id hb.id behind) in
     same_pair a b id relays
 
-same_give : (a b : Id × ℕ) → IsGive a → IsGive b → given a ≡ given b → a ≡ b
+pub same_give : (a b : Id × ℕ) → IsGive a → IsGive b → given a ≡ given b → a ≡ b
 same_give a b ha hb e =
     let words : give_line a ≡ give_line b = same_words (give_line a) (give_line b) e in
     let behind : encode_lower a.0.0 ++ number_text a.1 ≡ encode_lower b.0.0 ++ number_text b.1 = cc in
@@ -54,13 +54,13 @@ same_give a b ha hb e =
     let relay : a.1 ≡ b.1 = decimal_injective a.1 b.1 (relay_small a.1 ha.relay) (relay_small b.1 hb.relay) digits in
     same_pair a b id relay
 
-same_group : (a b : List ℕ) → All (λ r. r < RELAYS) a → All (λ r. r < RELAYS) b → grouped a ≡ grouped b → a ≡ b
+pub same_group : (a b : List ℕ) → All (λ r. r < RELAYS) a → All (λ r. r < RELAYS) b → grouped a ≡ grouped b → a ≡ b
 same_group a b ha hb e =
     let words : group_line a ≡ group_line b = same_words (group_line a) (group_line b) e in
     same_relays a b ha hb (cc)
 
 -- records of the same lines
-same_records : {X : Type 0} (f : X → List ℕ) (P : X → Type 0) → ((a b : X) → P a → P b → f a ≡ f b → a ≡ b) → (xs ys : List X) → All P xs → All P ys → map f xs ≡ map f ys → xs ≡ ys
+pub same_records : {X : Type 0} (f : X → List ℕ) (P : X → Type 0) → ((a b : X) → P a → P b → f a ≡ f b → a ≡ b) → (xs ys : List X) → All P xs → All P ys → map f xs ≡ map f ys → xs ≡ ys
 same_records f P same [] [] hx hy e = refl
 same_records f P same [] (y ∷ ys) hx hy e = absurd (cc)
 same_records f P same (x ∷ xs) [] hx hy e = absurd (cc)

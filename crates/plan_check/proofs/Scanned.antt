@@ -3,19 +3,21 @@ use Rattle.std.proofs.Common.{◌≡◌, ◌≢◌, ◌⊎◌, ℕ, ◌+◌, ◌
 use Rattle.std.specs.Prelude.{IfOk, IfErr}
 use Rattle.std.specs.List.{All}
 use Rattle.sharing.specs.declared.TheConstants.{RELAYS}
+use Rattle.sharing.specs.Offers.{id_cmp}
 use Rattle.plan_check.specs.declared.faults.PlanFault.{PlanFault}
 use Rattle.plan_check.specs.declared.faults.PlanFault.TheVariants.{Order}
 use Rattle.plan_check.specs.File.{File}
-use Rattle.plan_check.specs.Lines.{first_place, rises, misplaced_at, misplaced_fault, malformed_at, number_of}
+use Rattle.plan_check.specs.Lines.{first_out, first_place, rises, misplaced_at, misplaced_fault, malformed_at, number_of}
 use Rattle.plan_check.specs.TextLines.{lines_of, ended, FirstIsNot}
-use Rattle.plan_check.specs.PlanText.{header_line, plan_lines, plan_text, IsOfForm, IsTextOf}
-use Rattle.plan_check.specs.PlanParts.{IsHead, AreOfferLines, AreGiveLines, IsBaseLine, IsOfferLine, IsGroupLine, IsTail}
+use Rattle.plan_check.specs.PlanText.{header_line, give_line, plan_lines, plan_text, IsGive, IsOfForm, IsTextOf}
+use Rattle.plan_check.specs.PlanParts.{IsHead, AreOfferLines, AreGiveLines, IsBaseLine, IsOfferLine, IsGiveLine, IsGroupLine, IsTail}
 use Rattle.plan_check.specs.PlanReading.{IsFirstWrong, IsOutOfOrder, IsTextFault}
 use Rattle.plan_check.proofs.Files.{file_ok, risen, gives_ascend, place_same}
-use Rattle.plan_check.proofs.InOrder.{form_ok}
-use Rattle.plan_check.proofs.FormLemmas.{based, offered, given, grouped, plan_lines-is, wrong_at_group, wrong_at_end}
+use Rattle.plan_check.proofs.InOrder.{form_ok, none_out_back, rising_back}
+use Rattle.plan_check.proofs.FormLemmas.{based, offered, given, grouped, plan_lines-is, of_kind, behind_gives, wrong_at_group, wrong_at_end}
+use Rattle.plan_check.proofs.Spans.{peel}
 use Rattle.plan_check.proofs.TextLemmas.{text_by_lines}
-use Rattle.plan_check.proofs.OneText.{one_file_each}
+use Rattle.plan_check.proofs.OneText.{same_records, same_give, same_group, one_file_each}
 use Rattle.plan_check.proofs.ReadLemmas.{no_fault, one_fault_each}
 
 module _ (lines l1 l2 l3 : List (List ℕ)) (nb no ng : ℕ) (ob oo og : Option ℕ) (head : IsHead lines l1 nb ob) (offers : AreOfferLines l1 l2 no oo) (gives : AreGiveLines l2 l3 ng og) where
@@ -70,6 +72,25 @@ tail_seen lines rest more count out group ok gives none small e r risen_ok nil =
   relays = risen group small (sym r ∙ risen_ok);
   told = gives.told ∙ ap (λ t. map given gives.records ++ t) (e ∙ ap (λ t. grouped group ∷ t) nil);
 }
+
+-- what else is gives and a group, in order, goes on with the same group
+tail_rest : (lines rest : List (List ℕ)) (count : ℕ) (out : Option ℕ) → AreGiveLines lines rest count out → (tail : IsTail lines) → (out ≡ None) × (rest ≡ grouped tail.group ∷ [])
+tail_rest lines rest count out gives tail =
+    let same = peel IsGiveLine (map given gives.records) (map given tail.gives) rest (grouped tail.group ∷ []) (of_kind give_line IsGive gives.records gives.form) (of_kind give_line IsGive tail.gives tail.form) gives.last (behind_gives tail.group tail.relays.small) (sym gives.told ∙ tail.told) in
+    let records : gives.records ≡ tail.gives = same_records given IsGive same_give gives.records tail.gives gives.form tail.form same.0 in
+    (gives.first ∙ ap (first_out id_cmp (λ g. g.0) (λ _. true) None 0) records ∙ none_out_back id_cmp (λ g. g.0) (λ _. true) None 0 tail.gives tail.ascend (λ k d lt. refl), same.1)
+
+pub tail_whole : (lines rest more : List (List ℕ)) (count : ℕ) (out : Option ℕ) (group : List ℕ) (ok : Bool) → AreGiveLines lines rest count out → All (λ r. r < RELAYS) group → rest ≡ grouped group ∷ more → ok ≡ rises group → IsTail lines → (out ≡ None) × (ok ≡ true) × (more ≡ [])
+tail_whole lines rest more count out group ok gives small e r tail =
+    let last = tail_rest lines rest count out gives tail in
+    let both : grouped group ∷ more ≡ grouped tail.group ∷ [] = sym e ∙ last.1 in
+    let line : grouped group ≡ grouped tail.group = cc in
+    let end : more ≡ [] = cc in
+    (last.0, r ∙ ap rises (same_group group tail.group small tail.relays.small line) ∙ rising_back None tail.group tail.relays.ascend, end)
+
+pub no_tail : (lines rest : List (List ℕ)) (count : ℕ) (out : Option ℕ) → AreGiveLines lines rest count out → FirstIsNot IsGroupLine rest → ¬ IsTail lines
+no_tail lines rest count out gives none tail =
+    subst (FirstIsNot IsGroupLine) (tail_rest lines rest count out gives tail).1 none (tail.group, tail.relays.small, refl)
 
 -- ---- what is answered of a text
 module _ (text : List ℕ) where

@@ -1,12 +1,13 @@
 //! Plan files that are read from their texts.
 
-ghost use Rattle.std.specs.Prelude.{◌≡◌, ◌<◌, ◌++◌, ◌∷◌, [], ◌⊎◌, map, All, IfOk, IfErr, IfSome, Ok, Err};
+ghost use Rattle.std.specs.Prelude.{◌≡◌, ◌≢◌, ◌<◌, ◌++◌, ◌∷◌, [], ◌⊎◌, ℕ, List, map, All, IfOk, IfErr, IfSome, IfNone, Ok, Err};
 ghost use Rattle.sharing.specs.declared.TheConstants.{RELAYS};
 ghost use Rattle.plan_check.specs.declared.faults.PlanFault.{PlanFault as AFault};
 ghost use Rattle.plan_check.specs.declared.faults.PlanFault.TheVariants.{Memory as memory};
 ghost use Rattle.plan_check.specs.File.{File, IsBase, pairs_of};
-ghost use Rattle.plan_check.specs.TextLines.{lines_of, ended};
+ghost use Rattle.plan_check.specs.TextLines.{lines_of, ended, FirstIsNot};
 ghost use Rattle.plan_check.specs.PlanText.{header_line, base_line, offer_line, give_line, group_line, plan_lines, IsOffer, IsGive, IsOfForm, IsTextOf};
+ghost use Rattle.plan_check.specs.PlanParts.{IsBaseLine};
 ghost use Rattle.plan_check.specs.PlanReading.{IsTextFault, IsReadFault};
 
 use crate::records::{parse_base, parse_give, parse_group, parse_offer};
@@ -29,6 +30,7 @@ struct Lists {
 fn take_bases(alloc: Global, text: &[u8]) -> Result<(Vec<(u16, u64)>, &[u8]), AllocError>
     ensures lines { IfOk result (λ r. lines_of text.now ≡ map (λ b. ended (base_line b)) r.0.items ++ lines_of r.1.now) }
     ensures bases { IfOk result (λ r. All IsBase r.0.items) }
+    ensures all { IfOk result (λ r. FirstIsNot IsBaseLine (lines_of r.1.now)) }
 {
     let mut bases = Vec::new(alloc);
     let mut rest = text;
@@ -47,6 +49,8 @@ fn take_bases(alloc: Global, text: &[u8]) -> Result<(Vec<(u16, u64)>, &[u8]), Al
 pub fn read_head(alloc: Global, text: &[u8]) -> Result<Option<(Vec<(u16, u64)>, &[u8])>, AllocError>
     ensures lines { IfOk result (λ o. IfSome o (λ r. lines_of text.now ≡ ended (header_line r.0.items) ∷ (map (λ b. ended (base_line b)) r.0.items ++ lines_of r.1.now))) }
     ensures bases { IfOk result (λ o. IfSome o (λ r. All IsBase r.0.items)) }
+    ensures all { IfOk result (λ o. IfSome o (λ r. (r.0.items ≡ []) ⊎ FirstIsNot IsBaseLine (lines_of r.1.now))) }
+    ensures none { IfOk result (λ o. IfNone o ((bases : List (ℕ × ℕ)) (rest : List (List ℕ)) → All IsBase bases → lines_of text.now ≢ ended (header_line bases) ∷ (map (λ b. ended (base_line b)) bases ++ rest))) }
 {
     if let Some(rest) = skip_line(text, b"nostr-plan 1") {
         return Ok(Some((Vec::new(alloc), rest)));

@@ -1,6 +1,6 @@
 //! Whether a text is a plan text, and what is wrong where it is none. Nothing here takes memory.
 
-ghost use Rattle.std.specs.Prelude.{◌≡◌, ◌≢◌, ◌&&◌, ◌+◌, ◌<◌, ◌≤◌, ◌∷◌, ℕ, List, length, All, IsTrue, IfOk, IfErr, IfSome, IfNone, Ok, Err};
+ghost use Rattle.std.specs.Prelude.{◌≡◌, ◌≢◌, ◌&&◌, ◌+◌, ◌<◌, ◌≤◌, ◌∷◌, ◌↔◌, ℕ, List, length, All, IsTrue, IfOk, IfErr, IfSome, IfNone, Ok, Err};
 ghost use Rattle.neg_codec.specs.declared.Id.{Id as AnId};
 ghost use Rattle.sharing.specs.declared.TheConstants.{RELAYS};
 ghost use Rattle.plan_check.specs.declared.faults.PlanFault.{PlanFault as AFault};
@@ -153,7 +153,7 @@ fn scan_head(text: &[u8]) -> Result<Run<'_>, usize>
 
 /// Whether what stands behind a text's offers is gives and a group, in order.
 pub fn is_tail(text: &[u8]) -> bool
-    ensures { IsTrue result → IsTail (lines_of text.now) }
+    ensures { IsTrue result ↔ IsTail (lines_of text.now) }
 {
     let gives = scan_gives(text);
     match scan_group(gives.rest) {

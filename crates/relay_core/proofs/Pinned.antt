@@ -1,6 +1,6 @@
 -- What is pinned, and what is answered from it.
-use Rattle.std.proofs.Common.{◌≡◌, ℕ, ◌≤◌, List, [], ◌∷◌, length, None, refl, ap, sym, subst, ◌∙◌}
-use Rattle.std.specs.Prelude.{filter, Err}
+use Rattle.std.proofs.Common.{◌≡◌, ℕ, ◌≤◌, List, [], ◌∷◌, length, ap, sym, subst, ◌∙◌}
+use Rattle.std.specs.Prelude.{Err}
 use Rattle.neg_codec.specs.declared.Item.{Item}
 use Rattle.neg_codec.specs.declared.CodecFault.TheVariants as codec
 use Rattle.neg_codec.specs.Ranges.{Span}
@@ -12,22 +12,10 @@ use Rattle.neg_responder.specs.Reply.{SkipsSame}
 use Rattle.nostr_event.specs.EventView.{EventView}
 use Rattle.nostr_filter.specs.declared.filter.Filter.{Filter}
 use Rattle.nostr_wire.specs.Forms.{Form}
-use Rattle.event_store.specs.Events.{matching}
 use Rattle.relay_core.specs.Kept.{Kept, kept_of, put}
 use Rattle.relay_core.specs.Turns.{says}
 use Rattle.relay_core.specs.Requests.{subscription, stored_events, subscribed}
 use Rattle.relay_core.specs.Sessions.{IsBad, IsAnswer}
-
-abbrev pub everything : Filter
-everything = record { ids = None; authors = None; kinds = None; tags = []; since = None; until = None; limit = None }
-
-all_match : (events : List EventView) → matching everything events ≡ events
-all_match [] = refl
-all_match (e ∷ events) = ap (λ xs. e ∷ xs) (all_match events)
-
--- a filter without conditions leaves nothing out
-pub matching_all : (f : Filter) (events : List EventView) → f ≡ everything → matching f events ≡ events
-matching_all f events is = ap (λ g. matching g events) is ∙ all_match events
 
 -- ---- a request
 

@@ -102,8 +102,8 @@ pub fn catch_up<J: Naming>(
     ensures gone { IfErr result (λ b. b ≡ Broken.Gone → reader.new ≡ reader.old) }
     ensures reader { IsPrefix reader.old reader.new }
 {
-    let pin = reader.pin(alloc, &Filter::all())?;
-    let out = due(alloc, talk.subs(), pin.events())?;
-    talk.mark_all(pin.front());
+    let all = reader.all()?;
+    let out = due(alloc, talk.subs(), all.events())?;
+    talk.mark_all(all.front());
     Ok(out)
 }

@@ -21,7 +21,6 @@ use crate::step::Step;
 use crate::subs::Subscription;
 use crate::talk::Talk;
 use event_store::{EventList, Naming, Reader};
-use nostr_filter::Filter;
 use nostr_wire::{Filters, FromRelay, Sub};
 use std::alloc::{AllocError, Global};
 
@@ -73,13 +72,13 @@ fn subscribe<J: Naming>(
     ensures gone { IfErr result (λ b. b ≡ Broken.Gone → reader.new ≡ reader.old) }
     ensures reader { IsPrefix reader.old reader.new }
 {
-    let pin = reader.pin(alloc, &Filter::all())?;
-    let places = pin.choose(alloc, filters.as_slice())?;
-    let out = stored_events(alloc, &name, pin.events(), places.as_slice())?;
+    let all = reader.all()?;
+    let places = all.choose(alloc, filters.as_slice())?;
+    let out = stored_events(alloc, &name, all.events(), places.as_slice())?;
     talk.put_sub(Subscription {
         name,
         filters,
-        mark: pin.front(),
+        mark: all.front(),
     })?;
     Ok(Step { out, store: None })
 }

@@ -3,7 +3,6 @@
 use crate::hall::Hall;
 use event_file::NewFile;
 use event_store::{Naming, Reader};
-use nostr_filter::Filter;
 use std::alloc::Global;
 use std::fs::File;
 use std::rt::{Clock, Files};
@@ -29,7 +28,7 @@ pub struct Schedule {
 
 /// How many events are published: 0 where that can't be told.
 pub fn published<J: Naming>(alloc: Global, reader: &mut Reader<J>) -> usize {
-    match reader.pin(alloc, &Filter::all()) {
+    match reader.all() {
         Ok(all) => all.front(),
         Err(_) => 0,
     }
@@ -43,7 +42,7 @@ fn renewed<J: Naming, R: Files<File = File>>(
     file: &NewFile,
     has: usize,
 ) -> usize {
-    let Ok(all) = reader.pin(alloc, &Filter::all()) else {
+    let Ok(all) = reader.all() else {
         return has;
     };
     if all.front() > has && file.renew(rt, alloc, all.events()).is_ok() {

@@ -3,7 +3,6 @@
 use crate::refusal::{Refusal, read_refusal, write_refusal};
 use event_file::{NewFile, insert_lines, read_file};
 use event_store::{Desk, Naming, Reader};
-use nostr_filter::Filter;
 use std::alloc::Global;
 use std::fs::File;
 use std::io::ErrorKind;
@@ -56,7 +55,7 @@ pub fn save<J: Naming, R: Files>(
     reader: &mut Reader<J>,
     file: NewFile,
 ) -> Result<usize, Refusal> {
-    let all = match reader.pin(alloc, &Filter::all()) {
+    let all = match reader.all() {
         Ok(all) => all,
         Err(fault) => {
             let _ = file.discard(rt);

@@ -1,7 +1,7 @@
-use Rattle.std.proofs.Common.{rules, ◌≡◌, ◌≤◌, ◌+◌, ◌∙◌, ap, arith, ◌∷◌, length, Err}
+use Rattle.std.proofs.Common.{rules, ◌≡◌, ◌≤◌, ◌+◌, ◌∙◌, ap, arith, ◌∷◌, length, take, Err}
 use Rattle.mirror_run.specs.Lines.{lines_of}
-use Rattle.event_file.specs.Lines.{LineTells, IsWrong, WrongBehind}
-use Rattle.event_file.proofs.Told.{told_more, wrong_more}
+use Rattle.event_file.specs.Lines.{LineTells, LinesTell, IsWrong, WrongBehind}
+use Rattle.event_file.proofs.Told.{told_more, wrong_more, first_more}
 use Rattle.event_file.proofs.reading.insert_lines.Goals as goal
 
 pub returns-in-Err-Wrong-clause-wrong : goal.returns-in-Err-Wrong-clause-wrong
@@ -15,6 +15,11 @@ returns-in-Err-Wrong-clause-wrong g c n is =
     let number : n ≡ c.loop-line.number + 0 + 1 = search rules in
     (c.loop-line.number + 0, number, all)
 
+pub returns-in-Err-Memory-clause-memory : goal.returns-in-Err-Memory-clause-memory
+returns-in-Err-Memory-clause-memory g c is =
+    let kept : c.insert_line.new.desk ≡ c.loop-line.desk = search rules in
+    (c.loop-line.number + 0, c.loop-line.invariant.3 0 c.insert_line.new.desk kept)
+
 pub loop-line-preserved : goal.loop-line-preserved
 loop-line-preserved g c =
     let most = g.J.Naming.most in
@@ -25,4 +30,6 @@ loop-line-preserved g c =
       λ k new w. wrong_more most c.loop-line.number k _ _ _ _ _ new (λ n. WrongBehind most n (lines_of c.args.text.now) c.args.desk.now new)
           (λ j h. c.loop-line.invariant.1 j new h) lines told w,
       omega (arith, c.loop-line.invariant.2, shorter),
+      λ k new h. first_more c.loop-line.number k _ _ _ _ _ new (λ n. LinesTell (take n (lines_of c.args.text.now)) c.args.desk.now new)
+          (λ j t. c.loop-line.invariant.3 j new t) lines told h,
     )

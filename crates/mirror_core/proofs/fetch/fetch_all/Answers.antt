@@ -1,5 +1,5 @@
 use Rattle.std.proofs.Common.{◌≡◌, List, length, sym, ap, ◌∙◌, subst, arith}
-use Rattle.std.specs.Prelude.{All}
+use Rattle.std.specs.Prelude.{All, IfErr, Result, Ok, Err}
 use Rattle.claim_board.specs.Rules.{named}
 use Rattle.claim_board.specs.Views.{LaneView}
 use Rattle.mirror_core.specs.Three.{AllThree}
@@ -9,7 +9,7 @@ use Rattle.mirror_core.specs.Closing.{AllBack, behind}
 use Rattle.mirror_core.specs.Fetched.{EachEnds, Fetches, logs_gained}
 use Rattle.mirror_core.specs.declared.worker.Stop.{Stop}
 use Rattle.mirror_core.proofs.Six.{six_lengths, written}
-use Rattle.mirror_core.proofs.Ended.{all_new, Works, back_of, fetches_of, each_ends, asked_of}
+use Rattle.mirror_core.proofs.Ended.{all_new, Works, back_of, fetches_of, each_ends, asked_of, none_asked}
 use denote.Exit.{no}
 use denote.Param.{param}
 use denote.Param.Send.{param_send, param_sync, arg_send, arg_sync}
@@ -64,6 +64,25 @@ returns-in-Some-clause-sources g c =
 
 pub returns-in-Some-clause-asked : goal.returns-in-Some-clause-asked
 returns-in-Some-clause-asked g c =
+    let R = Works {J = g.row.J.Denot} c.args.board.cells g.S.Source.log g.S.Source.faults g.S.Source.becomes c.args.board.board in
+    let six = subst (λ (z : List LaneView). AllSix R z c.run_workers.new.lanes c.args.sources.now c.run_workers.new.sources c.deref_mut-2.result.now c.run_workers.new.stops) (c.deref_mut.ensures.value ∙ c.requires.lanes) c.run_workers.ensures in
+    asked_of c.args.board.cells g.S.Source.log g.S.Source.faults g.S.Source.becomes c.args.board.board c.args.board.lanes c.run_workers.new.lanes c.args.sources.now c.run_workers.new.sources c.deref_mut-2.result.now c.run_workers.new.stops six
+
+pub returns-then-len-eq0-clause-asked_too : goal.returns-then-len-eq0-clause-asked_too
+returns-then-len-eq0-clause-asked_too g c = none_asked c.args.board.cells c.args.board.lanes g.S.Source.log c.args.sources.now
+
+pub returns-then-len-sources-clause-asked_too : goal.returns-then-len-sources-clause-asked_too
+returns-then-len-sources-clause-asked_too g c = none_asked c.args.board.cells c.args.board.lanes g.S.Source.log c.args.sources.now
+
+refused_so : {X E P : Type 0} (r : Result X E) → P → IfErr r (λ _. P)
+refused_so (Ok x) p = tt
+refused_so (Err e) p = p
+
+pub returns-in_err-stops-clause-asked_too : goal.returns-in_err-stops-clause-asked_too
+returns-in_err-stops-clause-asked_too g c = refused_so c.from_residual.result (none_asked c.args.board.cells c.args.board.lanes g.S.Source.log c.args.sources.now)
+
+pub returns-in-None-clause-asked_too : goal.returns-in-None-clause-asked_too
+returns-in-None-clause-asked_too g c =
     let R = Works {J = g.row.J.Denot} c.args.board.cells g.S.Source.log g.S.Source.faults g.S.Source.becomes c.args.board.board in
     let six = subst (λ (z : List LaneView). AllSix R z c.run_workers.new.lanes c.args.sources.now c.run_workers.new.sources c.deref_mut-2.result.now c.run_workers.new.stops) (c.deref_mut.ensures.value ∙ c.requires.lanes) c.run_workers.ensures in
     asked_of c.args.board.cells g.S.Source.log g.S.Source.faults g.S.Source.becomes c.args.board.board c.args.board.lanes c.run_workers.new.lanes c.args.sources.now c.run_workers.new.sources c.deref_mut-2.result.now c.run_workers.new.stops six

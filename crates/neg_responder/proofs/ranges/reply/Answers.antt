@@ -3,7 +3,7 @@ use Rattle.neg_codec.specs.Ranges.{Span, span_of}
 use Rattle.neg_codec.specs.Encoding.{text_of}
 use Rattle.neg_codec.specs.Keys.{infinity}
 use Rattle.neg_draft.specs.Coverage.{passed, NoneEmpty}
-use Rattle.neg_responder.proofs.Replying.{replied_none, replied_at, replied_whole}
+use Rattle.neg_responder.proofs.Replying.{replied_none, replied_at, replied_whole, replied_others}
 use Rattle.neg_responder.proofs.ranges.reply.Goals as goal
 
 pub loop-range-init : goal.loop-range-init
@@ -27,3 +27,8 @@ returns-clause-short c =
 
 pub returns-clause-none_empty : goal.returns-clause-none_empty
 returns-clause-none_empty c = subst NoneEmpty (sym c.into_message.ensures.value) c.into_message.ensures.draft.none_empty
+
+pub returns-clause-others : goal.returns-clause-others
+returns-clause-others c =
+    let le : length c.ranges-range-items.result.now ≤ c.loop-range.range-index = omega arith in
+    rw (c.into_message.ensures.value, ← c.ranges-range-items.ensures.value) (replied_others c.args.limit c.args.roll.now c.ranges-range-items.result.now c.loop-range.range-index c.loop-range.draft le c.loop-range.invariant)

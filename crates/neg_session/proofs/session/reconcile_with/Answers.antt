@@ -93,7 +93,10 @@ returns-then-round-limits-clause-ran g c =
     let end : c.loop-round.round + 1 ≡ c.args.limits.now.rounds = omega arith in
     let asks = rw (c.deref-in-loop-round.ensures.value, c.in-Ok-Ask.field-0-is) at c.in-Ok-Ask.ensures.due in
     let due : IsAskDue c.args.roll.now c.in_ok-answer.answer.items = subst (λ (w : List Item). IsAskDue w c.in_ok-answer.answer.items) c.loop-round.invariant.going.roll asks in
-    ran_rounds _ _ _ _ _ _ _ _ _ _ _ _ c.loop-round.invariant.going _ asked.0 asked.1 c.loop-round-test.true end due taken.0 taken.2
+    let goes = rw c.in-Ok-Ask.field-0-is at c.in-Ok-Ask.ensures.leaves in
+    let few = asks_for_few _ _ _ _ _ _ _ _ _ _ _ _ c.loop-round.invariant.going _ asked.0 asked.1 c.take.new.self taken.0 taken.2 taken.3 c.in-Ok-Ask.ensures.within
+    (inr (_, goes.spelled, next_resumes _ _ _ _ _ _ _ _ _ _ _ _ c.loop-round.invariant.going _ asked.0 asked.1 c.take.new.self taken.0 _ taken.1 taken.3 goes)) in
+    ran_rounds _ _ _ _ _ _ _ _ _ _ _ _ c.loop-round.invariant.going _ asked.0 asked.1 c.loop-round-test.true end due few taken.0 taken.2
 
 pub returns-in-None-clause-ran : goal.returns-in-None-clause-ran
 returns-in-None-clause-ran g c =

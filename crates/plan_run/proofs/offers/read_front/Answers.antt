@@ -21,4 +21,4 @@ returns-then-is_tail-clause-front c =
     front_is c.args.text.now c.in_ok-offers.rest.now (base_of c.in-Some-bases_of.bases) c.in-Some.pairs.items c.in_ok-offers.offers.items whole
     (subst AreBasesInOrder c.deref.ensures.value c.in-Some-bases_of.ensures.ordered)
     (λ r. c.in-Some-bases_of.ensures.bases r ∙ ap (λ bs. base_in bs r) c.deref.ensures.value)
-    c.in_ok-offers.ensures.form c.in_ok-offers.ensures.offers (c.is_tail.ensures c.if-is_tail.true)
+    c.in_ok-offers.ensures.form c.in_ok-offers.ensures.offers (c.is_tail.ensures.0 c.if-is_tail.true)

@@ -1,10 +1,10 @@
-use Rattle.std.proofs.Common.{List, ap, sym, subst, map, length, refl, arith}
+use Rattle.std.proofs.Common.{List, ap, sym, subst, ◌∙◌, inl, inr, map, length, refl, arith}
 use Rattle.neg_codec.specs.Keys.{infinity}
 use Rattle.neg_codec.specs.Ranges.{Span}
 use Rattle.neg_codec.specs.Encoding.{text_of}
 use Rattle.neg_draft.specs.Coverage.{Written, NoneEmpty}
 use Rattle.neg_initiator.specs.Pairs.{pair_of}
-use Rattle.neg_initiator.proofs.Taking.{least_low, begun, told_limit}
+use Rattle.neg_initiator.proofs.Taking.{least_low, begun, first_split, told_limit}
 use Rattle.neg_initiator.proofs.initiator.Initiator.start.Goals as goal
 
 pub tell_split-requires : goal.tell_split-requires
@@ -34,6 +34,10 @@ returns c =
         ap (λ (w : Written). w.limit) c.new.ensures,
       );
       skips_nothing = rw c.into_message-asked.ensures.value b.skips_nothing;
+      split = elim (first_split c.args.roll.now c.args.limit c.in_ok-draft.draft c.new.result c.new.ensures c.in_ok-draft.ensures.exact) [
+        | inl whole ↦ inl (c.into_message-asked.ensures.value ∙ whole)
+        | inr cut ↦ inr (omega (arith, cut, ap length c.in_ok-text.ensures.text, ap (λ (m : List Span). length (text_of m)) c.into_message-asked.ensures.value))
+      ];
       need = c.new-2.ensures.empty;
       have = c.new-3.ensures.empty;
       trusted = ap (map pair_of) c.new-4.ensures.items;
