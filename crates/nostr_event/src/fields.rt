@@ -43,7 +43,7 @@ fn tag_of(alloc: Global, values: &[Value]) -> Result<Tag, EventFault>
     ensures ok { IfOk result (λ t. items_view values.now ≡ tag_items t) }
     ensures err { IfErr result (λ e. (e ≡ EventFault.Memory) ⊎ ((e ≡ EventFault.Shape EventField.Tags) × (are_texts (items_view values.now) ≡ false))) }
 {
-    let mut texts = Vec::new(alloc);
+    let mut texts = Vec::with_capacity(alloc, values.len())?;
     for value in values {
         let Some(text) = value.as_str() else {
             return Err(EventFault::Shape(EventField::Tags));
@@ -72,7 +72,7 @@ fn tags_of(alloc: Global, values: &[Value]) -> Result<Tags, EventFault>
     ensures tested { OnOk result (are_tags (items_view values.now) ≡ true) }
     ensures err { IfErr result (λ e. (e ≡ EventFault.Memory) ⊎ ((e ≡ EventFault.Shape EventField.Tags) × (are_tags (items_view values.now) ≡ false))) }
 {
-    let mut tags = Vec::new(alloc);
+    let mut tags = Vec::with_capacity(alloc, values.len())?;
     for value in values {
         let Some(list) = value.as_array() else {
             return Err(EventFault::Shape(EventField::Tags));
