@@ -1,5 +1,5 @@
 -- All that is read, where no more than one byte above the limit is asked for.
-use Rattle.std.proofs.Common.{◌≡◌, ℕ, ◌<◌, ◌≤◌, List, [], ◌++◌, length, take, Option, None, Some, Result, Ok, Err, String, Global, string_bytes, IfOk, IfErr, ap, ◌∙◌, subst, arith, take_all}
+use Rattle.std.proofs.Common.{◌≡◌, ℕ, ◌<◌, ◌≤◌, List, [], ◌++◌, length, take, Option, None, Some, ap, ◌∙◌, subst, arith, take_all}
 use Rattle.std.specs.Option.{IfSome, option_map}
 use Rattle.std.proofs.lemmas.List.{length-take}
 use Rattle.mirror_run.specs.declared.refusal.Refusal.{Refusal}
@@ -18,9 +18,9 @@ pub known_front : (n limit : ℕ) (bytes start : List ℕ) (known inner : Option
     → IfSome (option_map (take limit) inner) (λ xs. bytes ≡ start ++ xs) → IfSome known (λ input. bytes ≡ take n input)
 known_front n limit bytes start known inner same none is h = front_of n bytes known (rw (same, none, is) at h)
 
-known_text : (bytes text : List ℕ) (known : Option (List ℕ)) → text ≡ bytes → length text ≤ 67108864 → IfSome known (λ input. bytes ≡ take 67108865 input) → IfSome known (λ input. text ≡ input)
-known_text bytes text None same few h = tt
-known_text bytes text (Some input) same few h =
+pub known_whole : (bytes whole : List ℕ) (known : Option (List ℕ)) → whole ≡ bytes → length whole ≤ 67108864 → IfSome known (λ input. bytes ≡ take 67108865 input) → IfSome known (λ input. whole ≡ input)
+known_whole bytes whole None same few h = tt
+known_whole bytes whole (Some input) same few h =
     let front = same ∙ h in
     front ∙ taken_whole 67108865 input (omega (arith, ap length front))
 
@@ -37,19 +37,7 @@ refused_whole input (Plan k) h = h
 refused_whole input TableFull h = h
 refused_whole input Memory h = tt
 
-known_refusal : (bytes : List ℕ) (e : Refusal) (known : Option (List ℕ)) → IsTextRefusal bytes e → IfSome known (λ input. bytes ≡ take 67108865 input) → IfSome known (λ input. IsTextRefusal input e)
+pub known_refusal : (bytes : List ℕ) (e : Refusal) (known : Option (List ℕ)) → IsTextRefusal bytes e → IfSome known (λ input. bytes ≡ take 67108865 input) → IfSome known (λ input. IsTextRefusal input e)
 known_refusal bytes e None refused h = tt
 known_refusal bytes e (Some input) refused h =
     let P : List ℕ → Type 0 = λ t. IsTextRefusal t e in refused_whole input e (subst P h refused)
-
--- the same of a text that was made, or of why none was
-pub read_text : (r : Result (String Global) Refusal) (bytes : List ℕ) (known : Option (List ℕ)) → IfOk r (λ text. string_bytes text ≡ bytes)
-    → IfOk r (λ text. length (string_bytes text) ≤ 67108864) → IfSome known (λ input. bytes ≡ take 67108865 input)
-    → IfOk r (λ text. IfSome known (λ input. string_bytes text ≡ input))
-read_text (Ok text) bytes known same few h = known_text bytes (string_bytes text) known same few h
-read_text (Err e) bytes known same few h = tt
-
-pub read_refusal : (r : Result (String Global) Refusal) (bytes : List ℕ) (known : Option (List ℕ)) → IfErr r (IsTextRefusal bytes)
-    → IfSome known (λ input. bytes ≡ take 67108865 input) → IfErr r (λ e. IfSome known (λ input. IsTextRefusal input e))
-read_refusal (Ok text) bytes known refused h = tt
-read_refusal (Err e) bytes known refused h = known_refusal bytes e known refused h

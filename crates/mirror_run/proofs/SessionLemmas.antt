@@ -1,6 +1,6 @@
 -- What one session with a peer in this process shows.
 use Rattle.std.proofs.Common.{◌≡◌, ◌⊎◌, inl, inr, ℕ, ◌<◌, ◌≤◌, List, [], ◌∷◌, length, Option, None, Some, Result, Ok, Err, All, refl, sym, ap, ◌∙◌, subst, arith}
-use Rattle.std.specs.Prelude.{IfSome, IsUtf8}
+use Rattle.std.specs.Prelude.{IfSome}
 use Rattle.std.specs.Io.KnownBytes.{Appends}
 use Rattle.item_roll.specs.Parts.{IsRoll}
 use Rattle.neg_codec.specs.declared.CodecFault.{CodecFault}
@@ -24,8 +24,7 @@ use Rattle.neg_session.specs.declared.fault.SessionFault.TheVariants.{PeerFailed
 use Rattle.mirror_run.specs.ReconText.{recon_text}
 use Rattle.mirror_run.specs.declared.refusal.Refusal.{Refusal}
 use Rattle.mirror_run.specs.declared.refusal.Refusal.TheVariants as refusal
-use Rattle.mirror_run.specs.Refused.{IsTextRefusal, IsLinesRefusal}
-use Rattle.mirror_run.specs.Reconciled.{Reconciles, Fails, TellsRolls, IsSessionRefusal, IsListsRefusal, IsReconRefusal, IsPrinted}
+use Rattle.mirror_run.specs.Reconciled.{Reconciles, Fails, TellsRolls, IsSessionRefusal, IsListsRefusal, IsPrinted}
 
 -- a peer that was asked nothing yet
 pub record IsFresh (limit : ℕ) (theirs : List Item) (peer : Local) : Type 0 where
@@ -164,48 +163,6 @@ lists_refused limit text mine theirs refusal.NotUtf8 told h = h
 lists_refused limit text mine theirs (refusal.Line n f) told h = absurd h
 lists_refused limit text mine theirs (refusal.Plan k) told h = h
 lists_refused limit text mine theirs refusal.TableFull told h = h
-
-pub lines_refused : (limit : ℕ) (text : List ℕ) (e : Refusal) → IsLinesRefusal text e → IsListsRefusal limit text e
-lines_refused limit text (refusal.Session number) h = absurd h
-lines_refused limit text refusal.Memory h = tt
-lines_refused limit text refusal.Read h = h
-lines_refused limit text refusal.Write h = h
-lines_refused limit text refusal.InputTooLong h = h
-lines_refused limit text refusal.NotUtf8 h = h
-lines_refused limit text (refusal.Line n f) h = h
-lines_refused limit text (refusal.Plan k) h = h
-lines_refused limit text refusal.TableFull h = h
-
-pub input_refused : (limit : ℕ) (known : Option (List ℕ)) (text : List ℕ) (e : Refusal) → IfSome known (λ input. text ≡ input) → length text ≤ 67108864 → IsUtf8 text → IsListsRefusal limit text e
-    → IfSome known (λ input. IsReconRefusal limit input e)
-input_refused limit None text e is short utf8 h = tt
-input_refused limit (Some input) text e is short utf8 h = subst (λ (bytes : List ℕ). IsReconRefusal limit bytes e) is (go e h)
-  where
-    go : (e : Refusal) → IsListsRefusal limit text e → IsReconRefusal limit text e
-    go (refusal.Session number) h = h
-    go refusal.Memory h = tt
-    go refusal.Read h = absurd h
-    go refusal.Write h = absurd h
-    go refusal.InputTooLong h = absurd h
-    go refusal.NotUtf8 h = absurd h
-    go (refusal.Line n f) h = (short, utf8, h)
-    go (refusal.Plan k) h = absurd h
-    go refusal.TableFull h = absurd h
-
-pub text_refused : (limit : ℕ) (known : Option (List ℕ)) (e : Refusal) → IfSome known (λ input. IsTextRefusal input e) → IfSome known (λ input. IsReconRefusal limit input e)
-text_refused limit None e h = tt
-text_refused limit (Some input) e h = go e h
-  where
-    go : (e : Refusal) → IsTextRefusal input e → IsReconRefusal limit input e
-    go (refusal.Session number) h = absurd h
-    go refusal.Memory h = h
-    go refusal.Read h = h
-    go refusal.Write h = absurd h
-    go refusal.InputTooLong h = h
-    go refusal.NotUtf8 h = h
-    go (refusal.Line n f) h = absurd h
-    go (refusal.Plan k) h = h
-    go refusal.TableFull h = h
 
 -- what was written, where the input is known
 pub printed : (limit : ℕ) (known old new : Option (List ℕ)) (text : List ℕ) (mine theirs : List Item) (log pairs : List Exchange) (o : Outcome) (trusted : ℕ)

@@ -24,15 +24,35 @@ fn read_bytes<R: Read>(alloc: Global, reader: &mut R) -> Result<Vec<u8>, Refusal
     }
 }
 
-/// The text of bytes, if there aren't too many.
-fn text_of(bytes: Vec<u8>) -> Result<String, Refusal>
-    ensures ok { IfOk result (λ text. string_bytes text ≡ bytes.items) }
-    ensures short { IfOk result (λ text. length (string_bytes text) ≤ 67108864) }
+/// Bytes, if there aren't too many.
+fn limited(bytes: Vec<u8>) -> Result<Vec<u8>, Refusal>
+    ensures ok { IfOk result (λ v. (v.items ≡ bytes.items) × (length v.items ≤ 67108864)) }
     ensures err { IfErr result (IsTextRefusal bytes.items) }
 {
     if bytes.len() > LONGEST_INPUT {
         return Err(Refusal::InputTooLong);
     }
+    Ok(bytes)
+}
+
+/// The bytes that the reader gives.
+pub(crate) fn read_all<R: Read>(alloc: Global, reader: &mut R) -> Result<Vec<u8>, Refusal>
+    ensures ok { IfOk result (λ v. IfSome (R.remaining reader.old) (λ input. v.items ≡ input)) }
+    ensures short { IfOk result (λ v. length v.items ≤ 67108864) }
+    ensures err { IfErr result (λ e. IfSome (R.remaining reader.old) (λ input. IsTextRefusal input e)) }
+{
+    match read_bytes(alloc, reader) {
+        Ok(bytes) => limited(bytes),
+        Err(refusal) => Err(refusal),
+    }
+}
+
+/// The text of bytes.
+fn text_of(bytes: Vec<u8>) -> Result<String, Refusal>
+    requires { length bytes.items ≤ 67108864 }
+    ensures ok { IfOk result (λ text. string_bytes text ≡ bytes.items) }
+    ensures err { IfErr result (IsTextRefusal bytes.items) }
+{
     match String::from_utf8(bytes) {
         Ok(text) => Ok(text),
         Err(_) => Err(Refusal::NotUtf8),
@@ -45,7 +65,7 @@ pub fn read_input<R: Read>(alloc: Global, reader: &mut R) -> Result<String, Refu
     ensures short { IfOk result (λ text. length (string_bytes text) ≤ 67108864) }
     ensures err { IfErr result (λ e. IfSome (R.remaining reader.old) (λ input. IsTextRefusal input e)) }
 {
-    match read_bytes(alloc, reader) {
+    match read_all(alloc, reader) {
         Ok(bytes) => text_of(bytes),
         Err(refusal) => Err(refusal),
     }

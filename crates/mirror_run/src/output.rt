@@ -1,6 +1,6 @@
 //! What `recon` prints.
 
-ghost use Rattle.std.specs.Prelude.{◌≡◌, ◌≤◌, ◌⊎◌, [], length, flat_map, OnOk, IfErr};
+ghost use Rattle.std.specs.Prelude.{◌≡◌, ◌≤◌, ◌⊎◌, [], ◌∷◌, length, flat_map, OnOk, IfErr};
 ghost use Rattle.std.specs.Io.KnownBytes.{Appends, Keeps};
 ghost use Rattle.mirror_run.specs.Waiting.{Sends};
 ghost use Rattle.hex.specs.Hex.{encode_lower};
@@ -16,12 +16,22 @@ use std::collections::BTreeSet;
 use std::io;
 use std::io::Write;
 
-/// Writes up to 4,096 bytes in hex.
-fn write_hex_part<W: Write>(out: &mut W, wait: &mut Vec<u8>, bytes: &[u8]) -> io::Result<()>
-    requires { length bytes.now ≤ 4096 }
+/// Writes 32 bytes in hex.
+fn write_hex_block<W: Write>(out: &mut W, wait: &mut Vec<u8>, bytes: &[u8]) -> io::Result<()>
+    requires { length bytes.now ≡ 32 }
     ensures { OnOk result (Sends (W.contents out.old) wait.old.items (W.contents out.new) wait.new.items (encode_lower bytes.now)) }
 {
-    let mut text = [0; 8192];
+    let mut block = [0; 32];
+    block.copy_from_slice(bytes);
+    put(out, wait, &digits_of(&Id(block)))
+}
+
+/// Writes at most 32 bytes in hex.
+fn write_hex_rest<W: Write>(out: &mut W, wait: &mut Vec<u8>, bytes: &[u8]) -> io::Result<()>
+    requires { length bytes.now ≤ 32 }
+    ensures { OnOk result (Sends (W.contents out.old) wait.old.items (W.contents out.new) wait.new.items (encode_lower bytes.now)) }
+{
+    let mut text = [0; 64];
     let (front, _) = text.split_at_mut(2 * bytes.len());
     let Ok(()) = hex::encode_to_slice(bytes, front) else {
         unreachable!();
@@ -34,12 +44,12 @@ fn write_hex<W: Write>(out: &mut W, wait: &mut Vec<u8>, bytes: &[u8]) -> io::Res
     ensures { OnOk result (Sends (W.contents out.old) wait.old.items (W.contents out.new) wait.new.items (encode_lower bytes.now)) }
 {
     let mut rest = bytes;
-    while rest.len() > 4096 {
-        let (front, after) = rest.split_at(4096);
-        write_hex_part(out, wait, front)?;
+    while rest.len() > 32 {
+        let (front, after) = rest.split_at(32);
+        write_hex_block(out, wait, front)?;
         rest = after;
     }
-    write_hex_part(out, wait, rest)
+    write_hex_rest(out, wait, rest)
 }
 
 /// Writes a line of a word and bytes in hex.
@@ -58,11 +68,10 @@ fn write_message<W: Write>(
 }
 
 /// Writes a line of a sign and an id.
-fn write_id<W: Write>(out: &mut W, wait: &mut Vec<u8>, sign: &[u8], id: &Id) -> io::Result<()>
-    ensures { OnOk result (Sends (W.contents out.old) wait.old.items (W.contents out.new) wait.new.items (message_text sign.now id.now.0)) }
+fn write_id<W: Write>(out: &mut W, wait: &mut Vec<u8>, sign: u8, id: &Id) -> io::Result<()>
+    ensures { OnOk result (Sends (W.contents out.old) wait.old.items (W.contents out.new) wait.new.items (message_text (sign ∷ []) id.now.0)) }
 {
-    put(out, wait, sign)?;
-    put(out, wait, b" ")?;
+    put(out, wait, &[sign, b' '])?;
     put(out, wait, &digits_of(id))?;
     put(out, wait, b"\n")
 }
@@ -86,10 +95,10 @@ fn write_ids<W: Write>(
     out: &mut W,
     wait: &mut Vec<u8>,
     word: &[u8],
-    sign: &[u8],
+    sign: u8,
     ids: &BTreeSet<Id>,
 ) -> io::Result<()>
-    ensures { OnOk result (Sends (W.contents out.old) wait.old.items (W.contents out.new) wait.new.items (ids_text word.now sign.now ids.now.keys)) }
+    ensures { OnOk result (Sends (W.contents out.old) wait.old.items (W.contents out.new) wait.new.items (ids_text word.now (sign ∷ []) ids.now.keys)) }
 {
     write_count(out, wait, word, ids.len())?;
     for id in ids.iter() {
@@ -128,8 +137,8 @@ fn write_all_of<W: Write>(
     ensures { OnOk result (Sends (W.contents out.old) wait.old.items (W.contents out.new) wait.new.items (recon_text pairs.now need.now.keys have.now.keys trusted)) }
 {
     write_pairs(out, wait, pairs)?;
-    write_ids(out, wait, b"need", b"+", need)?;
-    write_ids(out, wait, b"have", b"-", have)?;
+    write_ids(out, wait, b"need", b'+', need)?;
+    write_ids(out, wait, b"have", b'-', have)?;
     write_count(out, wait, b"trusted", trusted)
 }
 

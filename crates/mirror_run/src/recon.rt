@@ -7,7 +7,7 @@ ghost use Rattle.neg_session.specs.Faults.{number_of};
 ghost use Rattle.neg_session.specs.declared.fault.SessionFault.TheVariants as session_fault;
 ghost use Rattle.mirror_run.specs.Reconciled.{Reconciles, IsSessionRefusal, TellsRolls, IsListsRefusal, IsPrinted, IsReconRefusal};
 
-use crate::input::read_input;
+use crate::input::read_all;
 use crate::output::write_recon;
 use crate::refusal::Refusal;
 use crate::rolls::read_rolls;
@@ -49,13 +49,13 @@ fn session(
     }
 }
 
-/// Runs a session between the two item lists that a text of at most 67,108,864 bytes tells: the peer that answered, with
+/// Runs a session between the two item lists that a text of at most 67,108,864 bytes tells, UTF-8 or not: the peer that answered, with
 /// its messages, and what was found. No message has more than `limit` bytes, 4,096 to 1,048,576.
 ///
 /// # Errors
 ///
 /// `Line`, `Session` (3 to 5) and `Memory`; docs/FORMATS.md has their causes.
-pub fn reconcile(alloc: Global, text: &str, limit: usize) -> Result<(LocalPeer, Outcome), Refusal>
+pub fn reconcile(alloc: Global, text: &[u8], limit: usize) -> Result<(LocalPeer, Outcome), Refusal>
     requires short { length text.now ≤ 67108864 }
     requires limit { 4096 ≤ limit × limit ≤ 1048576 }
     ensures ok { IfOk result (λ s. (mine : List Item) × (theirs : List Item) × TellsRolls text.now mine theirs × Reconciles limit mine theirs s.0.log s.1) }
@@ -63,6 +63,36 @@ pub fn reconcile(alloc: Global, text: &str, limit: usize) -> Result<(LocalPeer, 
 {
     let (mine, theirs) = read_rolls(alloc, text)?;
     session(alloc, &mine, theirs, limit)
+}
+
+/// Why bytes gave nothing. Lists have no byte but of ASCII, so that only bytes that are refused are looked at for whether
+/// they are a text at all, which comes first.
+fn refusal_of_input(bytes: &[u8], limit: usize, refusal: Refusal) -> Refusal
+    requires short { length bytes.now ≤ 67108864 }
+    requires lists { IsListsRefusal limit bytes.now refusal }
+    ensures { IsReconRefusal limit bytes.now result }
+{
+    match str::from_utf8(bytes) {
+        Ok(_) => refusal,
+        Err(_) => Refusal::NotUtf8,
+    }
+}
+
+/// The same as `reconcile` of an input.
+fn reconcile_input(
+    alloc: Global,
+    bytes: &[u8],
+    limit: usize,
+) -> Result<(LocalPeer, Outcome), Refusal>
+    requires short { length bytes.now ≤ 67108864 }
+    requires limit { 4096 ≤ limit × limit ≤ 1048576 }
+    ensures ok { IfOk result (λ s. (mine : List Item) × (theirs : List Item) × TellsRolls bytes.now mine theirs × Reconciles limit mine theirs s.0.log s.1) }
+    ensures err { IfErr result (IsReconRefusal limit bytes.now) }
+{
+    match reconcile(alloc, bytes, limit) {
+        Ok(found) => Ok(found),
+        Err(refusal) => Err(refusal_of_input(bytes, limit, refusal)),
+    }
 }
 
 /// Reads two item lists, runs a session between them, and prints its messages and results. No message has more than
@@ -84,8 +114,8 @@ pub fn run_recon<R: Read, W: Write>(
     ensures err { IfErr result (λ e. IfSome (R.remaining reader.old) (λ input. IsReconRefusal limit input e)) }
     ensures unwritten { IfErr result (λ e. e ≢ Refusal.Write → Keeps (W.contents writer.old) (W.contents writer.new)) }
 {
-    let text = read_input(alloc, reader)?;
-    let (peer, outcome) = reconcile(alloc, text.as_str(), limit)?;
+    let bytes = read_all(alloc, reader)?;
+    let (peer, outcome) = reconcile_input(alloc, &bytes, limit)?;
     write_recon(
         alloc,
         writer,

@@ -11,14 +11,14 @@ use crate::refusal::Refusal;
 use item_roll::Roll;
 use std::alloc::Global;
 
-/// The rolls of `mine` and `theirs` that a text tells.
-pub fn read_rolls(alloc: Global, text: &str) -> Result<(Roll, Roll), Refusal>
+/// The rolls of `mine` and `theirs` that a text tells, in bytes.
+pub fn read_rolls(alloc: Global, text: &[u8]) -> Result<(Roll, Roll), Refusal>
     requires { length text.now ≤ 67108864 }
     ensures ok { IfOk result (λ rolls. (mine : List AnItem) × (theirs : List AnItem)
         × IsInput text.now mine theirs × IsPermutation mine rolls.0 × IsPermutation theirs rolls.1) }
     ensures err { IfErr result (IsLinesRefusal text.now) }
 {
-    let lists = read_lists(alloc, text.as_bytes())?;
+    let lists = read_lists(alloc, text)?;
     let mine = place_items(alloc, &lists.mine, 2)?;
     let theirs = place_items(alloc, &lists.theirs, lists.mine.len() + 3)?;
     Ok((mine, theirs))

@@ -1,10 +1,13 @@
-use Rattle.mirror_run.proofs.InputLemmas.{read_text, read_refusal}
+use Rattle.std.proofs.Common.{◌∙◌, subst}
+use Rattle.std.proofs.lemmas.Option.{IfSome_then}
+use Rattle.std.proofs.lemmas.Result.{IfOk-weaker, IfErr-weaker}
+use Rattle.mirror_run.specs.Refused.{IsTextRefusal}
 use Rattle.mirror_run.proofs.input.read_input.Goals as goal
 
 pub returns-in-Ok-clause-ok : goal.returns-in-Ok-clause-ok
 returns-in-Ok-clause-ok g c =
-    read_text c.text_of.result c.in-Ok.bytes.items (g.R.Read.remaining c.args.reader.now) c.text_of.ensures.ok c.text_of.ensures.short c.in-Ok.ensures.ok
+    IfOk-weaker c.text_of.result _ _ (λ t h. IfSome_then (g.R.Read.remaining c.args.reader.now) c.in-Ok.ensures.ok (λ input is. h ∙ is)) c.text_of.ensures.ok
 
 pub returns-in-Ok-clause-err : goal.returns-in-Ok-clause-err
 returns-in-Ok-clause-err g c =
-    read_refusal c.text_of.result c.in-Ok.bytes.items (g.R.Read.remaining c.args.reader.now) c.text_of.ensures.err c.in-Ok.ensures.ok
+    IfErr-weaker c.text_of.result (IsTextRefusal c.in-Ok.bytes.items) _ (λ e h. IfSome_then (g.R.Read.remaining c.args.reader.now) c.in-Ok.ensures.ok (λ input is. subst (λ t. IsTextRefusal t e) is h)) c.text_of.ensures.err

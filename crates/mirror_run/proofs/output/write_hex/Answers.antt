@@ -15,16 +15,16 @@ loop-rest-preserved g c =
     let rest = c.loop-rest.rest.now in
     let front = c.split_at.result.0.now in
     let after = c.split_at.result.1.now in
-    let whole : rest ≡ front ++ after = rw (c.split_at.ensures.front, c.split_at.ensures.back) (sym (take-append-drop 4096 rest)) in (
+    let whole : rest ≡ front ++ after = rw (c.split_at.ensures.front, c.split_at.ensures.back) (sym (take-append-drop 32 rest)) in (
       h.0 ++ front,
       h.1 ∙ ap (λ t. h.0 ++ t) whole ∙ sym (append_assoc h.0 front after),
-      Appends-same _ _ (encode_lower h.0 ++ encode_lower front) _ (sym (encode-append h.0 front)) (Appends-both _ _ _ _ _ h.2 c.in_ok-write_hex_part.ensures),
+      Appends-same _ _ (encode_lower h.0 ++ encode_lower front) _ (sym (encode-append h.0 front)) (Appends-both _ _ _ _ _ h.2 c.in_ok-write_hex_block.ensures),
     )
 
 pub returns : goal.returns
 returns g c =
     let h = c.loop-rest.invariant in
     let rest = c.loop-rest.rest.now in
-    on_ok_weaker c.write_hex_part-2.result
+    on_ok_weaker c.write_hex_rest.result
     (λ last. Appends-same _ _ (encode_lower h.0 ++ encode_lower rest) _ (sym (encode-append h.0 rest) ∙ ap encode_lower (sym h.1)) (Appends-both _ _ _ _ _ h.2 last))
-    c.write_hex_part-2.ensures
+    c.write_hex_rest.ensures

@@ -10,14 +10,14 @@ use Rattle.mirror_run.proofs.output.write_ids.Goals as goal
 
 pub loop-id-preserved : goal.loop-id-preserved
 loop-id-preserved g c =
-    let line = λ (id : Id). message_text c.args.sign.now id.0 in
+    let line = λ (id : Id). message_text (c.args.sign ∷ []) id.0 in
     let more : flat_map line (map deref (c.loop-id.yielded ++ c.in-Some.id ∷ [])) ≡ flat_map line (map deref c.loop-id.yielded) ++ line c.in-Some.id.now =
     ap (flat_map line) (map-append deref c.loop-id.yielded (c.in-Some.id ∷ [])) ∙ flat_map-push line (map deref c.loop-id.yielded) c.in-Some.id.now in
     Appends-same _ _ _ _ (sym more) (Appends-both _ _ _ _ _ c.loop-id.invariant c.in_ok-write_id.ensures)
 
 pub returns : goal.returns
 returns g c =
-    let line = λ (id : Id). message_text c.args.sign.now id.0 in
+    let line = λ (id : Id). message_text (c.args.sign ∷ []) id.0 in
     let all : map deref c.loop-id.yielded ≡ c.args.ids.now.keys = search (rules, iter_end) in
     Appends-both _ _ _ _ _ (Appends-same _ _ _ _ (ap (count_text c.args.word.now) c.len.ensures.len) c.in_ok-write_count.ensures)
     (Appends-same _ _ _ _ (ap (flat_map line) all) c.loop-id.invariant)

@@ -1,5 +1,4 @@
 use Rattle.std.proofs.Common.{rules, ◌≡◌, ℕ, List, length, subst, arith}
-use Rattle.std.specs.Prelude.{string_bytes}
 use Rattle.std.proofs.lemmas.Result.{on_ok_weaker}
 use Rattle.mirror_run.specs.Reconciled.{TellsRolls}
 use Rattle.mirror_run.proofs.SessionLemmas.{printed}
@@ -8,9 +7,9 @@ use Rattle.mirror_run.proofs.recon.run_recon.Goals as goal
 pub returns-clause-ok : goal.returns-clause-ok
 returns-clause-ok g c =
     let count : c.len.result ≡ length c.in_ok-peer.outcome.trusted.items = omega (arith, c.len.ensures, c.in_ok-peer.outcome.trusted.ok.0) in
-    let same : c.as_str.result.now ≡ string_bytes c.in_ok-text.text = search rules in
+    let same : c.deref.result.now ≡ c.in_ok-bytes.bytes.items = search rules in
     on_ok_weaker c.write_recon.result
     (printed c.args.limit (g.R.Read.remaining c.args.reader.now) (g.W.Write.contents c.args.writer.now) (g.W.Write.contents c.write_recon.new.writer) _ c.in_ok-peer.ensures.ok.0 c.in_ok-peer.ensures.ok.1
-    c.in_ok-peer.peer.log c.pairs.result.now c.in_ok-peer.outcome c.len.result c.in_ok-text.ensures.ok
+    c.in_ok-peer.peer.log c.pairs.result.now c.in_ok-peer.outcome c.len.result c.in_ok-bytes.ensures.ok
     (subst (λ (t : List ℕ). TellsRolls t c.in_ok-peer.ensures.ok.0 c.in_ok-peer.ensures.ok.1) same c.in_ok-peer.ensures.ok.2) c.in_ok-peer.ensures.ok.3 c.pairs.ensures count)
     c.write_recon.ensures.ok
