@@ -1,6 +1,6 @@
 -- Bytes and their digits, one after another.
-use Rattle.std.proofs.Common.{◌≡◌, ◌≢◌, ℕ, zero, suc, ◌+◌, ◌*◌, ◌/◌, ◌%◌, ◌<◌, ◌≤◌, ◌⊎◌, inl, inr, All, List, [], ◌∷◌, ◌++◌, length, take, get_or, slice_index, set, length-set, refl, ap, sym, ◌∙◌, append_assoc, arith}
-use Rattle.std.proofs.lemmas.List.{take_more, take_more_set}
+use Rattle.std.proofs.Common.{◌≡◌, ◌≢◌, ℕ, zero, suc, ◌+◌, ◌*◌, ◌/◌, ◌%◌, ◌<◌, ◌≤◌, ◌⊎◌, inl, inr, All, List, [], ◌∷◌, ◌++◌, length, map, take, get_or, slice_index, set, length-set, refl, ap, sym, ◌∙◌, append_assoc, arith}
+use Rattle.std.proofs.lemmas.List.{take_more, take_more_set, map-append}
 use Rattle.std.proofs.lemmas.List.Elements.{All-head, All-tail}
 use Rattle.hex.specs.Hex.{encode_lower, encode_with, lower_digits}
 use Rattle.neg_codec.specs.declared.Id.{Id}
@@ -69,18 +69,22 @@ pub record HasStray (text : List ℕ) (n : ℕ) : Type 0 where
   pub before : at < n
   pub stray : (d : ℕ) → d < 16 → get_or text at 0 ≢ slice_index lower_digits d
 
--- two bytes more
-pub stray_more : (text : List ℕ) (i most high low new : ℕ) → 16 ≤ new → (new ≡ most) ⊎ (new ≡ high) ⊎ (new ≡ low)
-    → (16 ≤ most → HasStray text (2 * i))
-    → (16 ≤ high → (d : ℕ) → d < 16 → get_or text (2 * i) 0 ≢ slice_index lower_digits d)
-    → (16 ≤ low → (d : ℕ) → d < 16 → get_or text (2 * i + 1) 0 ≢ slice_index lower_digits d)
-    → HasStray text (2 * (i + 1))
-stray_more text i most high low new large is was of_high of_low = elim is [
+-- one digit more
+pub values_more : (text values : List ℕ) (i value : ℕ) → i < length text → i < length values → get_or text i 0 ≡ slice_index lower_digits value
+    → take i text ≡ map (slice_index lower_digits) (take i values)
+    → take (i + 1) text ≡ map (slice_index lower_digits) (take (i + 1) (set values i value))
+values_more text values i value of_text of_values is so_far =
+    let digit = slice_index lower_digits in
+    take_more text i 0 of_text ∙ rw (so_far, is) refl ∙ sym (map-append digit (take i values) (value ∷ [])) ∙ ap (map digit) (sym (take_more_set values i value of_values))
+
+-- one byte more
+pub stray_more : (text : List ℕ) (i most value new : ℕ) → 16 ≤ new → (new ≡ most) ⊎ (new ≡ value)
+    → (16 ≤ most → HasStray text i)
+    → (16 ≤ value → (d : ℕ) → d < 16 → get_or text i 0 ≢ slice_index lower_digits d)
+    → HasStray text (i + 1)
+stray_more text i most value new large is was of_value = elim is [
   | inl e ↦ let s = was (omega (arith, e, large)) in record { at = s.at; before = omega (arith, s.before); stray = s.stray }
-  | inr rest ↦ elim rest [
-    | inl e ↦ record { at = 2 * i; before = omega arith; stray = of_high (omega (arith, e, large)) }
-    | inr e ↦ record { at = 2 * i + 1; before = omega arith; stray = of_low (omega (arith, e, large)) }
-  ]
+  | inr e ↦ record { at = i; before = omega arith; stray = of_value (omega (arith, e, large)) }
 ]
 
 -- the digits of bytes are lower-case digits

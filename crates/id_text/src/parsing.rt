@@ -1,6 +1,6 @@
 //! The id that a text tells.
 
-ghost use Rattle.std.specs.Prelude.{◌≡◌, ◌≢◌, ◌<◌, ◌≤◌, ◌⊎◌, ◌/◌, ◌%◌, ℕ, IfSome, IfNone, slice_index};
+ghost use Rattle.std.specs.Prelude.{◌≡◌, ◌≢◌, ◌<◌, ◌≤◌, ◌⊎◌, ◌/◌, ◌%◌, ℕ, All, length, map, IfSome, IfNone, slice_index};
 ghost use Rattle.hex.specs.Hex.{encode_lower, lower_digits};
 ghost use Rattle.neg_codec.specs.declared.Id.{Id as AnId};
 ghost use Rattle.neg_codec.specs.Keys.{IsId};
@@ -24,13 +24,30 @@ fn hex_digit(byte: u8) -> u8
     }
 }
 
-/// The greatest of three.
-fn greatest(a: u8, b: u8, c: u8) -> u8
-    ensures above { (a ≤ result) × (b ≤ result) × (c ≤ result) }
-    ensures one { (result ≡ a) ⊎ (result ≡ b) ⊎ (result ≡ c) }
+/// The greater of two.
+fn greater(a: u8, b: u8) -> u8
+    ensures above { (a ≤ result) × (b ≤ result) }
+    ensures one { (result ≡ a) ⊎ (result ≡ b) }
 {
-    let first = if a < b { b } else { a };
-    if first < c { c } else { first }
+    if a < b { b } else { a }
+}
+
+/// The values of 64 digits, and the greatest of them. All digits are looked at before one is refused, so that none costs a
+/// branch and this becomes vector code.
+fn values_of(text: &[u8]) -> ([u8; 64], u8)
+    requires { length text.now ≡ 64 }
+    ensures digits { result.1 < 16 → text.now ≡ map (slice_index lower_digits) result.0 }
+    ensures small { result.1 < 16 → All (λ v. v < 16) result.0 }
+    ensures other { 16 ≤ result.1 → (id : AnId) → IsId id → text.now ≢ encode_lower id.0 }
+{
+    let mut values = [0; 64];
+    let mut most = 0;
+    for i in 0..64 {
+        let value = hex_digit(text[i]);
+        values[i] = value;
+        most = greater(most, value);
+    }
+    (values, most)
 }
 
 /// The byte of two digits.
@@ -41,8 +58,20 @@ fn byte_of(high: u8, low: u8) -> u8
     high.wrapping_mul(16).wrapping_add(low)
 }
 
-/// The id of a text of 64 lower-case hex digits, in the order of its bytes. All digits are looked at before one is
-/// refused, so that none costs a branch.
+/// The id whose digits have these values.
+fn id_of(values: &[u8; 64]) -> Id
+    requires { All (λ v. v < 16) values.now }
+    ensures digits { map (slice_index lower_digits) values.now ≡ encode_lower result.0 }
+    ensures id { IsId result }
+{
+    let mut id = [0; 32];
+    for i in 0..32 {
+        id[i] = byte_of(values[2 * i], values[2 * i + 1]);
+    }
+    Id(id)
+}
+
+/// The id of a text of 64 lower-case hex digits, in the order of its bytes.
 pub fn parse_id(text: &[u8]) -> Option<Id>
     ensures found { IfSome result (λ id. text.now ≡ encode_lower id.0) }
     ensures id { IfSome result IsId }
@@ -51,16 +80,9 @@ pub fn parse_id(text: &[u8]) -> Option<Id>
     if text.len() != 64 {
         return None;
     }
-    let mut id = [0; 32];
-    let mut most = 0;
-    for i in 0..32 {
-        let high = hex_digit(text[2 * i]);
-        let low = hex_digit(text[2 * i + 1]);
-        most = greatest(most, high, low);
-        id[i] = byte_of(high, low);
-    }
+    let (values, most) = values_of(text);
     if most > 15 {
         return None;
     }
-    Some(Id(id))
+    Some(id_of(&values))
 }
