@@ -33,10 +33,10 @@ fn note(into: &mut BTreeSet<Id>, id: &Id, others: &Lookup<'_>, most: usize) -> R
     if others.has(id) {
         return Ok(());
     }
-    if has(&*into, id) {
-        return Ok(());
-    }
     if into.len() >= most {
+        if has(&*into, id) {
+            return Ok(());
+        }
         return Err(InitFault::NeedFull);
     }
     put(into, *id)?;
