@@ -2,7 +2,8 @@
 use Rattle.std.proofs.Common.{◌≡◌, ◌≢◌, ℕ, zero, suc, ◌+◌, ◌-◌, ◌^◌, ◌<◌, ◌≤◌, inl, inr, Bool, true, false, ltb, eqb, List, [], ◌∷◌, ◌++◌, length, get_or, take, drop, replicate, refl, sym, ap, subst, ◌∙◌, append_assoc, arith, drop-cons}
 use Rattle.std.specs.Prelude.{All}
 use Rattle.std.proofs.lemmas.Bool.{lt-ltb, eq-eqb, ne_eqb, eqb-true}
-use Rattle.std.proofs.lemmas.List.{length-take, append-nil}
+use Rattle.std.proofs.lemmas.List.{length-take, append-nil, replicate-append-replicate}
+use Rattle.std.proofs.lemmas.List.Folds.{drop_split}
 use Rattle.std.proofs.lemmas.List.Elements.{All-head, All-tail}
 use Rattle.neg_varint.specs.Spelling.{IsSpelling, spelling}
 use Rattle.neg_varint.proofs.Sole.{spelling_spells}
@@ -70,6 +71,13 @@ pub zeros_more : (bytes : List ℕ) (n k m p : ℕ) → k ≡ suc n → p ≡ su
 zeros_more bytes n k m p e f lt zero_at zeros =
     let after : drop (suc n) bytes ≡ replicate m 0 = ap (λ (x : ℕ). drop x bytes) (sym e) ∙ zeros in
     drop-cons bytes n 0 lt ∙ ap (λ (x : ℕ). x ∷ drop (suc n) bytes) zero_at ∙ ap (λ (x : List ℕ). 0 ∷ x) after ∙ ap (λ (x : ℕ). replicate x 0) (sym f)
+
+-- eight zeros, and only zeros after them
+pub zeros_before : (bytes : List ℕ) (n k m p : ℕ) → k ≡ n + 8 → p ≡ 8 + m → take 8 (drop n bytes) ≡ replicate 8 0 → drop k bytes ≡ replicate m 0 → drop n bytes ≡ replicate p 0
+zeros_before bytes n k m p e f word zeros =
+    let eight : k - n ≡ 8 = omega (arith, e) in
+    drop_split bytes n k (omega (arith, e)) ∙ ap (λ (x : ℕ). take x (drop n bytes) ++ drop k bytes) eight ∙ ap (λ (x : List ℕ). x ++ drop k bytes) word
+    ∙ ap (λ (x : List ℕ). replicate 8 0 ++ x) zeros ∙ replicate-append-replicate 8 m 0 ∙ ap (λ (x : ℕ). replicate x 0) (sym f)
 
 -- ---- bounds
 

@@ -1,6 +1,6 @@
 //! How messages are written.
 
-ghost use Rattle.std.specs.Prelude.{◌≡◌, ◌++◌, ◌≤◌, IfOk, OnOk, length};
+ghost use Rattle.std.specs.Prelude.{◌≡◌, ◌++◌, ◌+◌, ◌-◌, ◌≤◌, IsTrue, IfOk, OnOk, length, take, drop, replicate};
 ghost use Rattle.std.specs.List.{flat_map};
 ghost use Rattle.neg_codec.specs.Ranges.{edge_of, claim_of, span_of};
 ghost use Rattle.neg_codec.specs.Text.{Spells};
@@ -10,12 +10,37 @@ use crate::{Bound, Id, Key, Message, Payload, Range};
 use neg_varint::put;
 use std::alloc::{AllocError, Global};
 
+/// Whether eight bytes of an id, those from a place on, are zeros.
+fn are_zeros(id: &[u8; 32], from: usize) -> bool
+    requires { from + 8 ≤ 32 }
+    ensures { IsTrue result → take 8 (drop from id.now) ≡ replicate 8 0 }
+{
+    let mut word = [0; 8];
+    word.copy_from_slice(&id[from..from + 8]);
+    u64::from_be_bytes(word) == 0
+}
+
+/// How many bytes of an id are left without zeros at its end, of which eight at a time are left out.
+fn words_kept(id: &[u8; 32]) -> usize
+    ensures within { result ≤ 32 }
+    ensures zeros { drop result id.now ≡ replicate (32 - result) 0 }
+{
+    let mut len = 32;
+    while len >= 8 {
+        if !are_zeros(id, len - 8) {
+            return len;
+        }
+        len -= 8;
+    }
+    len
+}
+
 /// How many bytes of an id are left without the zeros at its end.
 pub(crate) fn len_kept(id: &[u8; 32]) -> usize
     ensures value { result ≡ length_kept id.now }
     ensures within { result ≤ length id.now }
 {
-    let mut len = 32;
+    let mut len = words_kept(id);
     while len > 0 {
         if id[len - 1] != 0 {
             return len;

@@ -1,10 +1,9 @@
 use Rattle.std.proofs.Common.{◌-◌, sym, arith}
-use Rattle.std.proofs.Math.ListN.{drop_of_length-le}
 use Rattle.neg_codec.proofs.Writes.{kept_at, zeros_more}
 use Rattle.neg_codec.proofs.writing.len_kept.Goals as goal
 
 pub loop-len-init : goal.loop-len-init
-loop-len-init c = record { within = omega arith; zeros = drop_of_length-le c.args.id.now {i = 32} (omega (arith, c.told-id)) }
+loop-len-init c = record { within = c.words_kept-len.ensures.within; zeros = c.words_kept-len.ensures.zeros }
 
 pub returns-then-id-len-ne0-clause-value : goal.returns-then-id-len-ne0-clause-value
 returns-then-id-len-ne0-clause-value c =
