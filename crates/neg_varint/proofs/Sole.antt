@@ -104,5 +104,13 @@ one_spelling n us bs sa sb =
     ] in
     same_digits us bs len (λ s. sa.marked) (λ s. sb.marked) (sym sa.value ∙ sb.value)
 
+-- one digit spells itself
+pub short_spelling : (n : ℕ) → n < 128 → spelling n ≡ n ∷ []
+unfolding spelling
+short_spelling n lt =
+    let none : n / 128 ≡ 0 = omega arith in
+    let all : n % 128 ≡ n = omega arith in
+    rw (none, all) refl
+
 pub spelling_is : (n : ℕ) (text : List ℕ) → IsSpelling n text → text ≡ spelling n
 spelling_is n text s = one_spelling n text (spelling n) s (spelling_spells n s.in_range)

@@ -97,6 +97,10 @@ pub fn put(out: &mut Vec<u8>, n: u64) -> Result<(), AllocError>
     ensures err { OnErr result (out.new.items ≡ out.old.items) }
     ensures spelled { IsSpelling n (spelling n) }
 {
+    if n < 128 {
+        out.push(n as u8)?;
+        return Ok(());
+    }
     let (bytes, len) = spell(n);
     out.extend_from_slice(&bytes[..len])
 }
