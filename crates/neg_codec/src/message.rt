@@ -14,6 +14,9 @@ use crate::{Bound, CodecFault, Id, Payload, Range};
 use std::alloc::{AllocError, Global};
 use std::marker::Model;
 
+/// A range with a fingerprint takes some bytes more.
+const PRINT_BYTES: usize = 16;
+
 /// Ranges whose bounds don't descend, none of them after an infinite bound (Negentropy protocol V1,
 /// "Message").
 #[derive(Debug, Drop)]
@@ -167,7 +170,7 @@ fn next_range<'a>(
 fn ranges_of(alloc: Global, total: usize, bytes: &[u8]) -> Result<Vec<Range>, CodecFault>
     ensures { Gives (λ v. map span_of v.items) result (ranges_at (length bytes.now) total least bytes.now) }
 {
-    let mut ranges = Vec::new(alloc);
+    let mut ranges = Vec::with_capacity(alloc, bytes.len() / PRINT_BYTES)?;
     let mut lower = Bound::lowest();
     let mut rest = bytes;
     while !rest.is_empty() {

@@ -10,6 +10,9 @@ use crate::{Bound, Id, Key, Message, Payload, Range};
 use neg_varint::put;
 use std::alloc::{AllocError, Global};
 
+/// Most ranges with a fingerprint take no more bytes.
+const RANGE_BYTES: usize = 24;
+
 /// Whether eight bytes of an id, those from a place on, are zeros.
 fn are_zeros(id: &[u8; 32], from: usize) -> bool
     requires { from + 8 ≤ 32 }
@@ -117,10 +120,11 @@ pub fn encode(alloc: Global, message: &Message) -> Result<Vec<u8>, AllocError>
     ensures text { IfOk result (λ v. v.items ≡ text_of message.now) }
     ensures spelled { IfOk result (λ v. Spells v.items message.now) }
 {
-    let mut out = Vec::new(alloc);
+    let ranges = message.ranges();
+    let mut out = Vec::with_capacity(alloc, ranges.len().saturating_mul(RANGE_BYTES))?;
     out.push(0x61)?;
     let mut before = 0;
-    for range in message.ranges() {
+    for range in ranges {
         put_range(&mut out, before, range)?;
         before = range.upper.time();
     }

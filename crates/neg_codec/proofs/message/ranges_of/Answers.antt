@@ -10,7 +10,7 @@ use Rattle.neg_codec.proofs.message.ranges_of.Goals as goal
 
 pub returns-in_err-range : goal.returns-in_err-range
 returns-in_err-range c =
-    let p = err_from_is_err_and c.from_residual.result c.from_residual.ensures.1 in
+    let p = err_from_is_err_and c.from_residual-in_err-range.result c.from_residual-in_err-range.ensures.1 in
     let some : 0 < length c.loop-rest.rest.now = omega (arith, eqb-false (length c.loop-rest.rest.now) 0 (sym c.is_empty.ensures ∙ c.loop-rest-test.true)) in
     rw (p.1, p.2) (ends c.in_err-range.field-0.0 (map span_of c.loop-rest.ranges.items) c.args.total (edge_of c.loop-rest.lower) c.loop-rest.rest.now _ some c.in_err-range.ensures.reads c.loop-rest.invariant)
 
