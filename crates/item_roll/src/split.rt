@@ -1,17 +1,20 @@
 //! How a piece of a roll is told by ranges.
 
-ghost use Rattle.std.specs.Prelude.{◌≡◌, ◌+◌, ◌-◌, ◌/◌, ◌^◌, ◌<◌, ◌≤◌, [], ◌∷◌, length, map, All, IfOk, slice_range, slice_index_or};
+ghost use Rattle.std.specs.Prelude.{◌≡◌, ◌+◌, ◌-◌, ◌/◌, ◌^◌, ◌<◌, ◌≤◌, [], ◌∷◌, length, map, take, All, IfOk, IfSome, slice_range, slice_index_or};
 ghost use Rattle.neg_codec.specs.declared.Item.{Item};
 ghost use Rattle.neg_codec.specs.Keys.{place, least, IsKey};
 ghost use Rattle.neg_codec.specs.Ranges.{print, ids, edge_of, span_of, Ascends};
 ghost use Rattle.neg_print.specs.Print.{print_of};
+ghost use Rattle.neg_print.specs.Total.{total_of};
 ghost use Rattle.item_roll.specs.Parts.{IsRoll, ids_of, count_below};
+ghost use Rattle.item_roll.specs.Sums.{sum_at};
 ghost use Rattle.item_roll.specs.Splits.{minimal_bound_of, prints_at, split_of};
 ghost use Rattle.item_roll.specs.Truth.{IsTrueOf};
 ghost use Rattle.item_roll.specs.Closed.{closed_from, Reaches};
 
 use crate::{Roll, minimal_bound};
 use neg_codec::{Bound, Payload, Range};
+use neg_print::Sum;
 use std::alloc::{AllocError, Global};
 
 /// How many fingerprints tell of a piece.
@@ -32,16 +35,19 @@ fn piece_end(from: usize, hi: usize, pieces: usize) -> usize
     from + (hi - from).div_ceil(pieces)
 }
 
-/// The range of the items from place lo on, below place next, by their fingerprint.
-fn printed(roll: &Roll, lo: usize, next: usize) -> Range
+/// The range of the items from place lo on, below place next, by their fingerprint. Where the sum of all items below lo is
+/// known, it needn't be found. That of all below next is handed on where it was found.
+fn printed(roll: &Roll, lo: usize, next: usize, below: Option<Sum>) -> (Range, Option<Sum>)
     requires some { lo < next }
     requires within { next < length roll.now }
-    ensures { span_of result ≡ record { upper = minimal_bound_of (slice_index_or roll.now (next - 1) least) (slice_index_or roll.now next least); claim = print (print_of (ids_of (slice_range roll.now lo next))) } }
+    requires below { IfSome below (λ s. total_of s ≡ sum_at (take lo roll.now)) }
+    ensures range { span_of result.0 ≡ record { upper = minimal_bound_of (slice_index_or roll.now (next - 1) least) (slice_index_or roll.now next least); claim = print (print_of (ids_of (slice_range roll.now lo next))) } }
+    ensures below { IfSome result.1 (λ s. total_of s ≡ sum_at (take next roll.now)) }
 {
-    Range {
-        upper: minimal_bound(&roll.get(next - 1), &roll.get(next)),
-        payload: Payload::Print(roll.print(lo, next)),
-    }
+    let upper = minimal_bound(&roll.get(next - 1), &roll.get(next));
+    let (own, below) = roll.print_from(lo, next, below);
+    let payload = Payload::Print(own);
+    (Range { upper, payload }, below)
 }
 
 /// A piece by 16 fingerprints.
@@ -58,14 +64,18 @@ fn told_by_prints(
 {
     let mut ranges = Vec::with_capacity(alloc, PIECES)?;
     let mut from = lo;
+    let mut below = None;
     for done in 0..PIECES - 1 {
         let next = piece_end(from, hi, PIECES - done);
-        ranges.push(printed(roll, from, next))?;
+        let (range, sum) = printed(roll, from, next, below);
+        ranges.push(range)?;
         from = next;
+        below = sum;
     }
+    let (last, _) = roll.print_from(from, hi, below);
     ranges.push(Range {
         upper: *upper,
-        payload: Payload::Print(roll.print(from, hi)),
+        payload: Payload::Print(last),
     })?;
     Ok(ranges)
 }

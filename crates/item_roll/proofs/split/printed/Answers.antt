@@ -11,16 +11,16 @@ made : (items : List Item) (a b x y edge : Item) (bytes ids : List ℕ) → a �
     → let r : Span = record { upper = edge; claim = print bytes } in let s : Span = record { upper = minimal_bound_of x y; claim = print ids } in r ≡ s
 made items a b x y edge bytes ids ea eb e f = rw (e, ea, eb, f) refl
 
-pub minimal_bound-requires-clause-order : goal.minimal_bound-requires-clause-order
-minimal_bound-requires-clause-order c =
+pub minimal_bound-upper-requires-clause-order : goal.minimal_bound-upper-requires-clause-order
+minimal_bound-upper-requires-clause-order c =
     rw (got c.args.roll.now (c.args.next - 1) c.get.result c.get.ensures.value, got c.args.roll.now c.args.next c.get-2.result c.get-2.ensures.value)
     (order_at c.args.roll.now (c.args.next - 1) c.args.next least c.get.ensures.roll.ascending (omega arith) c.requires.within)
 
-pub minimal_bound-requires-clause-first : goal.minimal_bound-requires-clause-first
-minimal_bound-requires-clause-first c = rw (got c.args.roll.now (c.args.next - 1) c.get.result c.get.ensures.value) (key_at c.args.roll.now (c.args.next - 1) least c.get.ensures.roll (omega arith)).time
+pub minimal_bound-upper-requires-clause-first : goal.minimal_bound-upper-requires-clause-first
+minimal_bound-upper-requires-clause-first c = rw (got c.args.roll.now (c.args.next - 1) c.get.result c.get.ensures.value) (key_at c.args.roll.now (c.args.next - 1) least c.get.ensures.roll (omega arith)).time
 
-pub minimal_bound-requires-clause-second : goal.minimal_bound-requires-clause-second
-minimal_bound-requires-clause-second c = rw (got c.args.roll.now c.args.next c.get-2.result c.get-2.ensures.value) (key_at c.args.roll.now c.args.next least c.get.ensures.roll c.requires.within).time
+pub minimal_bound-upper-requires-clause-second : goal.minimal_bound-upper-requires-clause-second
+minimal_bound-upper-requires-clause-second c = rw (got c.args.roll.now c.args.next c.get-2.result c.get-2.ensures.value) (key_at c.args.roll.now c.args.next least c.get.ensures.roll c.requires.within).time
 
-pub returns : goal.returns
-returns c = made c.args.roll.now c.get.result c.get-2.result _ _ _ _ _ (got c.args.roll.now (c.args.next - 1) c.get.result c.get.ensures.value) (got c.args.roll.now c.args.next c.get-2.result c.get-2.ensures.value) c.minimal_bound.ensures.value c.print.ensures
+pub returns-clause-range : goal.returns-clause-range
+returns-clause-range c = made c.args.roll.now c.get.result c.get-2.result _ _ _ _ _ (got c.args.roll.now (c.args.next - 1) c.get.result c.get.ensures.value) (got c.args.roll.now c.args.next c.get-2.result c.get-2.ensures.value) c.minimal_bound-upper.ensures.value c.print_from-below.ensures.print
