@@ -1,6 +1,6 @@
 //! A message that is being written.
 
-ghost use Rattle.std.specs.Prelude.{◌≡◌, ◌+◌, ◌<◌, ◌≤◌, ◌↔◌, [], ◌∷◌, IfOk, IfSome, IfNone, IsTrue, length};
+ghost use Rattle.std.specs.Prelude.{◌≡◌, ◌+◌, ◌<◌, ◌≤◌, ◌↔◌, [], ◌∷◌, IfOk, IfSome, IfNone, OnOk, IsTrue, length};
 ghost use Rattle.neg_codec.specs.Keys.{place, least, infinity};
 ghost use Rattle.neg_codec.specs.Ranges.{edge_of, claim_of, span_of};
 ghost use Rattle.neg_codec.specs.Encoding.{text_of, IsShort};
@@ -108,8 +108,22 @@ impl Draft {
         (self.limit - SPARE - self.ranges.spent()).checked_sub(head)
     }
 
-    /// Tells a range, more than a Skip, from where the draft has come to. Where memory is refused, the
-    /// draft is gone.
+    /// Tells a range, more than a Skip, from where the draft has come to. Where memory is refused, nothing is told.
+    pub(crate) fn add(&mut self, range: Range) -> Result<(), AllocError>
+        requires tells { Tells self.old.end (edge_of range.upper) (span_of range ∷ []) }
+        requires short { IsShort (claim_of range.payload) }
+        requires fits { length (text_of (told_more self.old (edge_of range.upper) (span_of range ∷ [])).spans) ≤ self.old.limit }
+        requires room { place (edge_of range.upper) < place infinity → length (text_of (told_more self.old (edge_of range.upper) (span_of range ∷ [])).spans) + 64 ≤ self.old.limit }
+        ensures { OnOk result (self.new ≡ told_more self.old (edge_of range.upper) (span_of range ∷ [])) }
+    {
+        let upper = range.upper;
+        let _ = upper.edge();
+        self.ranges.push_from(self.end, range)?;
+        self.end = upper;
+        Ok(())
+    }
+
+    /// Tells a range as `add` does. Where memory is refused, the draft is gone.
     pub(crate) fn tell(self, range: Range) -> Result<Draft, AllocError>
         requires tells { Tells self.end (edge_of range.upper) (span_of range ∷ []) }
         requires short { IsShort (claim_of range.payload) }
@@ -117,23 +131,9 @@ impl Draft {
         requires room { place (edge_of range.upper) < place infinity → length (text_of (told_more self (edge_of range.upper) (span_of range ∷ [])).spans) + 64 ≤ self.limit }
         ensures { IfOk result (λ d. d ≡ told_more self (edge_of range.upper) (span_of range ∷ [])) }
     {
-        let upper = range.upper;
-        let _ = upper.edge();
-        let Draft {
-            limit,
-            ranges,
-            end,
-            places,
-        } = self;
-        let mut ranges = ranges;
-        ranges.fill(end)?;
-        ranges.push(range)?;
-        Ok(Draft {
-            limit,
-            ranges,
-            end: upper,
-            places,
-        })
+        let mut draft = self;
+        draft.add(range)?;
+        Ok(draft)
     }
 
     /// The message of what was told, which says nothing of the keys behind that. It costs a pass over the

@@ -1,6 +1,6 @@
 //! What a roll has between two bounds.
 
-ghost use Rattle.std.specs.Prelude.{◌≡◌, ◌+◌, ◌-◌, ◌*◌, ◌<◌, ◌≤◌, ◌↔◌, ◌⊎◌, [], ◌∷◌, All, IfOk, IsTrue, length, map, slice_range};
+ghost use Rattle.std.specs.Prelude.{◌≡◌, ◌+◌, ◌-◌, ◌*◌, ◌<◌, ◌≤◌, ◌↔◌, ◌⊎◌, [], ◌∷◌, All, IfOk, OnOk, IsTrue, length, map, slice_range};
 ghost use Rattle.neg_codec.specs.Keys.{place, infinity};
 ghost use Rattle.neg_codec.specs.Ranges.{ids, edge_of, span_of};
 ghost use Rattle.neg_codec.specs.Ranges as told;
@@ -54,17 +54,27 @@ impl Draft {
     }
 
     /// Tells all that the roll has left by one fingerprint up to infinity.
-    fn close(self, roll: &Roll) -> Result<Draft, AllocError>
-        requires { place self.end < place infinity }
-        ensures { IfOk result (λ d. d ≡ told_more self infinity (all_left (print_of (ids_of (part roll.now self.end infinity))))) }
+    fn add_last(&mut self, roll: &Roll) -> Result<(), AllocError>
+        requires { place self.old.end < place infinity }
+        ensures { OnOk result (self.new ≡ told_more self.old infinity (all_left (print_of (ids_of (part roll.now self.old.end infinity))))) }
     {
         let end = self.end();
         let _ = end.edge();
         let print = roll.print(roll.find(&end), roll.find(&Bound::Infinite));
-        self.tell(Range {
+        self.add(Range {
             upper: Bound::Infinite,
             payload: Payload::Print(print),
         })
+    }
+
+    /// The draft after `add_last`.
+    fn close(self, roll: &Roll) -> Result<Draft, AllocError>
+        requires { place self.end < place infinity }
+        ensures { IfOk result (λ d. d ≡ told_more self infinity (all_left (print_of (ids_of (part roll.now self.end infinity))))) }
+    {
+        let mut draft = self;
+        draft.add_last(roll)?;
+        Ok(draft)
     }
 
     /// Lists the roll's ids from where the draft has come to up to a bound. These two have the places lo and hi.
@@ -158,23 +168,23 @@ impl Draft {
 
     /// Tells a fingerprint of the roll's items from where the draft has come to up to a bound. Where it
     /// doesn't fit, one of all that is left ends the message.
-    fn tell_print(self, roll: &Roll, upper: Bound, print: [u8; 16]) -> Result<Draft, AllocError>
-        requires finite { place self.end < place infinity }
-        requires ahead { place self.end < place (edge_of upper) }
-        requires own { print ≡ print_of (ids_of (part roll.now self.end (edge_of upper))) }
-        ensures { IfOk result (λ d. (d ≡ told_more self (edge_of upper) (record { upper = edge_of upper; claim = told.print print } ∷ [])) ⊎ Cut roll.now self (edge_of upper) d) }
+    fn add_print(&mut self, roll: &Roll, upper: Bound, print: [u8; 16]) -> Result<(), AllocError>
+        requires finite { place self.old.end < place infinity }
+        requires ahead { place self.old.end < place (edge_of upper) }
+        requires own { print ≡ print_of (ids_of (part roll.now self.old.end (edge_of upper))) }
+        ensures { OnOk result ((self.new ≡ told_more self.old (edge_of upper) (record { upper = edge_of upper; claim = told.print print } ∷ [])) ⊎ Cut roll.now self.old (edge_of upper) self.new) }
     {
         let lower = self.end();
         let _ = lower.edge();
         let _ = upper.edge();
         let Some(room) = self.room() else {
-            return self.close(roll);
+            return self.add_last(roll);
         };
         if room < PRINT_BYTES {
-            return self.close(roll);
+            return self.add_last(roll);
         }
         let payload = Payload::Print(print);
-        self.tell(Range { upper, payload })
+        self.add(Range { upper, payload })
     }
 
     /// Tells fingerprints of the roll up to a bound. Where one doesn't fit, one of all that is left ends
@@ -193,10 +203,10 @@ impl Draft {
             if draft.is_over() {
                 return Ok(draft);
             }
-            draft = match range.payload {
-                Payload::Print(print) => draft.tell_print(roll, range.upper, print)?,
+            match range.payload {
+                Payload::Print(print) => draft.add_print(roll, range.upper, print)?,
                 _ => unreachable!(),
-            };
+            }
         }
         Ok(draft)
     }

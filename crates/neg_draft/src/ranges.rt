@@ -1,6 +1,6 @@
 //! Ranges, with how many bytes they take.
 
-ghost use Rattle.std.specs.Prelude.{◌≡◌, ◌+◌, ◌<◌, ◌≤◌, ◌↔◌, ◌^◌, [], ◌∷◌, ◌++◌, IsTrue, OnOk, length, map};
+ghost use Rattle.std.specs.Prelude.{◌≡◌, ◌+◌, ◌<◌, ◌≤◌, ◌↔◌, ◌^◌, [], ◌∷◌, ◌++◌, IsTrue, OnOk, OnErr, length, map, take};
 ghost use Rattle.neg_codec.specs.Keys.{place, least};
 ghost use Rattle.neg_codec.specs.Ranges.{edge_of, claim_of, span_of};
 ghost use Rattle.neg_codec.specs.Encoding.{text_of, IsShort};
@@ -65,7 +65,8 @@ impl Ranges {
         requires above { place (end_of least self.old) ≤ place (edge_of range.upper) }
         requires short { IsShort (claim_of range.payload) }
         requires fits { length (text_of (self.old ++ span_of range ∷ [])) < 2 ^ 64 }
-        ensures { OnOk result (self.new ≡ self.old ++ span_of range ∷ []) }
+        ensures ok { OnOk result (self.new ≡ self.old ++ span_of range ∷ []) }
+        ensures err { OnErr result (self.new ≡ self.old) }
     {
         let upper = range.upper;
         let _ = upper.edge();
@@ -79,7 +80,8 @@ impl Ranges {
     /// The Skip up to a bound, where the ranges end below it.
     pub fn fill(&mut self, upper: Bound) -> Result<(), AllocError>
         requires { length (text_of (self.old ++ gap (end_of least self.old) (edge_of upper))) < 2 ^ 64 }
-        ensures { OnOk result (self.new ≡ self.old ++ gap (end_of least self.old) (edge_of upper)) }
+        ensures ok { OnOk result (self.new ≡ self.old ++ gap (end_of least self.old) (edge_of upper)) }
+        ensures err { OnErr result (self.new ≡ self.old) }
     {
         if self.end().is_below(&upper) {
             self.push(Range {
@@ -88,6 +90,37 @@ impl Ranges {
             })?;
         }
         Ok(())
+    }
+
+    /// Goes back to so many ranges, which took so many bytes and ended there.
+    fn go_back(&mut self, count: usize, spent: usize, end: Bound)
+        requires spent { spent ≡ length (text_of (take count self.old)) }
+        requires end { edge_of end ≡ end_of least (take count self.old) }
+        ensures { self.new ≡ take count self.old }
+    {
+        self.list.truncate(count);
+        self.spent = spent;
+        self.end = end;
+    }
+
+    /// One range more, after the Skip up to a bound where the ranges end below that.
+    pub fn push_from(&mut self, from: Bound, range: Range) -> Result<(), AllocError>
+        requires above { place (end_of least (self.old ++ gap (end_of least self.old) (edge_of from))) ≤ place (edge_of range.upper) }
+        requires short { IsShort (claim_of range.payload) }
+        requires skip { length (text_of (self.old ++ gap (end_of least self.old) (edge_of from))) < 2 ^ 64 }
+        requires fits { length (text_of ((self.old ++ gap (end_of least self.old) (edge_of from)) ++ span_of range ∷ [])) < 2 ^ 64 }
+        ensures ok { OnOk result (self.new ≡ (self.old ++ gap (end_of least self.old) (edge_of from)) ++ span_of range ∷ []) }
+        ensures err { OnErr result (self.new ≡ self.old) }
+    {
+        let (count, spent, end) = (self.list.len(), self.spent, self.end);
+        self.fill(from)?;
+        match self.push(range) {
+            Ok(()) => Ok(()),
+            Err(error) => {
+                self.go_back(count, spent, end);
+                Err(error)
+            }
+        }
     }
 
     /// The ranges as a list.

@@ -13,13 +13,13 @@ returns-then-is_over c =
     inr (over_at c.args.roll.now c.args.self (edge_of c.args.upper.now) c.args.prints.now c.loop-range.range-index c.range-item.result c.loop-range.draft c.loop-range-test.true c.range-item.is c.requires.tells
     c.loop-range.invariant edge (c.is_over.ensures.over.0 c.if-is_over.true))
 
-pub tell_print-requires-clause-ahead : goal.tell_print-requires-clause-ahead
-tell_print-requires-clause-ahead c =
+pub add_print-requires-clause-ahead : goal.add_print-requires-clause-ahead
+add_print-requires-clause-ahead c =
     ahead_at c.args.roll.now c.args.self (edge_of c.args.upper.now) c.args.prints.now c.loop-range.range-index c.range-item.result c.loop-range.draft c.loop-range-test.true c.range-item.is c.requires.tells
     c.loop-range.invariant (λ over. let is = c.is_over.ensures.over.1 over in let not = c.if-is_over.false in cc)
 
-pub tell_print-requires-clause-own : goal.tell_print-requires-clause-own
-tell_print-requires-clause-own c =
+pub add_print-requires-clause-own : goal.add_print-requires-clause-own
+add_print-requires-clause-own c =
     own_at c.args.roll.now c.args.self (edge_of c.args.upper.now) c.args.prints.now c.loop-range.range-index c.range-item.result c.loop-range.draft c.in-Print.print c.loop-range-test.true c.range-item.is c.requires.holds
     c.loop-range.invariant (λ over. let is = c.is_over.ensures.over.1 over in let not = c.if-is_over.false in cc) c.in-Print.is
 
@@ -30,8 +30,8 @@ unreachable-requires c =
 
 pub loop-range-preserved : goal.loop-range-preserved
 loop-range-preserved c =
-    more_at c.args.roll.now c.args.self (edge_of c.args.upper.now) c.args.prints.now c.loop-range.range-index c.range-item.result c.loop-range.draft c.in_ok-draft-in-Print.draft c.in-Print.print c.loop-range-test.true c.range-item.is
-    c.end.ensures.draft c.requires.finite c.requires.tells c.requires.holds c.loop-range.invariant (λ over. let is = c.is_over.ensures.over.1 over in let not = c.if-is_over.false in cc) c.in-Print.is c.in_ok-draft-in-Print.ensures
+    more_at c.args.roll.now c.args.self (edge_of c.args.upper.now) c.args.prints.now c.loop-range.range-index c.range-item.result c.loop-range.draft c.add_print.new.self c.in-Print.print c.loop-range-test.true c.range-item.is
+    c.end.ensures.draft c.requires.finite c.requires.tells c.requires.holds c.loop-range.invariant (λ over. let is = c.is_over.ensures.over.1 over in let not = c.if-is_over.false in cc) c.in-Print.is c.in_ok-add_print-in-Print.ensures
 
 pub returns : goal.returns
 returns c =
