@@ -1,8 +1,8 @@
 -- A reply, range by range of the question.
-use Rattle.std.proofs.Common.{◌≡◌, ℕ, suc, ◌+◌, map, get_or, ◌<◌, ◌≤◌, ◌⊎◌, inl, inr, Bool, cond, ltb, leb, ◌&&◌, List, [], ◌∷◌, ◌++◌, length, take, drop, refl, sym, ap, subst, ◌∙◌, arith, append_assoc}
+use Rattle.std.proofs.Common.{◌≡◌, ℕ, zero, suc, ◌+◌, map, get_or, ◌<◌, ◌≤◌, ◌⊎◌, inl, inr, Bool, false, cond, ltb, leb, ◌&&◌, List, [], ◌∷◌, ◌++◌, length, take, drop, refl, sym, ap, subst, ◌∙◌, arith, append_assoc}
 use Rattle.std.specs.Prelude.{Contains, All, filter}
 use Rattle.std.proofs.lemmas.Bool.{le-ltb}
-use Rattle.std.proofs.lemmas.List.{take_all}
+use Rattle.std.proofs.lemmas.List.{take_all, get_or_default}
 use Rattle.std.proofs.lemmas.List.Elements.{All-weaker, All-contains_itself, Contains-append_cases}
 use Rattle.neg_codec.specs.declared.Range.{Range}
 use Rattle.neg_codec.proofs.Stretches.{one_stretch, key_below, contains_cases, contains_none}
@@ -236,3 +236,26 @@ pub replied_others : (limit : ℕ) (roll : List Item) (ranges : List Range) (n :
 replied_others limit roll ranges n d le was =
     let all = subst (λ (x : List Range). Replied limit roll (map span_of ranges) (map span_of x) d) (take_all n ranges le) was in
     subst (λ (n : ℕ). TellsOthers n (length (text_of d.spans)) roll (map span_of ranges) d.spans) all.bytes all.others
+
+-- ---- the ranges behind a draft that has come to infinity
+
+over_step : (roll : List Item) (d : Written) (r : Span) → place r.upper ≤ place infinity → place infinity ≤ place d.end → Responds roll d r d
+over_step roll d r low over =
+    let test : ltb (place d.end) (place r.upper) ≡ false = le-ltb (place d.end) (place r.upper) (omega (arith, low, over)) in
+    inl (record {
+      holds = λ k lies. absurd (omega (arith, lies.0, lies.1, low, over));
+      same = λ k lies. absurd (omega (arith, lies.0, lies.1, low, over));
+      now = rw test refl;
+    })
+
+pub replied_over : (limit : ℕ) (roll : List Item) (ranges : List Range) (i k : ℕ) (x : Range) (d : Written) → i + k ≡ length ranges → Ascends least (map span_of ranges) → All IsSpan (map span_of ranges) → IsDraft d → place infinity ≤ place d.end
+    → Replied limit roll (map span_of ranges) (map span_of (take i ranges)) d → Replied limit roll (map span_of ranges) (map span_of (take (length ranges) ranges)) d
+replied_over limit roll ranges i zero x d e up fits draft over was =
+    let all : i ≡ length ranges = omega (arith, e) in
+    subst (λ (n : ℕ). Replied limit roll (map span_of ranges) (map span_of (take n ranges)) d) all was
+replied_over limit roll ranges i (suc k) x d e up fits draft over was =
+    let lt : i < length ranges = omega (arith, e) in
+    let r : Range = get_or ranges i x in
+    let is : r ≡ get_or ranges i r = get_or_default ranges i x (get_or ranges i x) lt in
+    let low = edge_low (edge_of r.upper) (span_at ranges i r lt is fits).upper in
+    replied_over limit roll ranges (i + 1) k x d (omega (arith, e)) up fits draft over (replied_at limit roll ranges i r d d lt is up fits draft was (over_step roll d (span_of r) low over))

@@ -51,6 +51,9 @@ pub fn reply(
 {
     let mut draft = Draft::new(alloc, limit);
     for range in asked.ranges() {
+        if draft.is_over() {
+            return Ok(draft.into_message());
+        }
         draft = reply_range(alloc, roll, draft, range)?;
     }
     Ok(draft.into_message())
