@@ -14,9 +14,6 @@ use crate::{Bound, CodecFault, Id, Payload, Range};
 use std::alloc::{AllocError, Global};
 use std::marker::Model;
 
-/// A range with a fingerprint takes some bytes more.
-const PRINT_BYTES: usize = 16;
-
 /// Ranges whose bounds don't descend, none of them after an infinite bound (Negentropy protocol V1,
 /// "Message").
 #[derive(Debug, Drop)]
@@ -166,11 +163,16 @@ fn next_range<'a>(
     }
 }
 
-/// The ranges to the end of the bytes.
-fn ranges_of(alloc: Global, total: usize, bytes: &[u8]) -> Result<Vec<Range>, CodecFault>
+/// The ranges to the end of the bytes, with room for so many.
+fn ranges_of(
+    alloc: Global,
+    total: usize,
+    bytes: &[u8],
+    count: usize,
+) -> Result<Vec<Range>, CodecFault>
     ensures { Gives (λ v. map span_of v.items) result (ranges_at (length bytes.now) total least bytes.now) }
 {
-    let mut ranges = Vec::with_capacity(alloc, bytes.len() / PRINT_BYTES)?;
+    let mut ranges = Vec::with_capacity(alloc, count)?;
     let mut lower = Bound::lowest();
     let mut rest = bytes;
     while !rest.is_empty() {
@@ -197,17 +199,19 @@ fn skip_range<'a>(total: usize, lower: &mut Bound, bytes: &'a [u8]) -> Result<&'
     }
 }
 
-/// Whether ranges stand to the end of the bytes. It takes no memory.
-fn scan_ranges(total: usize, bytes: &[u8]) -> Result<(), CodecFault>
+/// Whether ranges stand to the end of the bytes, and how many. It takes no memory.
+fn scan_ranges(total: usize, bytes: &[u8]) -> Result<usize, CodecFault>
     ensures found { OnOk result ((rs : List Span) × (ranges_at (length bytes.now) total least bytes.now ≡ Ok rs)) }
     ensures fault { IfErr result (λ f. ranges_at (length bytes.now) total least bytes.now ≡ Err f) }
 {
     let mut lower = Bound::lowest();
     let mut rest = bytes;
+    let mut count: usize = 0;
     while !rest.is_empty() {
         rest = skip_range(total, &mut lower, rest)?;
+        count = count.saturating_add(1);
     }
-    Ok(())
+    Ok(count)
 }
 
 /// The ranges of the message that the bytes spell.
@@ -228,7 +232,7 @@ fn message_ranges(alloc: Global, bytes: &[u8]) -> Result<Vec<Range>, CodecFault>
     let (_, rest) = bytes.split_at(1);
     match scan_ranges(bytes.len(), rest) {
         Err(fault) => Err(fault),
-        Ok(()) => ranges_of(alloc, bytes.len(), rest),
+        Ok(count) => ranges_of(alloc, bytes.len(), rest, count),
     }
 }
 
