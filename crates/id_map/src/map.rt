@@ -3,7 +3,7 @@ ghost use Rattle.std.specs.Prelude.{◌≡◌, ℕ, None, IfOk};
 ghost use Rattle.neg_codec.specs.declared.Id.{Id as AnId};
 ghost use Rattle.id_map.specs.Places.{place_of, SetsPlace};
 
-use crate::node::{Entry, LEVELS, Node, get_from, grown};
+use crate::node::{Entry, LEVELS, Node, get_from, grown, put_into};
 use neg_codec::Id;
 use std::alloc::{AllocError, Global};
 use std::sync::Arc;
@@ -39,6 +39,17 @@ impl IdMap {
     {
         let node = grown(alloc, &self.root, Entry { id, place }, LEVELS)?;
         let root = Arc::new(alloc, node)?;
+        Ok(IdMap { root })
+    }
+
+    /// The same of a map that is given up for it. Of the nodes it copies those alone that other maps share, and a leaf that
+    /// is split or has the id.
+    pub fn with(self, alloc: Global, id: Id, place: usize) -> Result<IdMap, AllocError>
+        ensures { IfOk result (λ m. SetsPlace id place self m) }
+    {
+        let mut root = self.root;
+        let entry = Entry { id, place };
+        put_into(alloc, &mut root, entry, LEVELS)?;
         Ok(IdMap { root })
     }
 
