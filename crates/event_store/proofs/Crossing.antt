@@ -14,6 +14,8 @@ use Rattle.id_map.proofs.Crossing.{map_send, map_sync}
 use Rattle.event_index.proofs.Crossing.{index_send, index_sync}
 use Rattle.event_index.specs.contracts.index.Index as Index
 use Rattle.newest.proofs.Crossing.{order_send, order_sync}
+use Rattle.event_store.specs.contracts.listing.Listing as Listing
+use Rattle.event_store.specs.contracts.listing.Listing.TheInside as InListing
 use Rattle.event_store.specs.contracts.state.State as State
 use Rattle.event_store.specs.contracts.state.State.TheInside as InState
 use Rattle.event_store.specs.contracts.shown.Shown as Shown
@@ -48,11 +50,17 @@ shared_index_send = search (sendable, crosses, index_send, index_sync)
 shared_index_sync : IsSync (Arc.the_row Index.the_row Global.the_row heap.ghosts)
 shared_index_sync = search (sendable, crosses, index_send, index_sync)
 
+listing_send : IsSend Listing.the_row
+listing_send = view_send InListing.the_row _ _ _ _ (declared_send InListing.the_type (list.the_send, (map_send, (order_send, tt))))
+
+listing_sync : IsSync Listing.the_row
+listing_sync = view_sync InListing.the_row _ _ _ _ (declared_sync InListing.the_type (list.the_sync, (map_sync, (order_sync, tt))))
+
 state_send : IsSend State.the_row
-state_send = view_send InState.the_row _ _ _ _ (declared_send InState.the_type (list.the_send, (map_send, (roll_send, (order_send, (shared_index_send, tt))))))
+state_send = view_send InState.the_row _ _ _ _ (declared_send InState.the_type (listing_send, (roll_send, (shared_index_send, tt))))
 
 state_sync : IsSync State.the_row
-state_sync = view_sync InState.the_row _ _ _ _ (declared_sync InState.the_type (list.the_sync, (map_sync, (roll_sync, (order_sync, (shared_index_sync, tt))))))
+state_sync = view_sync InState.the_row _ _ _ _ (declared_sync InState.the_type (listing_sync, (roll_sync, (shared_index_sync, tt))))
 
 shared_send : IsSend (Arc.the_row State.the_row Global.the_row heap.ghosts)
 shared_send = search (sendable, crosses, state_send, state_sync)

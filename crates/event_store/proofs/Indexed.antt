@@ -12,6 +12,7 @@ use Rattle.std.proofs.lemmas.Option.{slice_get_within, get_or_from_slice_get}
 use Rattle.std.proofs.lemmas.List.{take_all, get_or-drop, take-append-le, take-append-drop, get_or-take}
 use Rattle.std.proofs.lemmas.List.Elements.{recursion_from_All}
 use Rattle.std.proofs.lemmas.List.Folds.{list_any_at}
+use mathlib.Core.List.{IsPrefix}
 use Rattle.nostr_event.specs.EventView.{EventView}
 use Rattle.nostr_filter.specs.declared.filter.Filter.{Filter}
 use Rattle.nostr_filter.specs.Matching.{matches_of}
@@ -29,11 +30,11 @@ indexed_whole events index covers = record {
   covers = subst (λ (xs : List EventView). Covers xs index) (sym (take_all index.count events (omega (arith, covers.counted)))) covers;
 }
 
--- an event behind the others isn't among those that are covered
-pub indexed_more : (events more : List EventView) (e : EventView) (index : Covered) → more ≡ events ++ e ∷ [] → IsIndexed events index → IsIndexed more index
-indexed_more events more e index is h = subst (λ (xs : List EventView). IsIndexed xs index) (sym is) (record {
-  within = omega (arith, h.within, length-append events (e ∷ []));
-  covers = subst (λ (xs : List EventView). Covers xs index) (sym (take-append-le index.count events (e ∷ []) h.within)) h.covers;
+-- events behind the others aren't among those that are covered
+pub indexed_more : (events more : List EventView) (index : Covered) → IsPrefix events more → IsIndexed events index → IsIndexed more index
+indexed_more events more index p h = subst (λ (xs : List EventView). IsIndexed xs index) p.1 (record {
+  within = omega (arith, h.within, length-append events p.0);
+  covers = subst (λ (xs : List EventView). Covers xs index) (sym (take-append-le index.count events p.0 h.within)) h.covers;
 })
 
 -- one more event of those from a place on

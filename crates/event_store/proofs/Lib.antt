@@ -10,3 +10,4 @@ pub mod Stands
 pub mod Rolled
 pub mod Ranked
 pub mod Crossing
+pub mod More

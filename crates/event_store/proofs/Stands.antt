@@ -1,10 +1,11 @@
--- What finds the events of a store, with one more of them.
+-- What finds the events of a store, with more of them.
 use Rattle.std.proofs.Common.{◌≡◌, ℕ, ◌+◌, ◌≤◌, inl, inr, ltb, leb, true, false, List, [], ◌∷◌, ◌++◌, length, map, None, Some, Option, ap, sym, subst, arith, append_assoc, length-append, ◌∙◌}
 use Rattle.std.specs.Prelude.{All, IsPermutation, filter, bytes_eq, if◌then◌else◌}
 use Rattle.std.proofs.lemmas.Bool.{cases_lt, lt-ltb, le-ltb, le-leb, lt-leb}
 use Rattle.std.proofs.lemmas.List.{map-append, length-map, take_all, take-append-le}
 use Rattle.std.proofs.lemmas.List.Elements.{All-head, All-tail}
 use Rattle.std.proofs.lemmas.List.Sorted.{length_permutation, IsPermutation-refl, IsPermutation-cons, IsPermutation-sym, IsPermutation-trans, IsPermutation-append_left, IsPermutation-to_front}
+use mathlib.Core.List.{IsPrefix}
 use Rattle.neg_codec.specs.declared.Id.{Id}
 use Rattle.neg_codec.specs.declared.Item.{Item}
 use Rattle.neg_codec.specs.Keys.{place, least, infinity, IsKey}
@@ -16,7 +17,7 @@ use Rattle.id_map.specs.Places.{place_of, SetsPlace}
 use Rattle.newest.specs.Newest.{AreOf}
 use Rattle.event_store.specs.Events.{has_id}
 use Rattle.event_index.specs.Postings.{Covered, Covers}
-use Rattle.event_store.specs.States.{IsState, IsRolled, IsIndexed}
+use Rattle.event_store.specs.States.{IsListing, IsState, IsRolled}
 use Rattle.event_store.proofs.Ids.{distinct_push, place_push}
 use Rattle.event_store.proofs.Indexed.{indexed_whole}
 
@@ -75,34 +76,47 @@ rolled_whole events roll moved =
 pub whole_rolled : (events : List EventView) (roll : List Item) → IsRolled events roll → length roll ≡ length events → IsPermutation (map item_of events) roll
 whole_rolled events roll h len = subst (λ (xs : List EventView). IsPermutation (map item_of xs) roll) (take_all (length roll) events (omega (arith, len))) h.items
 
--- an event behind the others isn't among those that the roll has
-pub rolled_more : (events more : List EventView) (e : EventView) (roll : List Item) → more ≡ events ++ e ∷ [] → IsRolled events roll → IsRolled more roll
-rolled_more events more e roll is h = subst (λ (xs : List EventView). IsRolled xs roll) (sym is) (record {
-  within = omega (arith, h.within, length-append events (e ∷ []));
-  items = subst (λ (xs : List EventView). IsPermutation (map item_of xs) roll) (sym (take-append-le (length roll) events (e ∷ []) h.within)) h.items;
+-- events behind the others aren't among those that the roll has
+pub rolled_more : (events more : List EventView) (roll : List Item) → IsPrefix events more → IsRolled events roll → IsRolled more roll
+rolled_more events more roll p h = subst (λ (xs : List EventView). IsRolled xs roll) p.1 (record {
+  within = omega (arith, h.within, length-append events p.0);
+  items = subst (λ (xs : List EventView). IsPermutation (map item_of xs) roll) (sym (take-append-le (length roll) events p.0 h.within)) h.items;
 })
 
-pub nothing_stands : (events : List EventView) (ids : IdMap) (roll : List Item) (newest : List (ℕ × EventView)) (index : Covered) → events ≡ [] → ((id : Id) → place_of ids id ≡ None) → IsPermutation [] roll → newest ≡ []
-    → Covers [] index → IsState events ids roll newest index
-nothing_stands events ids roll newest index is none moved empty covers = subst (λ (xs : List EventView). IsState xs ids roll newest index) (sym is) (record {
-  distinct = λ i j d lt within. absurd (omega arith);
-  finds = none;
+-- ---- what finds the events
+
+pub nothing_stands : (events : List EventView) (roll : List Item) (index : Covered) → events ≡ [] → IsPermutation [] roll → Covers [] index → IsState events roll index
+nothing_stands events roll index is moved covers = subst (λ (xs : List EventView). IsState xs roll index) (sym is) (record {
   rolled = rolled_whole [] roll moved;
-  ordered = subst (λ (xs : List (ℕ × EventView)). AreOf [] xs) (sym empty) (IsPermutation-refl []);
-  counted = ap length empty;
   indexed = indexed_whole [] index covers;
 })
 
+pub nothing_listed : (events : List EventView) (ids : IdMap) (newest : List (ℕ × EventView)) → events ≡ [] → ((id : Id) → place_of ids id ≡ None) → newest ≡ [] → IsListing events ids newest
+nothing_listed events ids newest is none empty = subst (λ (xs : List EventView). IsListing xs ids newest) (sym is) (record {
+  distinct = λ i j d lt within. absurd (omega arith);
+  finds = none;
+  ordered = subst (λ (xs : List (ℕ × EventView)). AreOf [] xs) (sym empty) (IsPermutation-refl []);
+  counted = ap length empty;
+})
+
+-- the same, shared
+pub same_listed : (events more : List EventView) (ids new : IdMap) (newest newer : List (ℕ × EventView)) → IsListing events ids newest → more ≡ events → ((id : Id) → place_of new id ≡ place_of ids id) → newer ≡ newest → IsListing more new newer
+same_listed events more ids new newest newer h is finds same =
+    subst (λ (xs : List EventView). IsListing xs new newer) (sym is) (subst (λ (ps : List (ℕ × EventView)). IsListing events new ps) (sym same) (record {
+      distinct = h.distinct;
+      finds = λ id. finds id ∙ h.finds id;
+      ordered = h.ordered;
+      counted = h.counted;
+    }))
+
 -- a new event behind all others
-pub more_stands : (events more : List EventView) (ids new : IdMap) (roll longer : List Item) (newest newer : List (ℕ × EventView)) (index wider : Covered) (e : EventView) → IsState events ids roll newest index → has_id e.id events ≡ false
-    → more ≡ events ++ e ∷ [] → SetsPlace e.id (length events) ids new → AreOf (events ++ e ∷ []) newer → length newer ≡ length newest + 1 → IsRolled more longer → IsIndexed more wider → IsState more new longer newer wider
-more_stands events more ids new roll longer newest newer index wider e h none is sets among counted rolled indexed =
-    subst (λ (xs : List EventView). IsState xs new longer newer wider) (sym is) (record {
+pub more_listed : (events more : List EventView) (ids new : IdMap) (newest newer : List (ℕ × EventView)) (e : EventView) → IsListing events ids newest → has_id e.id events ≡ false
+    → more ≡ events ++ e ∷ [] → SetsPlace e.id (length events) ids new → AreOf (events ++ e ∷ []) newer → length newer ≡ length newest + 1 → IsListing more new newer
+more_listed events more ids new newest newer e h none is sets among counted =
+    subst (λ (xs : List EventView). IsListing xs new newer) (sym is) (record {
       distinct = distinct_push events e h.distinct none;
       finds = λ id. sets id ∙ ap (λ (o : Option ℕ). if bytes_eq e.id.0 id.0 then Some (length events) else o) (h.finds id)
           ∙ sym (place_push 0 (length events) id e events (omega arith) none);
-      rolled = subst (λ (xs : List EventView). IsRolled xs longer) is rolled;
       ordered = among;
       counted = omega (arith, counted, h.counted, length-append events (e ∷ []));
-      indexed = subst (λ (xs : List EventView). IsIndexed xs wider) is indexed;
     })

@@ -1,5 +1,5 @@
 -- Lists of events, as a store has them.
-use Rattle.std.specs.Prelude.{◌≢◌, ℕ, ◌+◌, Bool, List, [], ◌∷◌, AllPairs, filter, filter_map, Option, None, Some, bytes_eq, if◌then◌else◌}
+use Rattle.std.specs.Prelude.{◌≢◌, ℕ, ◌+◌, Bool, List, [], ◌∷◌, ◌++◌, AllPairs, filter, filter_map, Option, None, Some, bytes_eq, if◌then◌else◌}
 use Rattle.std.specs.List.{list_any}
 use Rattle.neg_codec.specs.declared.Id.{Id}
 use Rattle.neg_codec.specs.declared.Item.{Item}
@@ -14,6 +14,15 @@ matching f events = filter (matches_of f) events
 -- whether an event of the list has this id
 abbrev pub has_id : Id → List EventView → Bool
 has_id id events = list_any (λ (e : EventView). bytes_eq e.id.0 id.0) events
+
+-- behind the others, unless its id is among theirs
+abbrev pub with_event : EventView → List EventView → List EventView
+with_event e events = if has_id e.id events then events else events ++ e ∷ []
+
+-- so each event of a list in turn, behind others
+abbrev pub with_events : List EventView → List EventView → List EventView
+with_events [] events = events
+with_events (e ∷ more) events = with_events more (with_event e events)
 
 -- no two have one id
 abbrev pub Distinct : List EventView → Type 0

@@ -19,11 +19,14 @@ pub record IsRolled (events : List EventView) (roll : List Item) : Type 0 where
   pub within : length roll ≤ length events
   pub items : IsPermutation (map item_of (take (length roll) events)) roll
 
--- the map finds each event at its place, the order has each event with its place, and the roll and the index are of the first of them
-pub record IsState (events : List EventView) (ids : IdMap) (roll : List Item) (newest : List (ℕ × EventView)) (index : Covered) : Type 0 where
+-- the map finds each event at its place, and the order has each event with its place
+pub record IsListing (events : List EventView) (ids : IdMap) (newest : List (ℕ × EventView)) : Type 0 where
   pub distinct : Distinct events
   pub finds : (id : Id) → place_of ids id ≡ place_in events id
-  pub rolled : IsRolled events roll
   pub ordered : AreOf events newest
   pub counted : length newest ≡ length events
+
+-- the roll and the index are of the first of the events
+pub record IsState (events : List EventView) (roll : List Item) (index : Covered) : Type 0 where
+  pub rolled : IsRolled events roll
   pub indexed : IsIndexed events index

@@ -1,8 +1,9 @@
 //! The history of a store, before and after it has its name.
-ghost use Rattle.std.specs.Prelude.{◌≡◌, ◌<◌, ◌≤◌, ◌^◌, [], ◌∷◌, ◌++◌, length, MatchBool};
+ghost use Rattle.std.specs.Prelude.{◌≡◌, ◌<◌, ◌≤◌, ◌^◌, [], ◌∷◌, ◌++◌, length, take, IsTrue, MatchBool};
 ghost use mathlib.Core.List.{IsPrefix};
 ghost use Rattle.event_store.specs.History.{head_of};
 
+use crate::event_list::EventList;
 use crate::mark::Mark;
 use crate::name::{Law, Naming};
 use logbook::{Seen, Start, Word};
@@ -126,5 +127,20 @@ impl<J: Naming> Front<J> {
         ensures { MatchBool result (self.new ≡ self.old ++ event.now ∷ []) (length self.old < length self.new) }
     {
         self.mark.add(&head.word, event)
+    }
+
+    /// Adds the events from a place on, where those before it were seen, and says whether it did. It did not where the history is
+    /// longer.
+    pub fn add_from(&mut self, head: &Head<J>, events: &EventList, start: usize) -> bool
+        requires seen { self.old ≡ take start events.now }
+        requires room { length events.now < 2 ^ 62 }
+        ensures { IsTrue result → self.new ≡ events.now }
+    {
+        for place in start..events.len() {
+            if !self.add(head, events.get(place)) {
+                return false;
+            }
+        }
+        true
     }
 }

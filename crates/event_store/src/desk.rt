@@ -1,8 +1,9 @@
 //! The one who inserts.
-ghost use Rattle.std.specs.Prelude.{◌≡◌, ◌<◌, ◌≤◌, not, false, [], ◌∷◌, ◌++◌, length, IfOk, IfErr, OnErr, if◌then◌else◌};
+ghost use Rattle.std.specs.Prelude.{◌≡◌, ◌<◌, ◌≤◌, not, false, [], ◌∷◌, ◌++◌, length, map, take, IfOk, IfErr, OnErr, if◌then◌else◌};
 ghost use Rattle.std.specs.Arc.{arc_value};
-ghost use Rattle.event_store.specs.Events.{has_id, Distinct};
-ghost use Rattle.event_store.specs.Faults.{RefusesRightly};
+ghost use Rattle.event_store.specs.Events.{has_id, Distinct, with_events};
+ghost use Rattle.event_store.specs.Faults.{RefusesRightly, EndsRightly};
+ghost use mathlib.Core.List.{IsPrefix};
 
 use crate::blank::{Front, Head};
 use crate::name::Naming;
@@ -162,18 +163,47 @@ impl<J: Naming, R: Wait + Drop> Desk<J, R> {
         }
     }
 
+    /// Publishes at once, in their order and behind all others, those of the events that are new: an event is passed over whose id
+    /// is published already, or stands before it in the list. It ends before the first new one for which there is no room, and
+    /// says how many of the list it took. After a fault nothing has changed.
+    pub fn insert_all<W: Wait>(
+        &mut self,
+        rt: &W,
+        events: &[Arc<Event>],
+    ) -> Result<usize, AllocError>
+        ensures list { IfOk result (λ n. self.new ≡ with_events (take n (map arc_value events.now)) self.old) }
+        ensures room { IfOk result (λ _. length self.new ≤ J.most) }
+        ensures ends { IfOk result (λ n. EndsRightly J.most (map arc_value events.now) n self.new) }
+        ensures err { OnErr result (self.new ≡ self.old) }
+    {
+        let state = self.pen.published().state();
+        let (state, taken) = state.with_all(self.alloc, events, self.most)?;
+        self.show(rt, state)?;
+        Ok(taken)
+    }
+
     fn put<W: Wait>(&mut self, rt: &W, event: &Arc<Event>) -> Result<Front<J>, AllocError>
         requires fresh { has_id (arc_value event.now).id self.old ≡ false }
         requires room { length self.old < J.most }
         ensures ok { IfOk result (λ f. (f ≡ self.new) × (self.new ≡ self.old ++ arc_value event.now ∷ [])) }
         ensures err { OnErr result (self.new ≡ self.old) }
     {
+        let state = self.pen.published().state().with(self.alloc, event)?;
+        self.show(rt, state)
+    }
+
+    // Publishes events that begin with those published.
+    fn show<W: Wait>(&mut self, rt: &W, state: State) -> Result<Front<J>, AllocError>
+        requires begins { IsPrefix self.old state }
+        requires room { length state ≤ J.most }
+        ensures ok { IfOk result (λ f. (f ≡ self.new) × (self.new ≡ state)) }
+        ensures err { OnErr result (self.new ≡ self.old) }
+    {
         let shown = self.pen.published();
-        let state = shown.state().with(self.alloc, event)?;
         let state = Arc::new(self.alloc, state)?;
         // From here on nothing takes memory.
         let mut front = Front::of(shown.mark().again());
-        if !front.add(&self.head, event) {
+        if !front.add_from(&self.head, state.events(), shown.state().events().len()) {
             return Err(AllocError);
         }
         let next = Shown::new(state, front.again().into_mark());

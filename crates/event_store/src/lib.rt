@@ -8,6 +8,7 @@ mod desk;
 mod event_list;
 mod indexing;
 mod list;
+mod listing;
 mod mark;
 mod name;
 mod open;

@@ -1,16 +1,18 @@
 //! The events of a store, with what finds them.
-ghost use Rattle.std.specs.Prelude.{◌≡◌, ◌<◌, ◌≤◌, false, [], ◌∷◌, ◌++◌, length, map, IsPermutation, IfOk};
+ghost use Rattle.std.specs.Prelude.{◌≡◌, ◌<◌, ◌≤◌, false, [], ◌∷◌, ◌++◌, length, map, take, IsPermutation, IfOk};
+ghost use mathlib.Core.List.{IsPrefix};
 ghost use Rattle.nostr_event.specs.EventView.{item_of};
 ghost use Rattle.std.specs.Arc.{arc_value};
-ghost use Rattle.event_store.specs.Events.{has_id, place_in, Distinct};
+ghost use Rattle.event_store.specs.Events.{has_id, place_in, Distinct, with_events};
+ghost use Rattle.event_store.specs.Faults.{EndsRightly};
 ghost use Rattle.newest.specs.Newest.{AreOf};
-ghost use Rattle.event_store.specs.States.{IsState, IsRolled, IsIndexed};
+ghost use Rattle.event_store.specs.States.{IsRolled, IsIndexed};
 
 use crate::event_list::EventList;
 use crate::indexing::index_over;
+use crate::listing::Listing;
 use crate::rolling::{roll_of_all, roll_over};
 use event_index::Index;
-use id_map::IdMap;
 use item_roll::Roll;
 use neg_codec::Id;
 use newest::Newest;
@@ -22,10 +24,8 @@ use std::sync::Arc;
 /// Events with distinct ids, in the order in which they were published. Contracts see them as their list.
 #[derive(Drop)]
 pub struct State {
-    events: EventList,
-    ids: IdMap,
+    listing: Listing,
     roll: Arc<Roll>,
-    newest: Newest,
     index: Arc<Index>,
 }
 
@@ -37,9 +37,9 @@ impl Model for State {
 
     ghost Value = { List EventView };
 
-    ghost view = { λ s. s.events };
+    ghost view = { λ s. s.listing };
 
-    ghost invariant = { λ s. IsState s.events s.ids (arc_value s.roll) s.newest (arc_value s.index) };
+    ghost invariant = { λ s. IsState s.listing (arc_value s.roll) (arc_value s.index) };
 }
 
 impl State {
@@ -50,10 +50,8 @@ impl State {
             return Err(AllocError);
         };
         Ok(State {
-            events: EventList::new(alloc)?,
-            ids: IdMap::new(alloc)?,
+            listing: Listing::new(alloc)?,
             roll: Arc::new(alloc, roll)?,
-            newest: Newest::new(alloc)?,
             index: Arc::new(alloc, Index::new(alloc))?,
         })
     }
@@ -62,7 +60,7 @@ impl State {
         ensures list { result.now ≡ self.now }
         ensures distinct { Distinct self.now }
     {
-        &self.events
+        self.listing.events()
     }
 
     /// The items of the first of the events.
@@ -76,14 +74,14 @@ impl State {
     pub fn whole_roll(&self, alloc: Global) -> Result<Arc<Roll>, AllocError>
         ensures { IfOk result (λ r. IsPermutation (map item_of self.now) (arc_value r)) }
     {
-        roll_of_all(alloc, &self.roll, &self.events)
+        roll_of_all(alloc, &self.roll, self.listing.events())
     }
 
     /// The events in the order in which they are sent.
     pub fn newest(&self) -> &Newest
         ensures { AreOf self.now result.now }
     {
-        &self.newest
+        self.listing.newest()
     }
 
     /// Where the first of the events stand, by what filters ask for.
@@ -97,14 +95,29 @@ impl State {
     pub fn place(&self, id: &Id) -> Option<usize>
         ensures { result ≡ place_in self.now id.now }
     {
-        self.ids.get(id)
+        self.listing.place(id)
     }
 
     /// Whether an event with this id is there.
     pub fn has(&self, id: &Id) -> bool
         ensures { result ≡ has_id id.now self.now }
     {
-        self.place(id).is_some()
+        self.listing.has(id)
+    }
+
+    // The state of a listing that begins with these events.
+    fn grown(&self, alloc: Global, listing: Listing) -> Result<State, AllocError>
+        requires begins { IsPrefix self.now listing }
+        requires few { length listing ≤ 1000000 }
+        ensures { IfOk result (λ s. s ≡ listing) }
+    {
+        let roll = roll_over(alloc, &self.roll, listing.events())?;
+        let index = index_over(alloc, &self.index, listing.events())?;
+        Ok(State {
+            listing,
+            roll,
+            index,
+        })
     }
 
     /// These events and one more. Of what stands here the last events are copied, and the nodes and runs that change.
@@ -113,19 +126,26 @@ impl State {
         requires room { length self.now < 1000000 }
         ensures { IfOk result (λ s. s ≡ self.now ++ arc_value event.now ∷ []) }
     {
-        let mut events = self.events.share()?;
-        events.push(alloc, event)?;
-        let place = self.events.len();
-        let ids = self.ids.insert(alloc, event.id(), place)?;
-        let newest = self.newest.insert(alloc, place, Arc::try_clone(event)?)?;
-        let roll = roll_over(alloc, &self.roll, &events)?;
-        let index = index_over(alloc, &self.index, &events)?;
-        Ok(State {
-            events,
-            ids,
-            roll,
-            newest,
-            index,
-        })
+        let listing = self.listing.share()?;
+        self.grown(alloc, listing.with(alloc, event)?)
+    }
+
+    /// These events, and behind them the others in their order, except those whose ids are there by then. It ends before the
+    /// first new one that would be more than so many, and says how many of the others it took.
+    pub fn with_all(
+        &self,
+        alloc: Global,
+        others: &[Arc<Event>],
+        most: usize,
+    ) -> Result<(State, usize), AllocError>
+        requires few { most ≤ 1000000 }
+        requires room { length self.now ≤ most }
+        ensures list { IfOk result (λ r. r.0 ≡ with_events (take r.1 (map arc_value others.now)) self.now) }
+        ensures room { IfOk result (λ r. length r.0 ≤ most) }
+        ensures ends { IfOk result (λ r. EndsRightly most (map arc_value others.now) r.1 r.0) }
+    {
+        let listing = self.listing.share()?;
+        let (listing, taken) = listing.with_all(alloc, others, most)?;
+        Ok((self.grown(alloc, listing)?, taken))
     }
 }

@@ -9,7 +9,7 @@ use std::alloc::{AllocError, Global};
 use std::sync::Arc;
 
 /// Which place an id has. A map is never changed: `insert` gives another one, which shares with it all but
-/// the nodes on the way to the id. So an older map costs only what has changed since.
+/// the nodes on the way to the id. So an older map costs only what has changed since. `with` takes the map itself.
 #[derive(Drop)]
 pub struct IdMap {
     root: Arc<Node>,

@@ -7,5 +7,5 @@ use Rattle.event_store.proofs.Stands.{nothing_stands}
 use Rattle.event_store.proofs.state.State.new.Goals as goal
 
 pub invariant_of-result : goal.invariant_of-result
-invariant_of-result c = nothing_stands c.in_ok-new.field-0 c.in_ok-new-2.field-0 (arc_value c.in_ok-new-3.field-0) c.in_ok-new-4.field-0 (arc_value c.in_ok-new-5.field-0) c.in_ok-new.ensures c.in_ok-new-2.ensures
-    (subst (λ (xs : List Item). IsPermutation [] xs) (sym c.in_ok-new-3.ensures.ok) c.in-Ok.ensures.ok) c.in_ok-new-4.ensures (subst (λ (x : Covered). Covers [] x) (sym c.in_ok-new-5.ensures.ok) c.new-5.ensures)
+invariant_of-result c = nothing_stands c.in_ok-new.field-0 (arc_value c.in_ok-new-2.field-0) (arc_value c.in_ok-new-3.field-0) c.in_ok-new.ensures
+    (subst (λ (xs : List Item). IsPermutation [] xs) (sym c.in_ok-new-2.ensures.ok) c.in-Ok.ensures.ok) (subst (λ (x : Covered). Covers [] x) (sym c.in_ok-new-3.ensures.ok) c.new-3.ensures)
