@@ -1,18 +1,14 @@
 -- What the lines of a file of events tell.
-use Rattle.std.specs.Prelude.{IsUtf8, ◌≡◌, ◌⊎◌, ◌≢◌, ℕ, zero, suc, false, List, [], ◌∷◌, ◌++◌, length, Some, if◌then◌else◌}
+use Rattle.std.specs.Prelude.{IsUtf8, ◌≡◌, ◌⊎◌, ◌≢◌, ℕ, zero, suc, false, List, [], ◌∷◌, length, Some}
 use Rattle.serde_json.specs.Data.{Data}
 use Rattle.serde_json.specs.Read.{read}
 use Rattle.nostr_event.specs.EventView.{EventView}
 use Rattle.nostr_event.specs.EventJson.{Reads}
-use Rattle.event_store.specs.Events.{has_id}
+use Rattle.event_store.specs.Events.{has_id, with_event}
 
 -- the line is the JSON of this event
 abbrev pub IsEventOf : List ℕ → EventView → Type 0
 IsEventOf line e = IsUtf8 line × ((json : Data) × (read line ≡ Some json) × Reads json e)
-
--- behind the others, unless its id is among theirs
-abbrev pub with_event : EventView → List EventView → List EventView
-with_event e events = if has_id e.id events then events else events ++ e ∷ []
 
 -- an empty line changes nothing, any other holds an event
 abbrev pub LineTells : List ℕ → List EventView → List EventView → Type 0
@@ -33,3 +29,9 @@ abbrev pub WrongBehind : ℕ → ℕ → List (List ℕ) → List EventView → 
 WrongBehind most n [] old new = ⊥
 WrongBehind most zero (line ∷ lines) old new = IsWrong most line old × (new ≡ old)
 WrongBehind most (suc n) (line ∷ lines) old new = (next : List EventView) × LineTells line old next × WrongBehind most n lines next new
+
+-- the first lines hold these events, one each, and these lines are left
+abbrev pub HoldEvents : List (List ℕ) → List EventView → List (List ℕ) → Type 0
+HoldEvents lines [] rest = rest ≡ lines
+HoldEvents [] (e ∷ events) rest = ⊥
+HoldEvents (line ∷ lines) (e ∷ events) rest = (line ≢ []) × IsEventOf line e × HoldEvents lines events rest

@@ -1,19 +1,22 @@
 //! Reading a file of events into a store.
-ghost use Rattle.std.specs.Prelude.{◌≡◌, ℕ, ◌+◌, take, IfOk, OnErr, OnOk, Err};
+ghost use Rattle.std.specs.Prelude.{◌≡◌, ℕ, ◌+◌, ◌<◌, ◌≤◌, List, [], ◌∷◌, length, map, take, drop, IfOk, IfSome, OnOk, Err};
 ghost use Rattle.std.specs.Arc.{arc_value};
 ghost use Rattle.nostr_event.specs.EventView.{EventView};
 ghost use Rattle.mirror_run.specs.Lines.{lines_of};
-ghost use Rattle.event_file.specs.Lines.{IsEventOf, LineTells, LinesTell, IsWrong, WrongBehind};
+ghost use Rattle.event_file.specs.Lines.{IsEventOf, LinesTell, WrongBehind, HoldEvents};
 ghost use Rattle.event_file.specs.declared.fault.FileFault.TheVariants.{Line as line_fault, Memory as memory};
 ghost use Rattle.event_file.specs.declared.fault.LineFault.TheVariants.{Wrong as wrong};
 
 use crate::fault::{FileFault, LineFault};
-use event_store::{Desk, InsertFault, Naming};
+use event_store::{Desk, Naming};
 use mirror_run::cut_line;
 use nostr_event::{Event, EventFault};
 use serde_json::Value;
-use std::alloc::Global;
+use std::alloc::{AllocError, Global};
 use std::sync::{Arc, Wait};
+
+// As many events as are put into the store at once.
+const BATCH: usize = 512;
 
 /// The event of a line.
 fn event_of(alloc: Global, line: &[u8]) -> Result<Arc<Event>, LineFault>
@@ -32,30 +35,79 @@ fn event_of(alloc: Global, line: &[u8]) -> Result<Arc<Event>, LineFault>
     }
 }
 
-/// Puts the event of a line into the store, unless the line is empty.
-fn insert_line<W: Wait, J: Naming, D: Wait + Drop>(
+/// The event of the first line, and the text behind it, unless the line is empty or its event can't be read.
+fn next_event(alloc: Global, text: &[u8]) -> Option<(Arc<Event>, &[u8])>
+    ensures next { IfSome result (λ n. HoldEvents (lines_of text.now) (arc_value n.0 ∷ []) (lines_of n.1.now)) }
+    ensures shorter { IfSome result (λ n. length n.1.now < length text.now) }
+{
+    let (line, rest) = cut_line(text)?;
+    if line.is_empty() {
+        return None;
+    }
+    match event_of(alloc, line) {
+        Ok(event) => Some((event, rest)),
+        Err(_) => None,
+    }
+}
+
+/// An event and those of the lines behind it, as far as each has one that can be read, and the text behind these. It reads 512 at
+/// most.
+fn next_events(
+    alloc: Global,
+    first: Arc<Event>,
+    text: &[u8],
+) -> Result<(Vec<Arc<Event>>, &[u8]), AllocError>
+    ensures hold { (lines : List (List ℕ)) → HoldEvents lines (arc_value first ∷ []) (lines_of text.now) → IfOk result (λ r. HoldEvents lines (map arc_value r.0.items) (lines_of r.1.now)) }
+    ensures shorter { IfOk result (λ r. length r.0.items + length r.1.now ≤ length text.now + 1) }
+    ensures some { IfOk result (λ r. 0 < length r.0.items) }
+{
+    let mut events = Vec::with_capacity(alloc, BATCH)?;
+    events.push(first)?;
+    let mut rest = text;
+    for _ in 1..BATCH {
+        let Some((event, after)) = next_event(alloc, rest) else {
+            break;
+        };
+        events.push(event)?;
+        rest = after;
+    }
+    Ok((events, rest))
+}
+
+/// Puts the event of a line and those of the lines behind it into the store, as many as are put in at once, and gives the number
+/// of these lines, and the text behind them.
+fn insert_next<'a, W: Wait, J: Naming, D: Wait + Drop>(
     rt: &W,
     alloc: Global,
     desk: &mut Desk<J, D>,
     line: &[u8],
-) -> Result<(), LineFault>
-    ensures told { OnOk result (LineTells line.now desk.old desk.new) }
-    ensures wrong { result ≡ Err wrong → IsWrong J.most line.now desk.old }
-    ensures err { OnErr result (desk.new ≡ desk.old) }
+    rest: &'a [u8],
+) -> Result<(usize, &'a [u8]), FileFault>
+    ensures told { IfOk result (λ r. LinesTell (take r.0 (line.now ∷ lines_of rest.now)) desk.old desk.new) }
+    ensures left { IfOk result (λ r. lines_of r.1.now ≡ drop r.0 (line.now ∷ lines_of rest.now)) }
+    ensures shorter { IfOk result (λ r. (r.0 + length r.1.now ≤ length rest.now + 1) × (length r.1.now ≤ length rest.now)) }
+    ensures within { (n : ℕ) → result ≡ Err (line_fault n) → n ≤ length rest.now + 1 }
+    ensures wrong { (n : ℕ) → result ≡ Err (line_fault n) → (before : ℕ) × (n ≡ before + 1) × WrongBehind J.most before (line.now ∷ lines_of rest.now) desk.old desk.new }
+    ensures memory { result ≡ Err memory → desk.new ≡ desk.old }
 {
     if line.is_empty() {
-        return Ok(());
+        return Ok((1, rest));
     }
-    let event = match event_of(alloc, line) {
+    let first = match event_of(alloc, line) {
         Ok(event) => event,
-        Err(LineFault::Wrong) => return Err(LineFault::Wrong),
-        Err(LineFault::Memory) => return Err(LineFault::Memory),
+        Err(LineFault::Wrong) => return Err(FileFault::Line(1)),
+        Err(LineFault::Memory) => return Err(FileFault::Memory),
     };
-    match desk.insert(rt, event) {
-        Ok(_) => Ok(()),
-        Err((InsertFault::Full(_), _)) => Err(LineFault::Wrong),
-        Err((InsertFault::Memory, _)) => Err(LineFault::Memory),
+    let Ok((events, left)) = next_events(alloc, first, rest) else {
+        return Err(FileFault::Memory);
+    };
+    let Ok(taken) = desk.insert_all(rt, &events) else {
+        return Err(FileFault::Memory);
+    };
+    if taken < events.len() {
+        return Err(FileFault::Line(taken + 1));
     }
+    Ok((taken, left))
 }
 
 /// Puts the events of a file's lines into the store, in their order. Empty lines and repeats are passed over. After a fault
@@ -73,13 +125,14 @@ pub fn insert_lines<W: Wait, J: Naming, D: Wait + Drop>(
     let mut rest = text;
     let mut number = 0;
     while let Some((line, after)) = cut_line(rest) {
-        number += 1;
-        match insert_line(rt, alloc, desk, line) {
-            Ok(()) => {}
-            Err(LineFault::Wrong) => return Err(FileFault::Line(number)),
-            Err(LineFault::Memory) => return Err(FileFault::Memory),
+        match insert_next(rt, alloc, desk, line, after) {
+            Ok((lines, left)) => {
+                number += lines;
+                rest = left;
+            }
+            Err(FileFault::Line(line)) => return Err(FileFault::Line(number + line)),
+            Err(FileFault::Memory) => return Err(FileFault::Memory),
         }
-        rest = after;
     }
     Ok(())
 }
