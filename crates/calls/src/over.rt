@@ -13,6 +13,7 @@ use std::thread::Threads;
 #[derive(Clone, Copy)]
 pub enum Call {
     Insert,
+    InsertAll,
     Pin,
     PinAll,
     Choose,
@@ -33,6 +34,7 @@ pub enum Call {
 pub fn call_of(name: &str) -> Option<Call> {
     match name {
         "Desk::insert" => Some(Call::Insert),
+        "Desk::insert_all" => Some(Call::InsertAll),
         "Reader::pin" => Some(Call::Pin),
         "Reader::pin all" => Some(Call::PinAll),
         "AllEvents::choose" => Some(Call::Choose),
@@ -55,7 +57,12 @@ pub fn call_of(name: &str) -> Option<Call> {
 fn held(call: Call) -> usize {
     match call {
         Call::Fetch | Call::InsertLines => 0,
-        Call::Insert | Call::Pin | Call::PinAll | Call::Choose | Call::WriteLines => 2,
+        Call::Insert
+        | Call::InsertAll
+        | Call::Pin
+        | Call::PinAll
+        | Call::Choose
+        | Call::WriteLines => 2,
         _ => 1,
     }
 }
@@ -78,6 +85,7 @@ pub fn over_store<J: Naming + Send + Sync, R: Threads + Wait + Sync>(
         Call::InsertLines => jobs::insert(rt, alloc, &mut desk, &mut reader),
         Call::WriteLines => jobs::write(alloc, &mut reader),
         Call::Insert => stores::insert(rt, alloc, &mut desk, &mut reader),
+        Call::InsertAll => stores::insert_all(rt, alloc, &mut desk, &mut reader),
         Call::Pin => stores::pin(alloc, &mut reader, r##"{"kinds":[7]}"##, 1),
         Call::PinAll => stores::pin(alloc, &mut reader, "{}", 2),
         Call::Choose => stores::chosen(alloc, &mut reader),

@@ -14,6 +14,7 @@ use std::sync::Wait;
 /// The names of the calls over a store of two events.
 pub const NAMES: &[&str] = &[
     "Desk::insert",
+    "Desk::insert_all",
     "Reader::pin",
     "Reader::pin all",
     "AllEvents::choose",
@@ -109,6 +110,31 @@ pub fn insert<J: Naming, R: Wait>(
                 && publishes(alloc, reader, 3),
         ),
         Err((InsertFault::Full(_), _third)) => Said::wrong(),
+    }
+}
+
+/// Inserts a published event, the third event and that once more, at once, while the two before it are pinned.
+pub fn insert_all<J: Naming, R: Wait>(
+    rt: &R,
+    alloc: Global,
+    desk: &mut Desk<J, &R>,
+    reader: &mut Reader<J>,
+) -> Option<Said> {
+    let mut events = Vec::new(alloc);
+    for at in [0, 2, 2] {
+        events.push(event(alloc, at)?).ok()?;
+    }
+    let before = reader.all().ok()?;
+    let taken = desk.insert_all(rt, &events);
+    let is_pin_kept = are_first(before.events(), 2);
+    match taken {
+        Ok(taken) => Said::ample(is_pin_kept && taken == 3 && publishes(alloc, reader, 3)),
+        Err(_) => Said::memory(
+            is_pin_kept
+                && publishes(alloc, reader, 2)
+                && desk.insert_all(rt, &events).is_ok()
+                && publishes(alloc, reader, 3),
+        ),
     }
 }
 

@@ -43,6 +43,21 @@ fn insert<J: Naming, D: Wait + Drop, R: Wait>(
     desk.insert(rt, event(alloc, number, time_of(number))?).ok()
 }
 
+// Inserts the events of these numbers at once, and says how many of them were taken.
+fn taken_at_once<J: Naming, D: Wait + Drop, R: Wait>(
+    rt: &R,
+    alloc: Global,
+    desk: &mut Desk<J, D>,
+    numbers: &[u64],
+) -> Option<usize> {
+    let mut events = Vec::new(alloc);
+    for number in numbers {
+        let event = event(alloc, *number, time_of(*number))?;
+        events.push(event).ok()?;
+    }
+    desk.insert_all(rt, &events).ok()
+}
+
 // The numbers from 0 to 99 have the times from 0 to 99.
 fn time_of(number: u64) -> u64 {
     (number.wrapping_mul(37) % 100).wrapping_add(number / 100 * 100)
@@ -250,14 +265,19 @@ fn marked_events_are_found(rt: HostRuntime) -> Result<(), Fail> {
     Ok(())
 }
 
-// Whether six hundred events are picked and chosen as they should be, by their tags.
+// Whether six hundred events are picked and chosen as they should be, by their tags. All but the first are inserted at once.
 fn finds<J: Naming, D: Wait + Drop, R: Wait>(
     rt: &R,
     alloc: Global,
     desk: &mut Desk<J, D>,
     reader: &mut Reader<J>,
 ) -> Option<bool> {
-    insert_all(rt, alloc, desk, 0, 600)?;
+    insert_all(rt, alloc, desk, 0, 50)?;
+    let mut numbers = Vec::new(alloc);
+    for number in 0..600u64 {
+        numbers.push(number).ok()?;
+    }
+    taken_at_once(rt, alloc, desk, numbers.as_slice())?;
     let all = reader.all().ok()?;
     let mut right = true;
     for (text, times, places) in MARKED {
@@ -310,6 +330,39 @@ fn fills<J: Naming, D: Wait + Drop, R: Wait>(
     let filled = full_at(rt, desk, event(alloc, 2, 2)?)?;
     let repeat = insert(rt, alloc, desk, 1)?;
     Some((filled, repeat.is_fresh(), repeat.front()))
+}
+
+#[test]
+fn many_at_once(rt: HostRuntime) -> Result<(), Fail> {
+    assert_eq!(rt;
+        fills_at_once::<Brand, _, _>(&rt, &rt, rt.alloc(), Blank::new()),
+        Some((5, 2, true))
+    );
+    Ok(())
+}
+
+// A store that takes four events: how many it takes of a list with repeats, and of one that is too long for it, and whether it has
+// the first of the new ones then.
+fn fills_at_once<J: Naming, D: Wait + Drop, R: Wait>(
+    rt: &R,
+    keep: D,
+    alloc: Global,
+    blank: Blank,
+) -> Option<(usize, usize, bool)>
+    requires book { blank ≡ J.book }
+    requires most { J.most ≡ 4 }
+{
+    let (mut desk, mut readers) = open_small::<J, D>(keep, alloc, blank, 1, 4).ok()?;
+    insert(rt, alloc, &mut desk, 0)?;
+    let repeats = taken_at_once(rt, alloc, &mut desk, &[0, 1, 1, 2, 0])?;
+    let more = taken_at_once(rt, alloc, &mut desk, &[3, 2, 4, 5])?;
+    let all = readers.pop()?.all().ok()?;
+    let times = times_of(alloc, all.events())?;
+    Some((
+        repeats,
+        more,
+        times.as_slice() == [0, 37, 74, 11].as_slice(),
+    ))
 }
 
 // How many events the store has that is full for this one.

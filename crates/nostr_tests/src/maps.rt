@@ -65,3 +65,22 @@ fn an_older_map_stays(rt: HostRuntime) -> Result<(), Fail> {
     assert!(rt; shared.get(&id_of(IDS, 7)).is_none());
     Ok(())
 }
+
+// The same map, made in place, and one that changes what an older map shares.
+#[test]
+fn a_map_that_is_given_up(rt: HostRuntime) -> Result<(), Fail> {
+    let mut map = IdMap::new(rt.alloc())?;
+    for number in 0..IDS {
+        map = map.with(rt.alloc(), id_of(number, 30), usize::from(number))?;
+    }
+    assert!(rt; has_all(&map, 30, IDS, None));
+    let new = map
+        .share()?
+        .with(rt.alloc(), id_of(41, 30), 9)?
+        .with(rt.alloc(), id_of(IDS, 30), 5)?;
+    assert!(rt; has_all(&new, 30, 41, Some(9)));
+    assert!(rt; new.get(&id_of(IDS, 30)) == Some(5));
+    assert!(rt; has_all(&map, 30, IDS, None));
+    assert!(rt; map.get(&id_of(IDS, 30)).is_none());
+    Ok(())
+}
