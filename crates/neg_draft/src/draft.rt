@@ -1,6 +1,6 @@
 //! A message that is being written.
 
-ghost use Rattle.std.specs.Prelude.{◌≡◌, ◌+◌, ◌<◌, ◌≤◌, ◌↔◌, [], ◌∷◌, IfOk, IfSome, IfNone, OnOk, IsTrue, length};
+ghost use Rattle.std.specs.Prelude.{◌≡◌, ◌+◌, ◌<◌, ◌≤◌, ◌↔◌, [], ◌∷◌, IfOk, IfSome, IfNone, OnOk, OnErr, IsTrue, length};
 ghost use Rattle.neg_codec.specs.Keys.{place, least, infinity};
 ghost use Rattle.neg_codec.specs.Ranges.{edge_of, claim_of, span_of};
 ghost use Rattle.neg_codec.specs.Encoding.{text_of, IsShort};
@@ -114,7 +114,8 @@ impl Draft {
         requires short { IsShort (claim_of range.payload) }
         requires fits { length (text_of (told_more self.old (edge_of range.upper) (span_of range ∷ [])).spans) ≤ self.old.limit }
         requires room { place (edge_of range.upper) < place infinity → length (text_of (told_more self.old (edge_of range.upper) (span_of range ∷ [])).spans) + 64 ≤ self.old.limit }
-        ensures { OnOk result (self.new ≡ told_more self.old (edge_of range.upper) (span_of range ∷ [])) }
+        ensures ok { OnOk result (self.new ≡ told_more self.old (edge_of range.upper) (span_of range ∷ [])) }
+        ensures err { OnErr result (self.new ≡ self.old) }
     {
         let upper = range.upper;
         let _ = upper.edge();

@@ -103,7 +103,8 @@ impl Ranges {
         self.end = end;
     }
 
-    /// One range more, after the Skip up to a bound where the ranges end below that.
+    /// One range more, after the Skip up to a bound where the ranges end below that. Where memory is refused, all stays as
+    /// it was.
     pub fn push_from(&mut self, from: Bound, range: Range) -> Result<(), AllocError>
         requires above { place (end_of least (self.old ++ gap (end_of least self.old) (edge_of from))) ≤ place (edge_of range.upper) }
         requires short { IsShort (claim_of range.payload) }
