@@ -2,14 +2,14 @@
 use Rattle.std.proofs.Common.{◌≡◌, ℕ, zero, suc, ◌+◌, ◌-◌, ◌%◌, ◌^◌, ◌<◌, ◌≤◌, List, [], ◌∷◌, ◌++◌, length, take, drop, get_or, length-append, refl, sym, ap, ◌∙◌, arith}
 use Rattle.std.specs.List.{slice_range}
 use Rattle.std.proofs.Math.Seq.{take-add, drop-append-add}
-use Rattle.std.proofs.lemmas.List.{take-append-le, take-append-drop, length-take, length-drop, map-append}
+use Rattle.std.proofs.lemmas.List.{take-append-le, length-drop, map-append}
 use Rattle.neg_codec.specs.declared.Item.{Item}
 use Rattle.item_roll.specs.declared.entries.Entry.{Entry}
 use Rattle.item_roll.specs.Parts.{ids_of}
 use Rattle.item_roll.specs.Sums.{sum_at}
 use Rattle.item_roll.specs.Chunks.{items_at, joined, starts, Tells, IsAt}
 use Rattle.item_roll.proofs.Totals.{sum_append, sum_small}
-use Rattle.item_roll.proofs.Kept.{before_is, next_is}
+use Rattle.item_roll.proofs.Kept.{before_is}
 
 drop_front : (xs ys : List Item) (j : ℕ) → j ≤ length xs → drop j (xs ++ ys) ≡ drop j xs ++ ys
 drop_front xs ys zero le = refl
@@ -71,8 +71,10 @@ sum_less xs lo hi high low le h l =
     let s = ap sum_at all ∙ sum_append (take lo xs) (slice_range xs lo hi) in
     omega (arith, h, l, s, sum_small (take lo xs), sum_small (slice_range xs lo hi))
 
--- the sum up to a place, by the items behind it
-pub sum_rest : (items : List Item) (whole k back : ℕ) → whole ≡ sum_at items → back ≡ sum_at (drop k items) → (whole + (2 ^ 256 - back)) % 2 ^ 256 ≡ sum_at (take k items)
-sum_rest items whole k back w b =
-    let s = ap sum_at (sym (take-append-drop k items)) ∙ sum_append (take k items) (drop k items) in
-    omega (arith, w, b, s, sum_small (drop k items), sum_small (take k items))
+-- the sum before the start and that of the piece
+pub sum_with : (xs : List Item) (lo hi low piece : ℕ) → lo ≤ hi → low ≡ sum_at (take lo xs) → piece ≡ sum_at (slice_range xs lo hi) → (low + piece) % 2 ^ 256 ≡ sum_at (take hi xs)
+sum_with xs lo hi low piece le l p =
+    let n : lo + (hi - lo) ≡ hi = omega arith in
+    let all : take hi xs ≡ take lo xs ++ slice_range xs lo hi = ap (λ (k : ℕ). take k xs) (sym n) ∙ take-add lo (hi - lo) xs in
+    let s = ap sum_at all ∙ sum_append (take lo xs) (slice_range xs lo hi) in
+    omega (arith, l, p, s)

@@ -1,5 +1,5 @@
 -- A roll's chunks after an item was put in its place.
-use Rattle.std.proofs.Common.{◌≡◌, ℕ, ◌+◌, ◌%◌, ◌^◌, ◌<◌, ◌≤◌, List, length, sym, ap, subst, ◌∙◌, arith}
+use Rattle.std.proofs.Common.{◌≡◌, ℕ, ◌+◌, ◌%◌, ◌^◌, ◌<◌, ◌≤◌, List, length, sym, ap, ◌∙◌, arith}
 use Rattle.std.specs.List.{insert}
 use Rattle.std.proofs.lemmas.List.Edits.{length-insert}
 use Rattle.neg_codec.specs.declared.Item.{Item}
@@ -7,7 +7,6 @@ use Rattle.neg_print.specs.declared.sum.Sum.{Sum}
 use Rattle.neg_print.specs.Print.{little_number}
 use Rattle.neg_print.specs.Total.{total_of}
 use Rattle.item_roll.specs.declared.entries.Entry.{Entry}
-use Rattle.item_roll.specs.Parts.{IsRoll}
 use Rattle.item_roll.specs.Sums.{sum_at}
 use Rattle.item_roll.specs.Chunks.{joined, Tells, HasRoom, Grown, IsKept}
 use Rattle.item_roll.proofs.Totals.{sum_insert}

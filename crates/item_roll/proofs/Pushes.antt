@@ -2,18 +2,14 @@
 use Rattle.std.proofs.Common.{◌≡◌, ℕ, ◌+◌, ◌-◌, ◌%◌, ◌^◌, ◌<◌, ◌≤◌, List, [], ◌∷◌, ◌++◌, length, take, drop, get_or, append-nil, length-append, add-one, refl, sym, ap, subst, ◌∙◌, arith}
 use Rattle.std.proofs.Math.Seq.{take-suc, take-add}
 use Rattle.std.proofs.lemmas.Grind.{flat_map-append}
-use Rattle.std.proofs.lemmas.List.{take-append-drop}
 use Rattle.neg_codec.specs.declared.Item.{Item}
-use Rattle.neg_codec.specs.Keys.{IsKey}
 use Rattle.neg_print.specs.declared.sum.Sum.{Sum}
 use Rattle.neg_print.specs.Total.{total_of}
 use Rattle.item_roll.specs.declared.entries.Entry.{Entry}
-use Rattle.item_roll.specs.Parts.{IsRoll}
 use Rattle.item_roll.specs.Sums.{sum_at}
 use Rattle.item_roll.specs.Halves.{IsPart}
 use Rattle.item_roll.specs.Chunks.{items_at, joined, Tells, IsKept}
 use Rattle.item_roll.proofs.Totals.{sum_append, sum_none, sum_small}
-use Rattle.item_roll.proofs.Kept.{all_front, ascending_front}
 
 pub join_push : {V : Type 0} → (its : V → List Item) (es : List (Entry V)) (e : Entry V) → joined its (es ++ e ∷ []) ≡ joined its es ++ items_at its e
 join_push {V} its es e = flat_map-append (items_at its) es (e ∷ []) ∙ ap (λ (xs : List Item). joined its es ++ xs) (append-nil (items_at its e))

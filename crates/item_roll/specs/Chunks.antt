@@ -8,7 +8,6 @@ use Rattle.neg_print.specs.declared.sum.Sum.{Sum}
 use Rattle.neg_print.specs.Print.{little_number}
 use Rattle.neg_print.specs.Total.{total_of}
 use Rattle.item_roll.specs.Halves.{IsPart}
-use Rattle.item_roll.specs.Parts.{IsRoll}
 use Rattle.item_roll.specs.Sums.{sum_at}
 use Rattle.item_roll.specs.declared.entries.Entry.{Entry}
 

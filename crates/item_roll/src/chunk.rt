@@ -7,6 +7,7 @@ ghost use Rattle.item_roll.specs.Halves.{IsPart, IsHalved};
 ghost use Rattle.item_roll.specs.Parts.{Ascending, count_below};
 ghost use Rattle.item_roll.specs.Sums.{sum_at};
 
+use crate::marks::{MARK_ITEMS, MARKS, mark_from, sum_upto};
 use crate::order::is_before;
 use crate::part::Part;
 use neg_codec::Item;
@@ -20,35 +21,26 @@ pub const CHUNK_ITEMS: usize = 256;
 /// How many items of a full chunk go into its first half.
 const HALF: usize = CHUNK_ITEMS / 2;
 
-/// Some items, and the sum of their ids.
+/// Some items, and sums of their ids.
 #[derive(Debug, Drop)]
 pub struct Chunk {
     items: Vec<Item>,
     sum: Sum,
+    /// The sum of the items before each 16th one.
+    marks: [Sum; MARKS],
 }
 
 impl Model for Chunk {
     ghost use Rattle.std.specs.Prelude.{◌≡◌, List};
     ghost use Rattle.neg_codec.specs.declared.Item.{Item};
     ghost use Rattle.neg_print.specs.Total.{total_of};
-    ghost use Rattle.item_roll.specs.Sums.{sum_at};
+    ghost use Rattle.item_roll.specs.Sums.{sum_at, AreMarked};
 
     ghost Value = { List Item };
 
     ghost view = { λ c. c.items.items };
 
-    ghost invariant = { λ c. total_of c.sum ≡ sum_at c.items.items };
-}
-
-/// The sum of the items' ids.
-pub fn sum_of_items(items: &[Item]) -> Sum
-    ensures { total_of result ≡ sum_at items.now }
-{
-    let mut sum = Sum::zero();
-    for item in items {
-        sum = sum.add(Sum::of(&item.id));
-    }
-    sum
+    ghost invariant = { λ c. (total_of c.sum ≡ sum_at c.items.items) × AreMarked c.items.items c.marks };
 }
 
 /// How many items of a list in order stand below another.
@@ -75,14 +67,20 @@ impl Chunk {
         self.sum
     }
 
-    /// A chunk of these items, whose sum is given, with room for so many.
-    fn with_room(alloc: Global, items: &[Item], sum: Sum, room: usize) -> Result<Chunk, AllocError>
-        requires { total_of sum ≡ sum_at items.now }
+    /// A chunk of these items, with room for so many.
+    fn with_room(alloc: Global, items: &[Item], room: usize) -> Result<Chunk, AllocError>
         ensures { IfOk result (λ c. c ≡ items.now) }
     {
         let mut own = Vec::with_capacity(alloc, room)?;
         own.extend_from_slice(items)?;
-        Ok(Chunk { items: own, sum })
+        let mut marks = [Sum::zero(); MARKS];
+        mark_from(&mut marks, items, 0);
+        let sum = sum_upto(&marks, items, items.len());
+        Ok(Chunk {
+            items: own,
+            sum,
+            marks,
+        })
     }
 }
 
@@ -99,11 +97,17 @@ impl Part for Chunk {
     }
 
     fn of(alloc: Global, list: &[Item]) -> Result<Chunk, AllocError> {
-        Chunk::with_room(alloc, list, sum_of_items(list), list.len())
+        Chunk::with_room(alloc, list, list.len())
     }
 
     fn copied(&self, alloc: Global) -> Result<Chunk, AllocError> {
-        Chunk::with_room(alloc, self.items(), self.sum, CHUNK_ITEMS)
+        let mut items = Vec::with_capacity(alloc, CHUNK_ITEMS)?;
+        items.extend_from_slice(self.items())?;
+        Ok(Chunk {
+            items,
+            sum: self.sum,
+            marks: self.marks,
+        })
     }
 
     fn halves(&self, alloc: Global) -> Result<Option<(Chunk, Chunk)>, AllocError> {
@@ -111,8 +115,8 @@ impl Part for Chunk {
             return Ok(None);
         }
         let (first, second) = self.items().split_at(HALF);
-        let left = Chunk::with_room(alloc, first, sum_of_items(first), CHUNK_ITEMS)?;
-        let right = Chunk::with_room(alloc, second, sum_of_items(second), CHUNK_ITEMS)?;
+        let left = Chunk::with_room(alloc, first, CHUNK_ITEMS)?;
+        let right = Chunk::with_room(alloc, second, CHUNK_ITEMS)?;
         Ok(Some((left, right)))
     }
 
@@ -121,6 +125,8 @@ impl Part for Chunk {
             return Err(AllocError);
         }
         self.sum = self.sum.add(Sum::of(&item.id));
+        let mark = (at / MARK_ITEMS).min(MARKS - 1);
+        mark_from(&mut self.marks, self.items.as_slice(), mark);
         Ok(())
     }
 
@@ -145,11 +151,6 @@ impl Part for Chunk {
     }
 
     fn sum_before(&self, place: usize) -> Sum {
-        let (front, back) = self.items().split_at(place);
-        if front.len() <= back.len() {
-            sum_of_items(front)
-        } else {
-            self.sum.sub(sum_of_items(back))
-        }
+        sum_upto(&self.marks, self.items(), place)
     }
 }

@@ -4,6 +4,7 @@
 mod bound;
 mod chunk;
 mod entries;
+mod marks;
 mod order;
 mod part;
 mod roll;

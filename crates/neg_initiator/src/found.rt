@@ -93,8 +93,8 @@ pub fn compare(alloc: Global, found: &mut Found, own: &[Id], listed: &[Id]) -> R
     ensures full { result ≡ Err InitFault.NeedFull → Passes own.now listed.now found.old.need.keys found.old.most }
     ensures fault { IfErr result (λ e. (e ≡ InitFault.NeedFull) ⊎ (e ≡ InitFault.Memory)) }
 {
-    let own_set = Lookup::of(alloc, own)?;
-    let listed_set = Lookup::of(alloc, listed)?;
+    let own_set = Lookup::of(alloc, own, listed.len())?;
+    let listed_set = Lookup::of(alloc, listed, own.len())?;
     match note_all(&mut found.need, listed, &own_set, found.most) {
         Ok(()) => {}
         Err(fault) => return Err(fault),

@@ -36,7 +36,7 @@ pub fn set_of(alloc: Global, ids: &[Id]) -> Result<BTreeSet<Id>, AllocError>
     Ok(set)
 }
 
-/// A list of so many ids is looked through as it stands.
+/// A list is looked through as it stands where it has no more ids, or no more are asked for.
 const FEW_IDS: usize = 32;
 
 /// Ids of which it is asked whether they have another among them.
@@ -59,11 +59,12 @@ fn is_among(ids: &[Id], id: &Id) -> bool
 }
 
 impl<'a> Lookup<'a> {
-    /// The ids of a list, n log n in its length. A short one takes no memory.
-    pub fn of(alloc: Global, ids: &'a [Id]) -> Result<Lookup<'a>, AllocError>
+    /// The ids of a list, of which so many others are asked: n log n in its length, unless either is small. Then it takes no
+    /// memory, and each question a pass over the list.
+    pub fn of(alloc: Global, ids: &'a [Id], asked: usize) -> Result<Lookup<'a>, AllocError>
         ensures { IfOk result (λ l. (i : Id) → Contains (looked_up l) i ↔ Contains ids.now i) }
     {
-        if ids.len() <= FEW_IDS {
+        if ids.len().min(asked) <= FEW_IDS {
             return Ok(Lookup::Few(ids));
         }
         let set = set_of(alloc, ids)?;

@@ -1,4 +1,4 @@
-use Rattle.std.proofs.Common.{◌≡◌, ◌≤◌, List, length, refl, ap, ◌∙◌, arith}
+use Rattle.std.proofs.Common.{◌≡◌, ◌≤◌, List, length, refl, arith}
 use Rattle.std.specs.Prelude.{Option, Some, None, MatchOption}
 use Rattle.neg_codec.specs.declared.Item.{Item}
 use Rattle.item_roll.proofs.Kept.{placed, room_in, at_entry, told_many}

@@ -1,6 +1,6 @@
 use Rattle.std.proofs.Common.{List, ◌+◌, length, ap, arith}
 use Rattle.neg_codec.specs.declared.Item.{Item}
-use Rattle.item_roll.proofs.Kept.{next_is, starts_all, starts_most}
+use Rattle.item_roll.proofs.Kept.{next_is, starts_most}
 use Rattle.item_roll.proofs.roll.Roll.chunks.Goals as goal
 
 pub overflow_add-chunks : goal.overflow_add-chunks

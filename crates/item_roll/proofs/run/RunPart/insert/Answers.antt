@@ -1,5 +1,4 @@
-use Rattle.std.proofs.Common.{◌≡◌, ◌+◌, ◌%◌, ◌^◌, ◌<◌, ◌≤◌, ℕ, List, length, ap, sym, subst, ◌∙◌, arith}
-use Rattle.neg_codec.specs.declared.Item.{Item}
+use Rattle.std.proofs.Common.{◌≡◌, ◌+◌, ◌%◌, ◌^◌, ℕ, length, ap, ◌∙◌, arith}
 use Rattle.neg_print.specs.Total.{total_of}
 use Rattle.item_roll.specs.Sums.{sum_at}
 use Rattle.item_roll.specs.Chunks.{joined, Grown}

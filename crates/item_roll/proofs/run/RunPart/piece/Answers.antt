@@ -1,4 +1,4 @@
-use Rattle.std.proofs.Common.{◌∙◌, arith, ap, length}
+use Rattle.std.proofs.Common.{arith}
 use Rattle.item_roll.proofs.Kept.{read}
 use Rattle.item_roll.proofs.Pieces.{piece_from}
 use Rattle.item_roll.proofs.run.RunPart.piece.Goals as goal

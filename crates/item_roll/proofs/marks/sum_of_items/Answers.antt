@@ -3,7 +3,7 @@ use Rattle.neg_codec.specs.Keys.{item_of}
 use Rattle.neg_print.specs.Print.{little_number}
 use Rattle.neg_print.specs.Total.{total_of}
 use Rattle.item_roll.proofs.Totals.{sum_more, sum_none}
-use Rattle.item_roll.proofs.chunk.sum_of_items.Goals as goal
+use Rattle.item_roll.proofs.marks.sum_of_items.Goals as goal
 
 pub loop-item-init : goal.loop-item-init
 loop-item-init c = c.zero-sum.ensures ∙ sym sum_none
