@@ -44,7 +44,8 @@ fn printed(roll: &Roll, lo: usize, next: usize, below: Option<Sum>) -> (Range, O
     ensures range { span_of result.0 ≡ record { upper = minimal_bound_of (slice_index_or roll.now (next - 1) least) (slice_index_or roll.now next least); claim = print (print_of (ids_of (slice_range roll.now lo next))) } }
     ensures below { IfSome result.1 (λ s. total_of s ≡ sum_at (take next roll.now)) }
 {
-    let upper = minimal_bound(&roll.get(next - 1), &roll.get(next));
+    let (before, at) = roll.pair(next);
+    let upper = minimal_bound(&before, &at);
     let (own, below) = roll.print_from(lo, next, below);
     let payload = Payload::Print(own);
     (Range { upper, payload }, below)

@@ -13,14 +13,14 @@ made items a b x y edge bytes ids ea eb e f = rw (e, ea, eb, f) refl
 
 pub minimal_bound-upper-requires-clause-order : goal.minimal_bound-upper-requires-clause-order
 minimal_bound-upper-requires-clause-order c =
-    rw (got c.args.roll.now (c.args.next - 1) c.get.result c.get.ensures.value, got c.args.roll.now c.args.next c.get-2.result c.get-2.ensures.value)
-    (order_at c.args.roll.now (c.args.next - 1) c.args.next least c.get.ensures.roll.ascending (omega arith) c.requires.within)
+    rw (got c.args.roll.now (c.args.next - 1) c.pair.result.0 c.pair.ensures.first, got c.args.roll.now c.args.next c.pair.result.1 c.pair.ensures.second)
+    (order_at c.args.roll.now (c.args.next - 1) c.args.next least c.pair.ensures.roll.ascending (omega arith) c.requires.within)
 
 pub minimal_bound-upper-requires-clause-first : goal.minimal_bound-upper-requires-clause-first
-minimal_bound-upper-requires-clause-first c = rw (got c.args.roll.now (c.args.next - 1) c.get.result c.get.ensures.value) (key_at c.args.roll.now (c.args.next - 1) least c.get.ensures.roll (omega arith)).time
+minimal_bound-upper-requires-clause-first c = rw (got c.args.roll.now (c.args.next - 1) c.pair.result.0 c.pair.ensures.first) (key_at c.args.roll.now (c.args.next - 1) least c.pair.ensures.roll (omega arith)).time
 
 pub minimal_bound-upper-requires-clause-second : goal.minimal_bound-upper-requires-clause-second
-minimal_bound-upper-requires-clause-second c = rw (got c.args.roll.now c.args.next c.get-2.result c.get-2.ensures.value) (key_at c.args.roll.now c.args.next least c.get.ensures.roll c.requires.within).time
+minimal_bound-upper-requires-clause-second c = rw (got c.args.roll.now c.args.next c.pair.result.1 c.pair.ensures.second) (key_at c.args.roll.now c.args.next least c.pair.ensures.roll c.requires.within).time
 
 pub returns-clause-range : goal.returns-clause-range
-returns-clause-range c = made c.args.roll.now c.get.result c.get-2.result _ _ _ _ _ (got c.args.roll.now (c.args.next - 1) c.get.result c.get.ensures.value) (got c.args.roll.now c.args.next c.get-2.result c.get-2.ensures.value) c.minimal_bound-upper.ensures.value c.print_from-below.ensures.print
+returns-clause-range c = made c.args.roll.now c.pair.result.0 c.pair.result.1 _ _ _ _ _ (got c.args.roll.now (c.args.next - 1) c.pair.result.0 c.pair.ensures.first) (got c.args.roll.now c.args.next c.pair.result.1 c.pair.ensures.second) c.minimal_bound-upper.ensures.value c.print_from-below.ensures.print
