@@ -1,14 +1,15 @@
 -- Sets of ids, as the lists of their keys.
-use Rattle.std.proofs.Common.{◌≡◌, ◌+◌, ◌<◌, ◌≤◌, length, arith, take, get_or, ◌⊎◌, inl, inr, ℕ, List, [], ◌∷◌, refl, sym, ap, subst}
-use Rattle.std.specs.Prelude.{Contains}
+use Rattle.std.proofs.Common.{◌≡◌, ◌+◌, ◌<◌, length, take, get_or, ◌⊎◌, inl, inr, ℕ, List, [], ◌∷◌, refl, sym, ap, subst, ◌∙◌, true, is_eq}
+use Rattle.std.specs.Prelude.{Contains, ◌↔◌}
 use Rattle.std.specs.declared.cmp.Ordering.{Ordering}
 use Rattle.std.specs.declared.cmp.Ordering.TheVariants.{Less, Equal, Greater}
 use Rattle.std.specs.Ordering.{match_ordering}
 use Rattle.std.specs.Cmp.{IsTotalOrder}
-use Rattle.std.specs.BTreeSet.{insert_key}
+use Rattle.std.specs.BTreeSet.{BTreeSet, IsFromIterResult, insert_key}
 use Rattle.std.proofs.lemmas.List.{take_more}
 use Rattle.std.proofs.lemmas.List.Elements.{Contains-append_left, Contains-append_right, Contains-append_cases}
-use Rattle.std.proofs.lemmas.Cmp.{nat_list_cmp_total, on_total}
+use Rattle.std.proofs.lemmas.Cmp.{nat_list_cmp_total, on_total, eq_by_cmp_equiv}
+use Rattle.std.proofs.lemmas.Map.Views.{btree_set_contains_iff, Contains-from_any, list_any-from_Contains}
 use Rattle.std.proofs.lemmas.Map.Lookups.{CmpEqualImpliesEq, exact_bytes}
 use Rattle.neg_codec.proofs.Stretches.{contains_head, contains_tail, contains_cases, contains_none}
 use Rattle.neg_codec.specs.declared.Id.{Id}
@@ -22,15 +23,6 @@ id_exact a b e = ap (λ (bytes : List ℕ). bytes_id bytes) (exact_bytes a.0 b.0
   where
     bytes_id : List ℕ → Id
     bytes_id bytes = record { 0 = bytes }
-
-pub put_count : (ks : List Id) (k : Id) → length (insert_key id_cmp ks k) ≤ length ks + 1
-put_count [] k = omega arith
-put_count (x ∷ xs) k = go (id_cmp k x) (put_count xs k)
-  where
-    go : (o : Ordering) → length (insert_key id_cmp xs k) ≤ length xs + 1 → length (match_ordering o (k ∷ x ∷ xs) (x ∷ xs) (x ∷ insert_key id_cmp xs k)) ≤ length (x ∷ xs) + 1
-    go Less again = omega arith
-    go Equal again = omega arith
-    go Greater again = omega (arith, again)
 
 pub put_gives : (ks : List Id) (k i : Id) → Contains (insert_key id_cmp ks k) i → Contains ks i ⊎ (i ≡ k)
 put_gives [] k i h = elim (contains_cases k [] i h) [ inl e ↦ inr (sym e) | inr n ↦ absurd (contains_none i n) ]
@@ -77,3 +69,15 @@ seen_keeps {X} xs n d x lt h = subst (λ (t : List X). Contains t x) (sym (take_
 
 pub seen_there : {X : Type 0} → (xs : List X) (n : ℕ) (d : X) → n < length xs → Contains (take (n + 1) xs) (get_or xs n d)
 seen_there {X} xs n d lt = subst (λ (t : List X). Contains t (get_or xs n d)) (sym (take_more xs n d lt)) (Contains-append_right (take n xs) (get_or xs n d ∷ []) (get_or xs n d) (contains_head (get_or xs n d) []))
+
+equal_of : (o : Ordering) → is_eq o ≡ true → o ≡ Equal
+equal_of Less e = cc
+equal_of Equal e = refl
+equal_of Greater e = cc
+
+-- a set made of a list has its ids
+pub made_of : (ids : List Id) (s : BTreeSet Id) → IsFromIterResult id_cmp ids s → (i : Id) → Contains s.keys i ↔ Contains ids i
+made_of ids s from i = (
+  λ h. Contains-from_any (λ x y e. id_exact x y (equal_of (id_cmp x y) e)) i ids (sym (from.0 i) ∙ (btree_set_contains_iff id_total id_exact s i).1 h),
+  λ h. (btree_set_contains_iff id_total id_exact s i).0 (from.0 i ∙ list_any-from_Contains (eq_by_cmp_equiv id_total) i ids h),
+)

@@ -1,5 +1,5 @@
 -- Ids that are noted one after another.
-use Rattle.std.proofs.Common.{◌≡◌, ℕ, ◌+◌, ◌<◌, ◌≤◌, ◌⊎◌, ◌↔◌, IsTrue, inl, inr, Bool, true, false, List, [], ◌∷◌, length, take, drop, get_or, refl, sym, subst, arith}
+use Rattle.std.proofs.Common.{◌≡◌, ℕ, ◌+◌, ◌<◌, ◌⊎◌, ◌↔◌, IsTrue, inl, inr, Bool, true, false, List, [], ◌∷◌, length, take, drop, get_or, refl, sym, subst}
 use Rattle.std.specs.Prelude.{Contains}
 use Rattle.std.specs.Cmp.{IsTotalOrder}
 use Rattle.std.specs.declared.cmp.Ordering.{Ordering}
@@ -8,12 +8,11 @@ use Rattle.std.specs.List.Sorted.{IsStrictlySortedBy}
 use Rattle.std.proofs.lemmas.Cmp.{tied_itself}
 use Rattle.std.proofs.lemmas.List.{take-append-drop}
 use Rattle.std.proofs.lemmas.List.Elements.{All-contains, All-from_recursion, Contains-append_left}
-use Rattle.neg_codec.proofs.Stretches.{contains_head, contains_cases, contains_none}
+use Rattle.neg_codec.proofs.Stretches.{contains_none}
 use Rattle.neg_codec.specs.declared.Id.{Id}
-use Rattle.neg_initiator.specs.Ids.{id_cmp}
 use Rattle.neg_initiator.specs.Listed.{Distinct}
-use Rattle.neg_initiator.specs.Notes.{NotesOne, Notes, Passes}
-use Rattle.neg_initiator.proofs.Keys.{id_total, seen_gives, seen_keeps, seen_there}
+use Rattle.neg_initiator.specs.Notes.{NotesOne, Notes}
+use Rattle.neg_initiator.proofs.Keys.{seen_gives, seen_keeps, seen_there}
 
 no_less : (o : Ordering) → o ≡ Less → o ≡ Equal → ⊥
 no_less o a b = cc
@@ -30,17 +29,6 @@ not_there b P h e p = let is = h.1 p in no_true b is e
   where
     no_true : (b : Bool) → IsTrue b → b ≡ false → ⊥
     no_true b is e = let t : b ≡ true = is in cc
-
-pub passes_one : (others : List Id) (id : Id) (ks : List Id) (most : ℕ) → IsStrictlySortedBy id_cmp ks → (Contains ks id → ⊥) → (Contains others id → ⊥) → most ≤ length ks → Passes others (id ∷ []) ks most
-passes_one others id ks most up new lacks le = record {
-  ids = id ∷ ks;
-  distinct = (new, sorted_distinct id_total ks up);
-  more = omega (arith, le);
-  each = λ i h. elim (contains_cases id ks i h) [
-    | inl e ↦ inr (subst (λ (x : Id). Contains (id ∷ []) x) e (contains_head id []), λ c. lacks (subst (λ (x : Id). Contains others x) (sym e) c))
-    | inr old ↦ inl old
-  ];
-}
 
 pub notes_put : (others : List Id) (id : Id) (old new : List Id) → ((i : Id) → Contains new i ↔ (Contains old i ⊎ (i ≡ id))) → (Contains others id → ⊥) → NotesOne others id old new
 notes_put others id old new put lacks = record {
@@ -74,32 +62,10 @@ notes_more others xs n d old now new lt was one = record {
   ];
 }
 
-pub passes_at : (others xs : List Id) (n : ℕ) (d : Id) (old now : List Id) (most : ℕ) → n < length xs → Notes others (take n xs) old now → Passes others (get_or xs n d ∷ []) now most → Passes others xs old most
-passes_at others xs n d old now most lt was p = record {
-  ids = p.ids;
-  distinct = p.distinct;
-  more = p.more;
-  each = λ i h. elim (p.each i h) [
-    | inl h' ↦ elim (was.news i h') [ inl o ↦ inl o | inr s ↦ inr (whole xs n i s.0, s.1) ]
-    | inr s ↦ elim (contains_cases (get_or xs n d) [] i s.0) [
-      | inl e ↦ inr (subst (λ (x : Id). Contains xs x) e (there xs n d lt), s.1)
-      | inr none ↦ absurd (contains_none i none)
-    ]
-  ];
-}
-
 -- others that have the same ids
 pub notes_same : (others same seen old new : List Id) → ((i : Id) → Contains others i ↔ Contains same i) → Notes others seen old new → Notes same seen old new
 notes_same others same seen old new e n = record {
   kept = n.kept;
   news = λ i h. elim (n.news i h) [ inl o ↦ inl o | inr s ↦ inr (s.0, λ c. s.1 ((e i).1 c)) ];
   noted = λ i h lacks. n.noted i h (λ c. lacks ((e i).0 c));
-}
-
-pub passes_same : (others same seen old : List Id) (most : ℕ) → ((i : Id) → Contains others i ↔ Contains same i) → Passes others seen old most → Passes same seen old most
-passes_same others same seen old most e p = record {
-  ids = p.ids;
-  distinct = p.distinct;
-  more = p.more;
-  each = λ i h. elim (p.each i h) [ inl o ↦ inl o | inr s ↦ inr (s.0, λ c. s.1 ((e i).1 c)) ];
 }

@@ -1,6 +1,6 @@
 -- A reply, range by range: what was found, and what the next ask leaves out.
 use Rattle.std.proofs.Common.{◌≡◌, ℕ, ◌<◌, ◌≤◌, ◌⊎◌, ◌++◌, inl, inr, Bool, cond, List, [], ◌∷◌, length, refl, sym, ap, subst, ◌∙◌, arith}
-use Rattle.std.specs.Prelude.{Contains, All}
+use Rattle.std.specs.Prelude.{Contains, All, ◌↔◌}
 use Rattle.std.proofs.lemmas.Bool.{le-ltb}
 use Rattle.std.proofs.lemmas.List.Elements.{All-nil, All-head, All-tail, All-push, All-contains, Contains-append_cases}
 use Rattle.neg_codec.proofs.Stretches.{one_stretch, some_stretch, key_below, contains_head, contains_tail, contains_cases, contains_none}
@@ -82,6 +82,30 @@ grown a answered l u f g lower r d le one c = record {
   may = λ k key lt out.
       let m = further a answered l u f k le (c.may k key lt out) in (m.0, m.1, m.2, m.3, accounts_grow a f g m.0.lower m.0.upper m.0.claim one.need_kept one.have_kept one.trusted_kept m.4);
   must = c.must;
+}
+
+-- findings of the same ids
+pub same_read : (limit : ℕ) (a : List Item) (answered : List Span) (old f : Findings) (need have : List Id) (until : Item) (d : Written) → ((i : Id) → Contains need i ↔ Contains f.need i) → ((i : Id) → Contains have i ↔ Contains f.have i)
+    → IsRead limit a answered old f until d → IsRead limit a answered old (record { need = need; have = have; trusted = f.trusted }) until d
+same_read limit a answered old f need have until d n h r = record {
+  ascends = r.ascends;
+  bytes = r.bytes;
+  found = record {
+    need_kept = λ i k. (n i).1 (r.found.need_kept i k);
+    have_kept = λ i k. (h i).1 (r.found.have_kept i k);
+    trusted_kept = r.found.trusted_kept;
+    need_new = λ i k. r.found.need_new i ((n i).0 k);
+    have_new = λ i k. r.found.have_new i ((h i).0 k);
+    trusted_new = r.found.trusted_new;
+  };
+  covers = record {
+    told = r.covers.told;
+    may = λ k key lt out.
+        let m = r.covers.may k key lt out in
+        (m.0, m.1, m.2, m.3, accounts_grow a f (record { need = need; have = have; trusted = f.trusted }) m.0.lower m.0.upper m.0.claim (λ i. (n i).1) (λ i. (h i).1) (λ x t. t) m.4);
+    must = r.covers.must;
+  };
+  leaves = r.leaves;
 }
 
 -- what accounts for a stretch shows that it was answered

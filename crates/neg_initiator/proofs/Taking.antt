@@ -1,6 +1,6 @@
 -- What a session is after a reply that was walked.
 use Rattle.std.proofs.Common.{◌≡◌, ℕ, suc, ◌+◌, ◌<◌, ◌≤◌, ◌⊎◌, ◌++◌, inl, inr, List, [], ◌∷◌, length, map, take, drop, get_or, refl, sym, ap, subst, ◌∙◌, arith}
-use Rattle.std.specs.Prelude.{Contains, All, Result, Ok}
+use Rattle.std.specs.Prelude.{◌↔◌, Contains, All, Result, Ok}
 use Rattle.std.proofs.lemmas.List.Elements.{All-contains, All-weaker, All-contains_itself}
 use Rattle.neg_codec.proofs.Stretches.{one_stretch, contains_head, contains_tail, contains_cases, contains_none}
 use Rattle.neg_codec.specs.declared.CodecFault.{CodecFault}
@@ -18,15 +18,14 @@ use Rattle.std.proofs.lemmas.List.{take-append-drop, map-append}
 use Rattle.neg_codec.specs.Encoding.{text_of}
 use Rattle.item_roll.specs.Splits.{split_of}
 use Rattle.neg_draft.specs.Coverage.{begun_at, HasKeys, NoneEmpty, Written, end_of, gap, told_more, all_left, IsDraft, Tells, Cut, Told}
-use Rattle.neg_draft.proofs.Covering.{stretch_of}
 use Rattle.neg_draft.proofs.Walking.{ranges_at, ranges_upto}
-use Rattle.neg_initiator.specs.Listed.{PassesMost}
+use Rattle.neg_initiator.specs.Listed.{Distinct, PassesMost}
 use Rattle.neg_initiator.specs.declared.phase.Phase.{Phase}
 use Rattle.std.proofs.lemmas.Bool.{le-ltb}
 use Rattle.neg_initiator.specs.Made.{asking}
 use Rattle.neg_initiator.specs.Session.{Session, Taken, HasOpen, LeavesOpen, IsAskDue}
 use Rattle.neg_initiator.specs.Settled.{HasOnePrint, IsSkipped}
-use Rattle.neg_initiator.specs.Settling.{Findings, Finds, Settles, ListsTooMany}
+use Rattle.neg_initiator.specs.Settling.{Findings, Finds, Settles}
 use Rattle.neg_initiator.specs.Trusting.{bounds_of, TrustsSkipped, IsSkippedPrint, IsOwnPrint}
 use Rattle.neg_initiator.proofs.Meeting.{stretches-append}
 use Rattle.neg_initiator.proofs.Step.{Accounts, settled_after}
@@ -104,20 +103,6 @@ taken_from limit a asked answered next until old mid new most enough roll up ord
         let owed = subst (λ (s : Stretch). Accounts a asked new.trusted new.need new.have s.lower s.upper s.claim) same m.3 in
         subst (λ (c : Claim). Accounts a asked new.trusted new.need new.have s.lower s.upper c) claims owed
 
--- ---- too many ids
-
-pub too_many : (a : List Item) (front : List Span) (r : Span) (back : List Span) (need : List Id) (old f : Findings) (most : ℕ) → Found a (front ++ (r ∷ back)) old f → old.need ≡ need
-    → ListsTooMany a (end_of least front) r f.need most → PassesMost a (front ++ (r ∷ back)) need most
-too_many a front r back need old f most found e l = record {
-  ids = l.2.ids;
-  distinct = l.2.distinct;
-  more = l.2.more;
-  each = λ i h. elim (l.2.each i h) [
-    | inl o ↦ elim (found.need_new i o) [ inl o' ↦ inl (subst (λ (xs : List Id). Contains xs i) e o') | inr s ↦ inr s ]
-    | inr s ↦ inr (begun_at (end_of least front) r, l.0, stretch_of least front r back, l.1, s.0, s.1)
-  ];
-}
-
 -- ---- the range at a place of the reply
 
 pub stepped_at : (limit : ℕ) (a : List Item) (ranges : List Range) (i : ℕ) (r : Range) (old f g : Findings) (d new : Written) → i < length ranges → r ≡ get_or ranges i r → Ascends least (map span_of ranges) → IsDraft d
@@ -146,12 +131,12 @@ read_at limit a ranges i r old f d up fits s over =
     (read_until limit a (map span_of (take (i + 1) ranges)) (map span_of (drop (i + 1) ranges)) (edge_of r.upper) old f d (subst (λ (x : List Span). Ascends least x) e up) (subst (λ (x : List Span). All IsSpan x) e fits)
     (subst (λ (x : List Span). Stepped limit a x (map span_of (take (i + 1) ranges)) (edge_of r.upper) old f d) e s) over)
 
-pub too_many_at : (a : List Item) (ranges : List Range) (i : ℕ) (r : Range) (need : List Id) (old f : Findings) (most : ℕ) → i < length ranges → r ≡ get_or ranges i r → Found a (map span_of ranges) old f → old.need ≡ need
-    → ListsTooMany a (end_of least (map span_of (take i ranges))) (span_of r) f.need most → PassesMost a (map span_of ranges) need most
-too_many_at a ranges i r need old f most lt is found e l =
-    let all = ranges_at ranges i r lt is in
-    subst (λ (x : List Span). PassesMost a x need most) (sym all)
-    (too_many a (map span_of (take i ranges)) (span_of r) (map span_of (drop (suc i) ranges)) need old f most (subst (λ (x : List Span). Found a x old f) all found) e l)
+-- ---- more needed than may be
+
+-- where each id that is needed now was needed before, or is listed
+pub too_many : (a : List Item) (answered : List Span) (old f : Findings) (now : List Id) (most : ℕ) → Found a answered old f → ((i : Id) → Contains now i ↔ Contains f.need i) → most < length now → (most < length now → Distinct now)
+    → PassesMost a answered old.need most
+too_many a answered old f now most found same more once = record { ids = now; distinct = once more; more = more; each = λ i h. found.need_new i ((same i).0 h) }
 
 -- ---- something is open
 
@@ -255,3 +240,13 @@ first_split a limit d e is exact =
       | inl now ↦ inl (ap (λ (x : Written). x.spans) now ∙ ap (λ (g : List Span). g ++ all) (gap_same least))
       | inr c ↦ inr c.full
     ]
+
+-- ---- whether there are ranges
+
+pub spans_none : (rs : List Range) (next : List Span) → map span_of rs ≡ next → length rs ≡ 0 → next ≡ []
+spans_none [] next is none = sym is
+spans_none (r ∷ rs) next is none = absurd (omega (arith, none))
+
+pub spans_gone : (rs : List Range) (next : List Span) → map span_of rs ≡ next → next ≡ [] → rs ≡ []
+spans_gone [] next is none = refl
+spans_gone (r ∷ rs) next is none = absurd (let e : map span_of (r ∷ rs) ≡ [] = is ∙ none in cc)

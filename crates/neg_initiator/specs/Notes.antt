@@ -1,7 +1,6 @@
 -- Ids of a list that others lack, put into those found before.
-use Rattle.std.specs.Prelude.{◌≡◌, ◌<◌, ◌⊎◌, ℕ, List, length, Contains}
+use Rattle.std.specs.Prelude.{◌≡◌, ◌⊎◌, List, Contains}
 use Rattle.neg_codec.specs.declared.Id.{Id}
-use Rattle.neg_initiator.specs.Listed.{Distinct}
 
 -- one id, where the others lack it
 pub record NotesOne (others : List Id) (id : Id) (old new : List Id) : Type 0 where
@@ -14,10 +13,3 @@ pub record Notes (others seen old new : List Id) : Type 0 where
   pub kept : (i : Id) → Contains old i → Contains new i
   pub news : (i : Id) → Contains new i → Contains old i ⊎ (Contains seen i × (Contains others i → ⊥))
   pub noted : (i : Id) → Contains seen i → (Contains others i → ⊥) → Contains new i
-
--- more than so many ids, found before or in the list and not with the others
-pub record Passes (others seen old : List Id) (most : ℕ) : Type 0 where
-  pub ids : List Id
-  pub distinct : Distinct ids
-  pub more : most < length ids
-  pub each : (i : Id) → Contains ids i → Contains old i ⊎ (Contains seen i × (Contains others i → ⊥))

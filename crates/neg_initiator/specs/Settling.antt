@@ -7,7 +7,6 @@ use Rattle.neg_print.specs.Print.{print_of}
 use Rattle.item_roll.specs.Parts.{part, ids_of}
 use Rattle.item_roll.specs.Truth.{IsTrueOf}
 use Rattle.neg_draft.specs.Coverage.{Written, HasKeys, begun_at, passed, Told}
-use Rattle.neg_initiator.specs.Notes.{Passes}
 use Rattle.neg_initiator.specs.Session.{IsAnswered}
 
 -- what is found: needed ids, ids to offer, trusted stretches
@@ -42,7 +41,3 @@ pub record Accounts (a : List Item) (lower : Item) (r : Span) (f : Findings) (ol
 -- or the own part is told, as far as it fits, where the reply didn't answer
 abbrev pub Settles : List Item → Item → Span → Findings → Written → Written → Type 0
 Settles a lower r f old new = Accounts a lower r f old new ⊎ (Told a old r.upper new × (IsAnswered a (begun_at lower r) → ⊥) × HasKeys (begun_at lower r))
-
--- a stretch of the reply lists more than may be needed
-abbrev pub ListsTooMany : List Item → Item → Span → List Id → ℕ → Type 0
-ListsTooMany a lower r need most = (is : List Id) × (r.claim ≡ ids is) × Passes (ids_of (part a lower r.upper)) is need most

@@ -1,39 +1,118 @@
-//! Sets of ids.
+//! Lists and sets of ids.
 
-ghost use Rattle.std.specs.Prelude.{◌≡◌, ◌≤◌, ◌+◌, ◌⊎◌, ◌↔◌, length, IsTrue, IfOk, OnOk, OnErr, Contains};
+ghost use Rattle.std.specs.Prelude.{◌≡◌, ◌<◌, ◌⊎◌, ◌↔◌, [], length, IsTrue, IfOk, OnOk, Contains};
 ghost use Rattle.neg_codec.specs.declared.Id.{Id};
-ghost use Rattle.neg_initiator.specs.Lookups.{looked_up};
+ghost use Rattle.neg_initiator.specs.Listed.{Distinct};
+ghost use Rattle.neg_initiator.specs.Lookups.{looked_up, ids_in, IsSet};
 
 use neg_codec::Id;
 use std::alloc::{AllocError, Global};
 use std::collections::BTreeSet;
 
 /// Whether the set has the id.
-pub fn has(set: &BTreeSet<Id>, id: &Id) -> bool
+fn has(set: &BTreeSet<Id>, id: &Id) -> bool
     ensures { IsTrue result ↔ Contains set.now.keys id.now }
 {
     set.contains(id)
 }
 
 /// Puts an id into the set.
-pub fn put(set: &mut BTreeSet<Id>, id: Id) -> Result<(), AllocError>
-    ensures ok { OnOk result ((i : Id) → Contains set.new.keys i ↔ (Contains set.old.keys i ⊎ (i ≡ id))) }
-    ensures count { OnOk result (length set.new.keys ≤ length set.old.keys + 1) }
-    ensures err { OnErr result (set.new.keys ≡ set.old.keys) }
+fn put(set: &mut BTreeSet<Id>, id: Id) -> Result<(), AllocError>
+    ensures { OnOk result ((i : Id) → Contains set.new.keys i ↔ (Contains set.old.keys i ⊎ (i ≡ id))) }
 {
     set.insert(id)?;
     Ok(())
 }
 
-/// The ids of a list as a set, n log n in its length.
-pub fn set_of(alloc: Global, ids: &[Id]) -> Result<BTreeSet<Id>, AllocError>
+/// The ids of a list as a set. One sort.
+fn set_of(alloc: Global, ids: &[Id]) -> Result<BTreeSet<Id>, AllocError>
     ensures { IfOk result (λ s. (i : Id) → Contains s.keys i ↔ Contains ids.now i) }
 {
-    let mut set = BTreeSet::new(alloc);
-    for id in ids {
-        put(&mut set, *id)?;
-    }
+    let set: BTreeSet<Id> = ids.iter().copied().collect(alloc)?;
     Ok(set)
+}
+
+/// Ids that were found. Until they are made a set they stand in no order, and some perhaps more than once.
+#[derive(Debug, Drop)]
+pub enum Ids {
+    Listed(Vec<Id>),
+    Set(BTreeSet<Id>),
+}
+
+impl Ids {
+    /// No ids. It takes no memory.
+    pub fn none(alloc: Global) -> Ids
+        ensures { ids_in result ≡ [] }
+    {
+        Ids::Listed(Vec::new(alloc))
+    }
+
+    /// How many there are, each as often as it stands there.
+    pub fn len(&self) -> usize
+        ensures { result ≡ length (ids_in self.now) }
+    {
+        match self {
+            Ids::Listed(list) => list.len(),
+            Ids::Set(set) => set.len(),
+        }
+    }
+
+    /// Puts an id in.
+    pub fn put(&mut self, id: Id) -> Result<(), AllocError>
+        ensures { OnOk result ((i : Id) → Contains (ids_in self.new) i ↔ (Contains (ids_in self.old) i ⊎ (i ≡ id))) }
+    {
+        match self {
+            Ids::Listed(list) => {
+                list.push(id)?;
+                Ok(())
+            }
+            Ids::Set(set) => {
+                put(set, id)?;
+                Ok(())
+            }
+        }
+    }
+
+    /// Makes a set of the ids. One sort, unless they are one.
+    fn make_set(&mut self, alloc: Global) -> Result<(), AllocError>
+        ensures same { OnOk result ((i : Id) → Contains (ids_in self.new) i ↔ Contains (ids_in self.old) i) }
+        ensures once { OnOk result (Distinct (ids_in self.new)) }
+        ensures set { OnOk result (IsSet self.new) }
+    {
+        let set = match self {
+            Ids::Listed(list) => set_of(alloc, list)?,
+            Ids::Set(set) => {
+                let _ = set.len();
+                return Ok(());
+            }
+        };
+        let _ = set.len();
+        *self = Ids::Set(set);
+        Ok(())
+    }
+
+    /// Makes a set of the ids where there are more than so many, or no more will come.
+    pub fn tidy(&mut self, alloc: Global, most: usize, is_last: bool) -> Result<(), AllocError>
+        ensures same { OnOk result ((i : Id) → Contains (ids_in self.new) i ↔ Contains (ids_in self.old) i) }
+        ensures once { OnOk result (most < length (ids_in self.new) → Distinct (ids_in self.new)) }
+        ensures set { OnOk result (IsTrue is_last → IsSet self.new) }
+    {
+        if is_last || self.len() > most {
+            self.make_set(alloc)?;
+        }
+        Ok(())
+    }
+
+    /// The set of the ids.
+    pub fn into_set(self) -> BTreeSet<Id>
+        requires { IsSet self }
+        ensures { result.keys ≡ ids_in self }
+    {
+        match self {
+            Ids::Set(set) => set,
+            Ids::Listed(_) => unreachable!(),
+        }
+    }
 }
 
 /// A list is looked through as it stands where it has no more ids, or no more are asked for.

@@ -6,21 +6,21 @@ ghost use Rattle.neg_codec.specs.Ranges.{ids, edge_of, span_of};
 ghost use Rattle.neg_codec.specs.Encoding.{text_of};
 ghost use Rattle.item_roll.specs.Parts.{part, ids_of};
 ghost use Rattle.neg_draft.specs.Coverage.{IsDraft};
-ghost use Rattle.neg_initiator.specs.Notes.{Passes};
+ghost use Rattle.neg_initiator.specs.Lookups.{ids_in, IsSet};
 ghost use Rattle.neg_initiator.specs.Listed.{PassesMost};
 ghost use Rattle.neg_initiator.specs.Made.{asking};
 ghost use Rattle.neg_initiator.specs.Session.{IsSound, Taken, HasOpen, LeavesOpen};
-ghost use Rattle.neg_initiator.specs.Settling.{AccountsFor, Finds, Settles, ListsTooMany};
+ghost use Rattle.neg_initiator.specs.Settling.{AccountsFor, Finds, Settles};
 ghost use Rattle.neg_initiator.specs.Findings.{findings_of};
 ghost use Rattle.neg_initiator.specs.Walked.{IsRead};
 
 use crate::InitFault;
-use crate::found::{Found, compare};
+use crate::found::{Found, compare, tidy};
 use crate::trust::{trust, trust_skipped};
 use item_roll::Roll;
 use neg_codec::{Bound, Id, Message, Payload, Range};
 use neg_draft::Draft;
-use std::alloc::Global;
+use std::alloc::{AllocError, Global};
 
 /// Takes in the ids that are listed of a stretch.
 fn settle_ids(
@@ -31,22 +31,17 @@ fn settle_ids(
     lower: &Bound,
     upper: &Bound,
     listed: &[Id],
-) -> Result<(), InitFault>
+) -> Result<(), AllocError>
     requires { place (edge_of lower.now) < place (edge_of upper.now) }
     ensures finds { OnOk result (Finds roll.now (edge_of lower.now) (record { upper = edge_of upper.now; claim = ids listed.now }) (findings_of found.old) (findings_of found.new)) }
     ensures accounts { OnOk result (AccountsFor roll.now (findings_of found.new) (edge_of lower.now) (edge_of upper.now) (ids listed.now)) }
     ensures most { found.new.most ≡ found.old.most }
     ensures kept { draft.new ≡ draft.old }
-    ensures within { OnOk result (length found.old.need.keys ≤ found.old.most → length found.new.need.keys ≤ found.new.most) }
-    ensures full { result ≡ Err InitFault.NeedFull → Passes (ids_of (part roll.now (edge_of lower.now) (edge_of upper.now))) listed.now found.old.need.keys found.old.most }
-    ensures fault { IfErr result (λ e. (e ≡ InitFault.NeedFull) ⊎ (e ≡ InitFault.Memory)) }
 {
     let (lo, hi) = draft.places(roll, lower, upper);
     let own = roll.ids(alloc, lo, hi)?;
-    match compare(alloc, found, &own, listed) {
-        Ok(()) => Ok(()),
-        Err(fault) => Err(fault),
-    }
+    compare(alloc, found, &own, listed)?;
+    Ok(())
 }
 
 /// The draft of the next ask after a range of the reply, begun at a bound.
@@ -57,16 +52,13 @@ pub fn settle_range(
     draft: Draft,
     lower: &Bound,
     range: &Range,
-) -> Result<Draft, InitFault>
+) -> Result<Draft, AllocError>
     requires reached { place draft.end ≡ place (edge_of lower.now) }
     requires ahead { place (edge_of lower.now) ≤ place (edge_of range.now.upper) }
     ensures finds { OnOk result (Finds roll.now (edge_of lower.now) (span_of range.now) (findings_of found.old) (findings_of found.new)) }
     ensures settles { IfOk result (λ d. Settles roll.now (edge_of lower.now) (span_of range.now) (findings_of found.new) draft d) }
     ensures draft { IsDraft draft }
     ensures most { found.new.most ≡ found.old.most }
-    ensures within { OnOk result (length found.old.need.keys ≤ found.old.most → length found.new.need.keys ≤ found.new.most) }
-    ensures full { result ≡ Err InitFault.NeedFull → ListsTooMany roll.now (edge_of lower.now) (span_of range.now) found.old.need.keys found.old.most }
-    ensures fault { IfErr result (λ e. (e ≡ InitFault.NeedFull) ⊎ (e ≡ InitFault.Memory)) }
 {
     let _ = draft.end();
     let mut draft = draft;
@@ -80,14 +72,12 @@ pub fn settle_range(
                 trust(&mut found.trusted, *lower, range.upper)?;
                 Ok(draft.skip(range.upper))
             } else {
-                Ok(draft.tell_split(alloc, roll, range.upper)?)
+                draft.tell_split(alloc, roll, range.upper)
             }
         }
         Payload::Ids(listed) => {
-            match settle_ids(alloc, roll, &mut draft, found, lower, &range.upper, listed) {
-                Ok(()) => Ok(draft.skip(range.upper)),
-                Err(fault) => Err(fault),
-            }
+            settle_ids(alloc, roll, &mut draft, found, lower, &range.upper, listed)?;
+            Ok(draft.skip(range.upper))
         }
     }
 }
@@ -100,22 +90,16 @@ fn walk(
     limit: usize,
     answered: &Message,
     found: &mut Found,
-) -> Result<(Draft, Bound), InitFault>
+) -> Result<(Draft, Bound), AllocError>
     requires { 4096 ≤ limit }
     ensures read { IfOk result (λ x. IsRead limit roll.now answered.now (findings_of found.old) (findings_of found.new) (edge_of x.1) x.0) }
     ensures draft { IfOk result (λ x. IsDraft x.0) }
     ensures most { found.new.most ≡ found.old.most }
-    ensures within { OnOk result (length found.old.need.keys ≤ found.old.most → length found.new.need.keys ≤ found.new.most) }
-    ensures full { result ≡ Err InitFault.NeedFull → PassesMost roll.now answered.now found.old.need.keys found.old.most }
-    ensures fault { IfErr result (λ e. (e ≡ InitFault.NeedFull) ⊎ (e ≡ InitFault.Memory)) }
 {
     let mut draft = Draft::new(alloc, limit);
     let mut lower = Bound::lowest();
     for range in answered.ranges() {
-        draft = match settle_range(alloc, roll, found, draft, &lower, range) {
-            Ok(next) => next,
-            Err(fault) => return Err(fault),
-        };
+        draft = settle_range(alloc, roll, found, draft, &lower, range)?;
         if draft.is_over() {
             return Ok((draft, range.upper));
         }
@@ -141,14 +125,17 @@ pub fn settle(
     ensures short { IfOk result (λ next. length (text_of next) ≤ limit) }
     ensures leaves_open { IfOk result (λ next. (next ≡ []) ⊎ HasOpen next) }
     ensures due { IfOk result (λ next. (next ≡ [] → LeavesOpen roll.now answered.now → ⊥) × ((next ≡ [] → ⊥) → LeavesOpen roll.now answered.now)) }
-    ensures within { OnOk result (length found.old.need.keys ≤ found.old.most → length found.new.need.keys ≤ found.new.most) }
-    ensures full { result ≡ Err InitFault.NeedFull → PassesMost roll.now answered.now found.old.need.keys found.old.most }
+    ensures sets { IfOk result (λ next. next ≡ [] → IsSet found.new.need × IsSet found.new.have) }
+    ensures within { OnOk result (length (ids_in found.new.need) ≤ found.new.most) }
+    ensures full { result ≡ Err InitFault.NeedFull → PassesMost roll.now answered.now (ids_in found.old.need) found.old.most }
     ensures fault { IfErr result (λ e. (e ≡ InitFault.NeedFull) ⊎ (e ≡ InitFault.Memory)) }
 {
-    let (draft, until) = match walk(alloc, roll, limit, answered, found) {
-        Ok(read) => read,
-        Err(fault) => return Err(fault),
-    };
+    let (draft, until) = walk(alloc, roll, limit, answered, found)?;
     trust_skipped(asked, answered, &until, &mut found.trusted)?;
-    Ok(draft.into_message())
+    let next = draft.into_message();
+    tidy(alloc, found, roll.len(), next.ranges().is_empty())?;
+    if found.need.len() > found.most {
+        return Err(InitFault::NeedFull);
+    }
+    Ok(next)
 }

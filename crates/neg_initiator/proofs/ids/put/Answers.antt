@@ -3,14 +3,11 @@ use Rattle.std.specs.Prelude.{Contains}
 use Rattle.std.specs.BTreeSet.{insert_key}
 use Rattle.neg_codec.specs.declared.Id.{Id}
 use Rattle.neg_initiator.specs.Ids.{id_cmp}
-use Rattle.neg_initiator.proofs.Keys.{put_count, put_gives, put_keeps, put_there}
+use Rattle.neg_initiator.proofs.Keys.{put_gives, put_keeps, put_there}
 use Rattle.neg_initiator.proofs.ids.put.Goals as goal
 
-pub returns-clause-count : goal.returns-clause-count
-returns-clause-count c = rw c.in_ok-insert.ensures.keys (put_count c.args.set.now.keys c.args.id)
-
-pub returns-clause-ok : goal.returns-clause-ok
-returns-clause-ok c = rw c.in_ok-insert.ensures.keys (λ i. (
+pub returns : goal.returns
+returns c = rw c.in_ok-insert.ensures.keys (λ i. (
   λ h. put_gives c.args.set.now.keys c.args.id i h,
   λ h. elim h [
     | inl old ↦ put_keeps c.args.set.now.keys c.args.id i old

@@ -10,9 +10,9 @@ use Rattle.neg_initiator.proofs.settle.settle_ids.Goals as goal
 pub ids-requires : goal.ids-requires
 ids-requires c = c.places-lo.ensures.within
 
-pub returns-in-Ok-clause-finds : goal.returns-in-Ok-clause-finds
-returns-in-Ok-clause-finds c =
+pub returns-clause-finds : goal.returns-clause-finds
+returns-clause-finds c =
     let own : c.deref.result.now ≡ ids_of (part c.args.roll.now (edge_of c.args.lower.now) (edge_of c.args.upper.now)) =
     c.deref.ensures.value ∙ c.in_ok-own.ensures ∙ ap (λ (xs : List Item). ids_of xs) (sym c.places-lo.ensures.part) in
     finds_ids c.args.roll.now (edge_of c.args.lower.now) (edge_of c.args.upper.now) c.args.listed.now c.deref.result.now (findings_of c.args.found.now) (findings_of c.compare.new.found) own
-    c.in-Ok.ensures.need c.in-Ok.ensures.have (ap (λ v. map pair_of v.items) c.in-Ok.ensures.kept.0)
+    c.in_ok-compare.ensures.need c.in_ok-compare.ensures.have (ap (λ v. map pair_of v.items) c.compare.ensures.kept.0)

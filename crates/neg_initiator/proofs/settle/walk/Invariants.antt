@@ -1,4 +1,4 @@
-use Rattle.std.proofs.Common.{◌≡◌, ◌≤◌, length, take, map}
+use Rattle.std.proofs.Common.{◌≡◌, take, map}
 use Rattle.neg_codec.specs.Keys.{least}
 use Rattle.neg_codec.specs.Ranges.{edge_of, span_of}
 use Rattle.neg_draft.specs.Coverage.{end_of}
@@ -11,5 +11,4 @@ invariant-loop-range l = record {
   progress : Progress l.limit l.roll (map span_of l.range-items) (map span_of (take l.range-index l.range-items)) (findings_of l.fn.found) (findings_of l.found) l.draft;
   lower : edge_of l.lower ≡ end_of least (map span_of (take l.range-index l.range-items));
   most : l.found.most ≡ l.fn.found.most;
-  within : length l.fn.found.need.keys ≤ l.fn.found.most → length l.found.need.keys ≤ l.found.most;
 }

@@ -1,9 +1,10 @@
-use Rattle.std.proofs.Common.{List, ap, sym, subst, ◌∙◌, inl, inr, map, length, refl, arith}
+use Rattle.std.proofs.Common.{◌≡◌, List, ap, sym, subst, ◌∙◌, inl, inr, map, length, refl, arith}
 use Rattle.neg_codec.specs.Keys.{infinity}
 use Rattle.neg_codec.specs.Ranges.{Span}
 use Rattle.neg_codec.specs.Encoding.{text_of}
 use Rattle.neg_draft.specs.Coverage.{Written, NoneEmpty}
 use Rattle.neg_initiator.specs.Pairs.{pair_of}
+use Rattle.neg_initiator.specs.declared.phase.Phase.TheVariants as phase
 use Rattle.neg_initiator.proofs.Taking.{least_low, begun, first_split, told_limit}
 use Rattle.neg_initiator.proofs.initiator.Initiator.start.Goals as goal
 
@@ -13,7 +14,10 @@ tell_split-requires c = rw c.new.ensures least_low
 pub invariant_of-initiator : goal.invariant_of-initiator
 invariant_of-initiator c =
     let b = begun c.args.roll.now c.args.limit c.in_ok-draft.draft c.new.result c.new.ensures c.in_ok-draft.ensures.told in
-    record { roll = c.len.ensures.roll; ascends = rw c.into_message-asked.ensures.value c.into_message-asked.ensures.draft.ascends; none_empty = subst NoneEmpty (sym c.into_message-asked.ensures.value) c.into_message-asked.ensures.draft.none_empty; truth = rw c.into_message-asked.ensures.value b.truth; enough = c.requires }
+    record {
+      sound = record { roll = c.len.ensures.roll; ascends = rw c.into_message-asked.ensures.value c.into_message-asked.ensures.draft.ascends; none_empty = subst NoneEmpty (sym c.into_message-asked.ensures.value) c.into_message-asked.ensures.draft.none_empty; truth = rw c.into_message-asked.ensures.value b.truth; enough = c.requires };
+      sets = λ e. absurd (let over : phase.Asking ≡ phase.Ended = e in cc);
+    }
 
 pub returns : goal.returns
 returns c =
@@ -38,7 +42,7 @@ returns c =
         | inl whole ↦ inl (c.into_message-asked.ensures.value ∙ whole)
         | inr cut ↦ inr (omega (arith, cut, ap length c.in_ok-text.ensures.text, ap (λ (m : List Span). length (text_of m)) c.into_message-asked.ensures.value))
       ];
-      need = c.new-2.ensures.empty;
-      have = c.new-3.ensures.empty;
-      trusted = ap (map pair_of) c.new-4.ensures.items;
+      need = c.none.ensures;
+      have = c.none-2.ensures;
+      trusted = ap (map pair_of) c.new-2.ensures.items;
     }

@@ -1,24 +1,14 @@
-use Rattle.std.proofs.Common.{rules, arith, ◌≡◌, ◌∙◌, List, [], ◌∷◌, length, map, refl, sym, Result, Err}
+use Rattle.std.proofs.Common.{rules, ◌≡◌, ◌∙◌, [], length, sym, Result, Err}
 use Rattle.std.proofs.lemmas.Bool.{eqb-true}
 use Rattle.neg_codec.specs.declared.CodecFault.{CodecFault}
-use Rattle.neg_codec.specs.Ranges.{Span, span_of}
-use Rattle.neg_codec.specs.declared.Range.{Range}
 use Rattle.neg_initiator.specs.declared.fault.InitFault.{InitFault}
 use Rattle.neg_initiator.specs.declared.fault.InitFault.TheVariants as fault
 use Rattle.neg_initiator.specs.declared.initiator.Next.{Next}
 use Rattle.neg_initiator.specs.Findings.{findings_of}
 use Rattle.neg_initiator.specs.Made.{asking}
 use Rattle.neg_initiator.specs.declared.phase.Phase.TheVariants as phase
-use Rattle.neg_initiator.proofs.Taking.{taken_any, not_due}
+use Rattle.neg_initiator.proofs.Taking.{taken_any, not_due, spans_none, spans_gone}
 use Rattle.neg_initiator.proofs.initiator.Initiator.take.Goals as goal
-
-spans_none : (rs : List Range) (next : List Span) → map span_of rs ≡ next → length rs ≡ 0 → next ≡ []
-spans_none [] next is none = sym is
-spans_none (r ∷ rs) next is none = absurd (omega (arith, none))
-
-spans_gone : (rs : List Range) (next : List Span) → map span_of rs ≡ next → next ≡ [] → rs ≡ []
-spans_gone [] next is none = refl
-spans_gone (r ∷ rs) next is none = absurd (let e : map span_of (r ∷ rs) ≡ [] = is ∙ none in cc)
 
 bad_is : (e : InitFault) (f : CodecFault) → ◌≡◌ {A = Result Next InitFault} (Err e) (Err (fault.Bad f)) → e ≡ fault.Bad f
 bad_is e f h = cc

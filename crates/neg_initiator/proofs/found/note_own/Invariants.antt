@@ -1,7 +1,0 @@
-use Rattle.std.proofs.Common.{take}
-use Rattle.neg_initiator.specs.Notes.{Notes}
-use Rattle.neg_initiator.specs.Lookups.{looked_up}
-use Rattle.neg_initiator.proofs.found.note_own.Given as goal
-
-abbrev pub invariant-loop-id : goal.invariant-loop-id
-invariant-loop-id l = Notes (looked_up l.others) (take l.id-index l.own) l.initial.into.keys l.into.keys
