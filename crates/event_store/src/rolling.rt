@@ -11,7 +11,7 @@ use std::alloc::{AllocError, Global};
 use std::sync::Arc;
 
 // A roll gets so many items at once. Each one alone would copy a chunk, which the published roll shares.
-const BATCH: usize = 128;
+const BATCH: usize = 512;
 
 // Puts the event's item in its place.
 fn put_item(roll: &mut Roll, event: &Event) -> Result<(), AllocError>

@@ -25,7 +25,7 @@ impl IdMap {
     }
 
     /// The place of the id, if it has one. It passes about as many nodes as the number of ids has digits in base
-    /// 16, where ids are as good as random, and never more than 65.
+    /// 4, where ids are as good as random, and never more than 129.
     pub fn get(&self, id: &Id) -> Option<usize>
         ensures { result ≡ place_of self.now id.now }
     {
@@ -33,7 +33,7 @@ impl IdMap {
     }
 
     /// The map in which the id has this place, and each other id the place that it has here. It copies the
-    /// nodes that `get` passes, of at most 64 entries or 16 children each.
+    /// nodes that `get` passes, of at most 32 entries or 4 children each.
     pub fn insert(&self, alloc: Global, id: Id, place: usize) -> Result<IdMap, AllocError>
         ensures { IfOk result (λ m. SetsPlace id place self.now m) }
     {

@@ -14,7 +14,7 @@ use claim_board::{Board, Lane};
 use event_store::{Desk, Filled, InsertFault, Naming};
 use neg_codec::Id;
 use nostr_event::Event;
-use std::alloc::Global;
+use std::alloc::{AllocError, Global};
 use std::sync::{Arc, Mutex, Wait};
 
 /// How a worker ended.
@@ -56,6 +56,35 @@ fn place_of(given: &[Arc<Event>], id: &Id) -> Option<usize>
     None
 }
 
+/// Those of the given events that were asked for.
+fn asked_of(
+    alloc: Global,
+    ids: &[Id],
+    given: &[Arc<Event>],
+) -> Result<Vec<Arc<Event>>, AllocError> {
+    let mut asked = Vec::with_capacity(alloc, ids.len())?;
+    for id in ids {
+        let Some(k) = place_of(given, id) else {
+            continue;
+        };
+        asked.push(Arc::try_clone(&given[k])?)?;
+    }
+    Ok(asked)
+}
+
+/// Puts the events that were asked for into the store at once, where the inserts that follow find them.
+fn place_together<R: Wait, J: Naming, D: Wait + Drop>(
+    rt: &R,
+    alloc: Global,
+    desk: &Mutex<Desk<J, D>>,
+    ids: &[Id],
+    given: &[Arc<Event>],
+) -> Result<(), AllocError> {
+    let asked = asked_of(alloc, ids, given)?;
+    desk.lock(rt).insert_all(rt, &asked)?;
+    Ok(())
+}
+
 /// Ends a cell that the lane holds: as done once its event is placed, or as missed where its source gave none.
 fn end_cell<R: Wait, J: Naming, D: Wait + Drop>(
     rt: &R,
@@ -91,6 +120,7 @@ fn end_cell<R: Wait, J: Naming, D: Wait + Drop>(
 /// Ends the cells of a batch. Where the desk refuses an event, the cells from its on are released.
 fn settle<R: Wait, J: Naming, D: Wait + Drop>(
     rt: &R,
+    alloc: Global,
     board: &Board,
     desk: &Mutex<Desk<J, D>>,
     lane: &mut Lane,
@@ -104,6 +134,8 @@ fn settle<R: Wait, J: Naming, D: Wait + Drop>(
     ensures batched { OnOk result (Batched board.now.cells batch.now.next [] [] lane.new.own) }
     ensures held { lane.new.own.held ≡ [] }
 {
+    // Without memory for it each insert below tells for itself.
+    let _ = place_together(rt, alloc, desk, batch.ids.as_slice(), given);
     for k in 0..batch.cells.len() {
         match end_cell(rt, board, desk, lane, batch.cells[k], given) {
             Ok(()) => {}
@@ -119,6 +151,7 @@ fn settle<R: Wait, J: Naming, D: Wait + Drop>(
 /// Asks the source for the ids of a batch, and ends its cells. A worker that stops holds nothing.
 fn fetch_batch<R: Wait, J: Naming, D: Wait + Drop, S: Source>(
     rt: &R,
+    alloc: Global,
     board: &Board,
     desk: &Mutex<Desk<J, D>>,
     lane: &mut Lane,
@@ -144,7 +177,7 @@ fn fetch_batch<R: Wait, J: Naming, D: Wait + Drop, S: Source>(
         return Ok(());
     }
     match source.fetch(&batch.ids) {
-        Ok(given) => match settle(rt, board, desk, lane, batch, &given) {
+        Ok(given) => match settle(rt, alloc, board, desk, lane, batch, &given) {
             Ok(()) => Ok(()),
             Err(fault) => Err(Stop::from(fault)),
         },
@@ -175,7 +208,7 @@ fn work_lane<R: Wait, J: Naming, D: Wait + Drop, S: Source>(
         let Ok(batch) = fill(alloc, board, lane, next) else {
             return Stop::Memory;
         };
-        match fetch_batch(rt, board, desk, lane, source, &batch) {
+        match fetch_batch(rt, alloc, board, desk, lane, source, &batch) {
             Ok(()) => next = batch.next,
             Err(stop) => return stop,
         }
