@@ -16,10 +16,13 @@ use std::marker::Model;
 use std::sync::Arc;
 
 /// Events are put in this many at a time.
-pub const BATCH: usize = 512;
+pub const BATCH: usize = 32;
 
-// So many runs of one size become one.
+// So many runs of about one size become one.
 const FAN: usize = 16;
+
+// Of runs of about one size none has more than so many times the postings of another.
+const SPREAD: usize = 4;
 
 /// Where the first events of a list stand, by what filters ask for. It is never changed.
 #[derive(Drop)]
@@ -40,15 +43,21 @@ impl Model for Index {
     ghost invariant = { λ x. x.count ≤ 1048576 };
 }
 
-// How many of the runs become one with the next.
-fn merged(batches: usize) -> usize {
-    if batches % (FAN * FAN) == 0 {
-        2 * (FAN - 1)
-    } else if batches % FAN == 0 {
-        FAN - 1
-    } else {
-        0
+// How many of the runs stay where one of so many postings comes behind them: it becomes one with the last of them, as long as
+// there are enough of about its size.
+fn kept(runs: &[Arc<Run>], postings: usize) -> usize
+    ensures { result ≤ length runs.now }
+{
+    let mut kept = runs.len();
+    let mut size = postings;
+    for _layer in 0..8usize {
+        if kept < FAN - 1 || runs[kept - (FAN - 1)].len() / SPREAD > size {
+            return kept;
+        }
+        kept -= FAN - 1;
+        size = size.saturating_mul(FAN);
     }
+    kept
 }
 
 // Puts the places of the mark's postings behind the others.
@@ -85,17 +94,17 @@ impl Index {
         self.count
     }
 
-    /// The index of more events, those that stand behind the covered ones. With `BATCH` at a time there are at most 45 runs, and
-    /// each posting is sorted three times.
+    /// The index of more events, those that stand behind the covered ones. With `BATCH` at a time there are at most 60 runs, and
+    /// each posting is sorted four times.
     pub fn grown(&self, alloc: Global, events: &[Arc<Event>]) -> Result<Index, AllocError>
         requires { self.now.count + length events.now ≤ 2 ^ 20 }
         ensures { (covered : List EventView) → Covers covered self.now → IfOk result (λ x. Covers (covered ++ map arc_value events.now) x) }
     {
         let postings = postings_of(alloc, events, self.count)?;
-        let batches = self.count / BATCH + 1;
-        let kept = self.runs.len().saturating_sub(merged(batches));
+        let runs = self.runs.as_slice();
+        let kept = kept(runs, postings.len());
         Ok(Index {
-            runs: with_run(alloc, self.runs.as_slice(), kept, postings)?,
+            runs: with_run(alloc, runs, kept, postings)?,
             count: self.count + events.len(),
         })
     }

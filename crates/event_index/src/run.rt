@@ -41,6 +41,11 @@ impl Run {
         self.postings.as_slice()
     }
 
+    /// How many postings there are.
+    pub fn len(&self) -> usize {
+        self.postings.len()
+    }
+
     // From where on, and up to where, the postings of the mark stand.
     fn stretch(&self, mark: u64) -> (usize, usize)
         ensures within { result.1 ≤ length self.now }

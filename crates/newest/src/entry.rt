@@ -1,7 +1,7 @@
 //! Events with their places.
 ghost use Rattle.std.specs.Prelude.{◌≡◌, IfOk};
 ghost use Rattle.nostr_filter.specs.Matching.{matches_of};
-ghost use Rattle.newest.specs.Newest.{rank};
+ghost use Rattle.newest.specs.Newest.{rank, comes_before};
 
 use crate::noted::Noted;
 use nostr_event::Event;
@@ -47,6 +47,13 @@ impl Entry {
         ensures { result ≡ rank self.now }
     {
         self.rank
+    }
+
+    /// Whether it comes before another.
+    pub fn comes_before(&self, other: &Entry) -> bool
+        ensures { result ≡ comes_before (rank self.now) (rank other.now) }
+    {
+        self.rank.cmp(&other.rank).is_lt()
     }
 
     /// The same, with the event shared.

@@ -14,4 +14,4 @@ pub use fault::WireFault;
 pub use lists::{Bytes, Filters, Sub};
 pub use messages::{FromClient, FromRelay};
 pub use reading::{read_client, read_relay};
-pub use writing::{write_client, write_relay};
+pub use writing::{write_client, write_relay, write_relay_in};

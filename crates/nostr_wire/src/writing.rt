@@ -130,13 +130,16 @@ pub fn write_client(alloc: Global, message: &FromClient) -> Result<String, Alloc
     Ok(text)
 }
 
-// The text of an event for a subscription: the text that the event keeps, behind the names.
-fn event_text(alloc: Global, name: &Sub, event: &Arc<Event>) -> Result<String, AllocError>
+// The text of an event for a subscription: the text that the event keeps, behind the names. It is made where room is.
+fn event_text(room: Vec<u8>, name: &Sub, event: &Arc<Event>) -> Result<String, AllocError>
     ensures text { IfOk result (λ s. string_bytes s ≡ text_of (event_form name.now (arc_value event.now))) }
     ensures reads_back { IfOk result (λ s. Reads relay_table (string_bytes s) (event_form name.now (arc_value event.now))) }
 {
     let text = event.text();
-    let mut names = Writer::new(Vec::with_capacity(alloc, text.len() + MOST_NAMES)?);
+    let mut room = room;
+    room.clear();
+    room.reserve(text.len() + MOST_NAMES)?;
+    let mut names = Writer::new(room);
     names.begin_array()?;
     names.string("EVENT")?;
     names.string(name.as_str())?;
@@ -164,8 +167,20 @@ pub fn write_relay(alloc: Global, message: &FromRelay) -> Result<String, AllocEr
     ensures text { IfOk result (λ s. string_bytes s ≡ text_of (relay_form message.now)) }
     ensures reads_back { IfOk result (λ s. Reads relay_table (string_bytes s) (relay_form message.now)) }
 {
+    write_relay_in(alloc, Vec::new(alloc), message)
+}
+
+/// The same. An event's text is made in the memory of `room`, of which what stands there is lost.
+pub fn write_relay_in(
+    alloc: Global,
+    room: Vec<u8>,
+    message: &FromRelay,
+) -> Result<String, AllocError>
+    ensures text { IfOk result (λ s. string_bytes s ≡ text_of (relay_form message.now)) }
+    ensures reads_back { IfOk result (λ s. Reads relay_table (string_bytes s) (relay_form message.now)) }
+{
     match message {
-        FromRelay::Event { sub, event } => event_text(alloc, sub, event),
+        FromRelay::Event { sub, event } => event_text(room, sub, event),
         other => value_text(alloc, other),
     }
 }

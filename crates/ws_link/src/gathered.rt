@@ -7,8 +7,11 @@ use std::io::{ErrorKind, Read, Write};
 /// Once so many bytes wait, they leave.
 const MOST_WAITING: usize = 131_072;
 
-/// A stream whose writes wait until it is read, until many bytes wait, or for `send`. A flush sends nothing. So the answers to
-/// messages that came together leave together. Once a call of `send` has failed, the stream is of no use.
+/// So many bytes that come at once don't wait.
+const MANY: usize = 32_768;
+
+/// A stream whose writes wait until it is read, until many bytes wait or come at once, or for `send`. A flush sends nothing. So
+/// the short answers to messages that came together leave together. Once a call of `send` has failed, the stream is of no use.
 #[derive(Drop)]
 pub struct Gathered<S> {
     stream: S,
@@ -30,12 +33,17 @@ impl<S: Write> Gathered<S> {
         if self.waiting.is_empty() {
             return Ok(());
         }
-        let sent = self.stream.write_all(self.waiting.as_slice());
+        let sent = send_all(&mut self.stream, self.waiting.as_slice());
         self.waiting.clear();
-        match sent {
-            Ok(()) => self.stream.flush(),
-            Err(error) => Err(broken(error)),
-        }
+        sent
+    }
+}
+
+/// Sends the bytes. No error says that the stream would block.
+fn send_all<S: Write>(stream: &mut S, bytes: &[u8]) -> io::Result<()> {
+    match stream.write_all(bytes) {
+        Ok(()) => stream.flush(),
+        Err(error) => Err(broken(error)),
     }
 }
 
@@ -56,6 +64,11 @@ impl<S: Read + Write> Read for Gathered<S> {
 
 impl<S: Write> Write for Gathered<S> {
     fn write(&mut self, buf: &[u8]) -> io::Result<usize> {
+        if buf.len() >= MANY {
+            self.send()?;
+            send_all(&mut self.stream, buf)?;
+            return Ok(buf.len());
+        }
         self.waiting.extend_from_slice(buf)?;
         if self.waiting.len() >= MOST_WAITING {
             self.send()?;

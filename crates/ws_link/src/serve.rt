@@ -8,14 +8,14 @@ use crate::fault::LinkFault;
 use crate::gathered::Gathered;
 use event_store::{Desk, Naming, Reader};
 use nostr_event::{Event, Text};
-use nostr_wire::{FromRelay, write_relay};
+use nostr_wire::{FromRelay, write_relay_in};
 use relay_core::{Conn, RelayLimits, Step};
 use std::alloc::Global;
 use std::io::{ErrorKind, Read, Write};
 use std::sync::{Arc, Mutex, Wait};
 use tungstenite::handshake::server::start;
 use tungstenite::{
-    Error, HandshakeError, MaskKeys, Message, NoCallback, NoMask, Utf8Bytes, WebSocket,
+    Bytes, Error, HandshakeError, MaskKeys, Message, NoCallback, NoMask, Utf8Bytes, WebSocket,
 };
 
 /// How often a connection is read.
@@ -188,12 +188,12 @@ fn heed<W: Wait, S: Read + Write + Drop, K: MaskKeys + Drop, J: Naming, D: Wait 
     match hear(socket)? {
         Heard::Text(text) => {
             let out = answered(rt, conn, reader, desk, text.as_str())?;
-            say_all(alloc, socket, &out)?;
+            say_all(alloc, socket, out)?;
             Ok(Went::Text)
         }
         Heard::Binary => {
             let text = Text::new(String::from_str(alloc, "invalid: bad message")?);
-            say(alloc, socket, &FromRelay::Notice { text })?;
+            say(alloc, socket, Vec::new(alloc), &FromRelay::Notice { text })?;
             Ok(Went::Other)
         }
         Heard::Nothing => Ok(Went::Other),
@@ -212,7 +212,7 @@ fn catch_up<S: Read + Write + Drop, K: MaskKeys + Drop, J: Naming>(
     ensures reader { IsPrefix reader.old reader.new }
 {
     let due = conn.catch_up(reader)?;
-    say_all(alloc, socket, &due)
+    say_all(alloc, socket, due)
 }
 
 /// What is sent for a text, whose event is put into the store if it is one.
@@ -255,29 +255,45 @@ fn stored<W: Wait, J: Naming, D: Wait + Drop>(
     Ok(conn.stored(reader, id, placed.as_ref())?)
 }
 
-/// Puts the messages behind what waits to be sent.
+/// Puts the messages behind what waits to be sent. Each is dropped once it is written, and its memory is at hand for the next.
 fn say_all<S: Read + Write + Drop, K: MaskKeys + Drop>(
     alloc: Global,
     socket: &mut WebSocket<S, K>,
-    messages: &[FromRelay],
+    messages: Vec<FromRelay>,
 ) -> Result<(), LinkFault>
     ensures { IfErr result IsOfStream }
 {
+    let mut room = Vec::new(alloc);
     for message in messages {
-        say(alloc, socket, message)?;
+        room = say(alloc, socket, room, &message)?;
     }
     Ok(())
 }
 
-/// Puts the message behind what waits to be sent.
+/// Puts the message behind what waits to be sent. Its text is made where room is, which is given back.
 fn say<S: Read + Write + Drop, K: MaskKeys + Drop>(
     alloc: Global,
     socket: &mut WebSocket<S, K>,
+    room: Vec<u8>,
     message: &FromRelay,
-) -> Result<(), LinkFault>
+) -> Result<Vec<u8>, LinkFault>
     ensures { IfErr result IsOfStream }
 {
-    let text = Utf8Bytes::from_string(write_relay(alloc, message)?)?;
+    let text = Utf8Bytes::from_string(write_relay_in(alloc, room, message)?)?;
+    let bytes = text.as_bytes().clone()?;
     socket.write(Message::Text(text))?;
-    Ok(())
+    Ok(room_of(alloc, bytes))
+}
+
+/// The memory of a text that was written.
+fn room_of(alloc: Global, bytes: Bytes) -> Vec<u8> {
+    let Some(mut bytes) = bytes.reclaim() else {
+        return Vec::new(alloc);
+    };
+    // Bytes that are left would be copied.
+    bytes.clear();
+    match bytes.into_vec() {
+        Ok(room) => room,
+        Err(_) => Vec::new(alloc),
+    }
 }

@@ -27,7 +27,7 @@ tokens_are c =
 
 nothing_before : (c : In_ok-push_str-3) → c.string-2.new.self.before ≡ []
 nothing_before c =
-    c.in_ok-string-2.ensures.room.0 ∙ c.in_ok-string.ensures.room.0 ∙ c.in_ok-begin_array.ensures.room.0 ∙ c.new-names.ensures.before ∙ c.in_ok-with_capacity.ensures.items
+    c.in_ok-string-2.ensures.room.0 ∙ c.in_ok-string.ensures.room.0 ∙ c.in_ok-begin_array.ensures.room.0 ∙ c.new-names.ensures.before ∙ c.in_ok-reserve.ensures.items ∙ c.clear.ensures.items
 
 names_are : (c : In_ok-push_str-3) → string_bytes c.in-Ok.out ≡ print (names c.args.name.now)
 names_are c = ap (λ v. v.items) c.in-Ok.ensures.ok ∙ c.into_inner.ensures.items ∙ ap₂ (λ b ts. b ++ print ts) (nothing_before c) (tokens_are c)
