@@ -26,8 +26,8 @@ const MOST_ROUNDS: u32 = 100;
 
 /// Does the server's handshake, and serves the client (NIP-01, NIP-77) until it closes, or until the connection has been read
 /// 1,000,000 times: then it closes the connection itself. It gives the number of texts served. After each message, and where a
-/// read answers `WouldBlock` or `TimedOut`, it sends the client what was published for it. What answers messages that came
-/// together is sent together, before more is read. The desk is locked for one insert at a time.
+/// read answers `WouldBlock` or `TimedOut`, it sends the client what was published for it. Short answers to messages that
+/// came together are sent together, before more is read. The desk is locked for one insert at a time.
 pub fn serve_conn<W: Wait, S: Read + Write + Drop, J: Naming, D: Wait + Drop>(
     rt: &W,
     alloc: Global,
