@@ -3,19 +3,20 @@ ghost use Rattle.std.specs.Prelude.{◌≡◌, IfOk};
 ghost use Rattle.nostr_filter.specs.Matching.{matches_of};
 ghost use Rattle.newest.specs.Newest.{rank, comes_before};
 
-use crate::noted::Noted;
 use nostr_event::Event;
 use nostr_filter::{Filter, Rank, rank_at};
 use std::alloc::AllocError;
 use std::marker::Model;
 use std::sync::Arc;
 
-/// A shared event with its place among all events, and beside them what orders it, so that a search reads no event. Contracts
-/// see it as the place with the event.
+/// A shared event with its place among all events, and beside them what orders it and what most filters ask for, so that a
+/// search reads no event but for its tags. Contracts see it as the place with the event.
 #[derive(Drop)]
 pub struct Entry {
     rank: Rank,
-    event: Noted,
+    author: [u8; 32],
+    kind: u16,
+    event: Arc<Event>,
 }
 
 impl Model for Entry {
@@ -28,7 +29,8 @@ impl Model for Entry {
 
     ghost view = { λ e. (e.rank.place, arc_value e.event) };
 
-    ghost invariant = { λ e. e.rank ≡ rank_of e.rank.place (arc_value e.event) };
+    ghost invariant = { λ e. (e.rank ≡ rank_of e.rank.place (arc_value e.event))
+        × (e.author ≡ (arc_value e.event).draft.pubkey) × (e.kind ≡ (arc_value e.event).draft.kind) };
 }
 
 impl Entry {
@@ -36,9 +38,14 @@ impl Entry {
         ensures { result ≡ (place, event.value) }
     {
         let rank = rank_at(place, &event);
+        let draft = event.draft();
+        let author = draft.pubkey;
+        let kind = draft.kind;
         Entry {
             rank,
-            event: Noted::new(event),
+            author,
+            kind,
+            event,
         }
     }
 
@@ -60,17 +67,21 @@ impl Entry {
     pub fn share(&self) -> Result<Entry, AllocError>
         ensures { IfOk result (λ e. e ≡ self.now) }
     {
-        let event = self.event.share()?;
+        let event = Arc::try_clone(&self.event)?;
         Ok(Entry {
             rank: self.rank,
+            author: self.author,
+            kind: self.kind,
             event,
         })
     }
 
-    /// Whether the filter matches the event.
+    /// Whether the filter matches the event. The event is read only where the filter asks for tags.
     pub fn matches(&self, filter: &Filter) -> bool
         ensures { result ≡ matches_of filter.now self.now.1 }
     {
-        self.event.matches(filter)
+        let Rank { time, id, .. } = self.rank;
+        filter.meets(&id, &self.author, self.kind, time.0)
+            && (filter.tags.as_slice().is_empty() || filter.matches(&self.event))
     }
 }

@@ -4,7 +4,6 @@
 mod choice;
 mod entry;
 mod heads;
-mod noted;
 mod order;
 mod rests;
 mod run;

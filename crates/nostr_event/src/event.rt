@@ -16,10 +16,11 @@ use std::marker::Model;
 /// isn't checked. The text of its JSON is kept beside it, since it is sent more often than it is read.
 #[derive(Debug, Drop)]
 pub struct Event {
+    // First, so that what leads to it lies beside an `Arc`'s counts, which sending it reads too.
+    text: String,
     id: Id,
     draft: Draft,
     sig: [u8; 64],
-    text: String,
 }
 
 impl Model for Event {

@@ -1,9 +1,11 @@
 // Filters, and what they match.
-ghost use Rattle.std.specs.Prelude.{◌≡◌, [], ℕ};
+ghost use Rattle.std.specs.Prelude.{◌≡◌, ◌&&◌, [], ℕ};
 ghost use Rattle.nostr_filter.specs.Matching.{tag_meets, tags_meet, within_of, matches_of};
 ghost use Rattle.std.specs.List.{list_any, list_all};
+ghost use Rattle.nostr_event.specs.EventView.{EventView};
 
 use crate::conditions::{Bytes32List, Kinds, TagCondition, TagConditions};
+use neg_codec::Id;
 use nostr_event::{Event, Tag};
 
 /// What an event has to meet (NIP-01). An absent condition is met by each event, an empty list by none.
@@ -38,29 +40,33 @@ impl Filter {
         }
     }
 
-    /// Whether the event meets each condition. The limit has no part in it.
-    pub fn matches(&self, event: &Event) -> bool
-        ensures { result ≡ matches_of self.now event.now }
+    /// Whether an event with this id, author, kind and time meets each condition but those on tags. The limit has no part in it.
+    pub fn meets(&self, id: &Id, author: &[u8; 32], kind: u16, time: u64) -> bool
+        ensures { (e : EventView) → e.id ≡ id.now → e.draft.pubkey ≡ author.now → e.draft.kind ≡ kind → e.draft.created_at ≡ time
+            → matches_of self.now e ≡ result && list_all (tags_meet e.draft.tags) self.now.tags }
     {
-        let draft = event.draft();
-        let id = event.id();
         let named = match &self.ids {
             Some(ids) => ids.has(&id.0),
             None => true,
         };
         let by_author = match &self.authors {
-            Some(authors) => authors.has(&draft.pubkey),
+            Some(authors) => authors.has(author),
             None => true,
         };
         let of_kind = match &self.kinds {
-            Some(kinds) => kinds.has(draft.kind),
+            Some(kinds) => kinds.has(kind),
             None => true,
         };
-        named
-            && by_author
-            && of_kind
+        named && by_author && of_kind && self.is_within(time)
+    }
+
+    /// Whether the event meets each condition. The limit has no part in it.
+    pub fn matches(&self, event: &Event) -> bool
+        ensures value { result ≡ matches_of self.now event.now }
+    {
+        let draft = event.draft();
+        self.meets(&event.id(), &draft.pubkey, draft.kind, draft.created_at)
             && tags_met(self.tags.as_slice(), draft.tags.as_slice())
-            && self.is_within(draft.created_at)
     }
 
     fn is_within(&self, time: u64) -> bool

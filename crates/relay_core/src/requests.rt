@@ -21,8 +21,26 @@ use crate::step::Step;
 use crate::subs::Subscription;
 use crate::talk::Talk;
 use event_store::{EventList, Naming, Reader};
+use nostr_event::Event;
 use nostr_wire::{Filters, FromRelay, Sub};
 use std::alloc::{AllocError, Global};
+
+// Whether the event's text is there, which is to read where it begins.
+fn has_text(event: &Event) -> bool {
+    event.text().as_bytes().first() == Some(&b'{')
+}
+
+// How many of the places have an event. Each text is read where it begins before the first event is shared: these reads don't wait
+// for one another, so that the memory of events that lie far apart is fetched side by side, and not event by event.
+fn texts_at(events: &EventList, places: &[usize]) -> usize {
+    let mut texts: usize = 0;
+    for place in places {
+        if *place < events.len() && has_text(events.get(*place)) {
+            texts = texts.saturating_add(1);
+        }
+    }
+    texts
+}
 
 // The events at the places, in their order, and that these were all.
 fn stored_events(
@@ -33,7 +51,8 @@ fn stored_events(
 ) -> Result<Vec<FromRelay>, AllocError>
     ensures { IfOk result (λ v. map relay_form v.items ≡ all_stored name.now events.now places.now) }
 {
-    let mut out = Vec::with_capacity(alloc, places.len())?;
+    let texts = texts_at(events, places);
+    let mut out = Vec::with_capacity(alloc, texts.saturating_add(1))?;
     for place in places {
         put_event(&mut out, alloc, name, events, *place)?;
     }
