@@ -10,7 +10,7 @@ use Rattle.nostr_wire.specs.Forms.{Form}
 use Rattle.relay_core.specs.declared.limits.RelayLimits.{RelayLimits}
 use Rattle.relay_core.specs.declared.subs.Subscription.{Subscription}
 use Rattle.relay_core.specs.Messages.{event_to, all_sent, closed}
-use Rattle.relay_core.specs.Kept.{Kept, kept_of, other_subs, without_sub, put}
+use Rattle.relay_core.specs.Kept.{Kept, kept_of, without_sub, put}
 use Rattle.relay_core.specs.Turns.{Turn, says, says_one}
 
 abbrev pub subscription : List ℕ → List Filter → ℕ → Subscription

@@ -1,6 +1,5 @@
 -- What a client's text brings about.
-use Rattle.std.specs.Prelude.{◌≡◌, ◌≢◌, ℕ, List, [], length, nat_lt, MatchBool, ◌⊎◌, Option, Some, None, codes, false}
-use Rattle.neg_codec.specs.declared.Id.{Id}
+use Rattle.std.specs.Prelude.{◌≡◌, ◌≢◌, ℕ, List, [], length, nat_lt, MatchBool, ◌⊎◌, Some, None, codes, false}
 use Rattle.nostr_event.specs.EventView.{EventView}
 use Rattle.nostr_wire.specs.declared.fault.WireFault.{WireFault}
 use Rattle.nostr_wire.specs.declared.fault.WireFault.TheVariants as wire
