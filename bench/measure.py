@@ -1,9 +1,20 @@
 """What the measurements share: one run of a program, and what it cost."""
 import os
 import subprocess
+import sys
 import time
 
 ROOT = os.path.dirname(os.path.dirname(os.path.abspath(__file__)))
+
+# Begins a program and waits for it. What a process held when it began another counts for that one's peak, so a script that
+# holds much begins this one first.
+WAITING = """
+import os, sys
+child = os.posix_spawn(sys.argv[1], sys.argv[1:], os.environ)
+_, status, usage = os.wait4(child, 0)
+ended = os.waitstatus_to_exitcode(status)
+sys.stderr.write("\\n%d %f %d" % (ended, usage.ru_utime + usage.ru_stime, usage.ru_maxrss))
+"""
 
 
 class Refused(Exception):
@@ -24,6 +35,17 @@ def ended(child, words, start, errors=b""):
         raise Refused("%s: status %d %s" % (
             os.path.basename(words[0]), child.returncode, errors.decode(errors="replace").strip()))
     return wall, usage.ru_utime + usage.ru_stime, usage.ru_maxrss
+
+
+def apart(words):
+    """What a program writes as its standard output, its processor time, and its peak memory in KiB, from a script that
+    holds much."""
+    run = subprocess.run([sys.executable, "-S", "-c", WAITING] + words, stdout=subprocess.PIPE, stderr=subprocess.PIPE)
+    errors, _, last = run.stderr.decode(errors="replace").rpartition("\n")
+    status, seconds, peak = last.split()
+    if status != "0":
+        raise Refused("%s: status %s %s" % (os.path.basename(words[0]), status, errors.strip()))
+    return run.stdout.decode(), float(seconds), int(peak)
 
 
 def once(words, source, target):

@@ -25,7 +25,7 @@ import time
 
 from inputs import events as write_events
 from inputs import made
-from measure import program_of
+from measure import apart, program_of
 from wire import Client
 
 TICKS = os.sysconf("SC_CLK_TCK")
@@ -193,12 +193,7 @@ def row_of_syncing(program, folder, lines, relays, share, partner, cut=None):
     with open(mine, "w", encoding="utf-8") as text:
         text.writelines(own)
     conf = settings(os.path.join(folder, "sync.toml"), events=mine, relays=["127.0.0.1:%d" % port for port in ports])
-    child = subprocess.Popen([program, "sync", conf], stdout=subprocess.PIPE)
-    said = child.stdout.read().decode()
-    _, status, usage = os.wait4(child.pid, 0)
-    child.returncode = os.waitstatus_to_exitcode(status)
-    if child.returncode != 0:
-        raise SystemExit("sync ended with status %d: %s" % (child.returncode, said[-300:]))
+    said, seconds, peak = apart([program, "sync", conf])
     for relay in serving:
         relay.child.kill()
         relay.child.wait()
@@ -206,7 +201,7 @@ def row_of_syncing(program, folder, lines, relays, share, partner, cut=None):
     if cut is not None:
         # How far the relay comes before it closes isn't the same each time.
         told = {"least": told["least"], "planned": int(told["given"]) + int(told["left"])}
-    return (usage.ru_utime + usage.ru_stime, usage.ru_maxrss / 1024), str(told)
+    return (seconds, peak / 1024), str(told)
 
 
 def time_of(line):
