@@ -55,24 +55,33 @@ pub fn counts_of(cells: &[Cell]) -> Counts {
 /// A source over a connection.
 type Fetcher<'a, R, P> = ToldSource<'a, WsSource<TcpStream, RandomKeys<&'a R>>, R, P>;
 
-/// Places for sources at the relays whose sessions finished, for each as many as there are workers.
+/// The relays whose sessions finished. What these found is let go.
+pub fn finished_of(alloc: Global, ends: Vec<End>) -> Result<Vec<u16>, AllocError> {
+    let mut finished = Vec::new(alloc);
+    for relay in 0..ends.len() {
+        if relay < 256 && matches!(&ends[relay], End::Finished(_)) {
+            finished.push(relay as u16)?;
+        }
+    }
+    Ok(finished)
+}
+
+/// Places for sources at the relays, for each as many as there are workers.
 fn places_of<S: Drop, K: Drop>(
     alloc: Global,
     workers: u64,
-    ends: &[End],
+    relays: &[u16],
 ) -> Result<Vec<SourcePlace<S, K>>, AllocError> {
     let mut places = Vec::new(alloc);
-    for relay in 0..ends.len() {
-        if relay < 256 && matches!(&ends[relay], End::Finished(_)) {
-            for _worker in 0..workers {
-                places.push(SourcePlace::new(relay as u16))?;
-            }
+    for relay in relays {
+        for _worker in 0..workers {
+            places.push(SourcePlace::new(*relay))?;
         }
     }
     Ok(places)
 }
 
-/// Sources at the relays whose sessions finished, which are connected to side by side, and the relay of each.
+/// Sources at the relays, which are connected to side by side, and the relay of each.
 pub fn sources_of<
     'a,
     R: Net<Listener = TcpListener, Stream = TcpStream> + RandomSource + Threads + Wait + Sync,
@@ -81,12 +90,12 @@ pub fn sources_of<
     rt: &'a R,
     alloc: Global,
     settings: &Settings,
-    ends: &[End],
+    finished: &[u16],
     progress: &'a Progress<P>,
 ) -> Result<(Vec<Fetcher<'a, R, P>>, Vec<u16>), Refusal>
     ensures { IfOk result (λ r. All (λ s. s.source.faults < 2 ^ 64 - 1) r.0.items) }
 {
-    let mut places = places_of(alloc, settings.workers, ends)?;
+    let mut places = places_of(alloc, settings.workers, finished)?;
     connect_all(rt, alloc, settings, places.as_mut_slice());
     let mut sources = Vec::new(alloc);
     let mut relays = Vec::new(alloc);

@@ -6,7 +6,7 @@ ghost use Rattle.fetch_plan.specs.Plan.{Planned};
 ghost use Rattle.sync_run.specs.Lines.{ends_text, plan_text, round_text, counts_text};
 ghost use Rattle.sync_run.specs.Printed.{IsSynced, IsSyncDone, Prints, PrintsOfSome, rounds_text};
 
-use crate::fetching::{Counts, counts_of, fetched, sources_of};
+use crate::fetching::{Counts, counts_of, fetched, finished_of, sources_of};
 use crate::links::{finish_all, linked_all};
 use crate::progress::Progress;
 use crate::text::{put_counts, put_ends, put_plan, put_round};
@@ -14,7 +14,7 @@ use claim_board::Cell;
 use event_file::NewFile;
 use event_store::{Blank, Desk, Naming, Reader, open_store};
 use fetch_plan::Plan;
-use mirror_core::{End, SyncFault, Synced, grown, next_plan, sync_plan};
+use mirror_core::{SyncFault, Synced, grown, next_plan, sync_plan};
 use mirror_settings::{Settings, SettingsKey, read_settings};
 use neg_session::SessionLimits;
 use offer_table::Bases;
@@ -82,7 +82,7 @@ fn synced<
     }
 }
 
-/// Fetches what a plan gives from the relays whose sessions finished, connected anew, and tells what became of each of its ids.
+/// Fetches what a plan gives from these relays, connected anew, and tells what became of each of its ids.
 fn fetch_round<
     J: Naming + Send + Sync,
     D: Wait + Drop + Send + Sync,
@@ -97,7 +97,7 @@ fn fetch_round<
     rt: &R,
     alloc: Global,
     settings: &Settings,
-    ends: &[End],
+    relays: &[u16],
     plan: &Plan,
     desk: &Mutex<Desk<J, D>>,
     progress: &Progress<P>,
@@ -105,7 +105,7 @@ fn fetch_round<
     ensures { IfOk result (λ v. length v.items ≡ length plan.now.gives) }
 {
     progress.tell(rt, plan.len(), "ids are planned");
-    let (mut sources, relays) = sources_of(rt, alloc, settings, ends, progress)?;
+    let (mut sources, relays) = sources_of(rt, alloc, settings, relays, progress)?;
     progress.begin(rt, plan.len());
     progress.tell(rt, sources.len(), "connections fetch");
     let cells = fetched(
@@ -181,10 +181,19 @@ fn fetch_rounds<
         mut table,
         mut plan,
     } = done;
+    let relays = finished_of(alloc, ends)?;
     let mut bases = bases_of(settings.bases.as_slice());
     let mut all = Counts::default();
     for round in 1..settings.rounds {
-        let cells = fetch_round(rt, alloc, settings, ends.as_slice(), &plan, desk, progress)?;
+        let cells = fetch_round(
+            rt,
+            alloc,
+            settings,
+            relays.as_slice(),
+            &plan,
+            desk,
+            progress,
+        )?;
         all = all.with(&counts_of(cells.as_slice()));
         bases = grown(&bases, &plan, cells.as_slice());
         plan = next_plan(alloc, &mut table, &plan, cells.as_slice(), &bases)?;
@@ -193,7 +202,15 @@ fn fetch_rounds<
         }
         say_round(alloc, writer, round.saturating_add(1), &plan)?;
     }
-    let cells = fetch_round(rt, alloc, settings, ends.as_slice(), &plan, desk, progress)?;
+    let cells = fetch_round(
+        rt,
+        alloc,
+        settings,
+        relays.as_slice(),
+        &plan,
+        desk,
+        progress,
+    )?;
     Ok(all.with(&counts_of(cells.as_slice())))
 }
 
