@@ -18,9 +18,13 @@ use tungstenite::{
 /// answered has to be read first.
 const MOST_BYTES: usize = 4_194_304;
 
+/// How many bytes one read of a stream asks for. Each connection keeps twice as many.
+const READ_BYTES: usize = 16_384;
+
 /// Longer messages are refused before they are read.
 pub fn config() -> WebSocketConfig {
     WebSocketConfig::default()
+        .read_buffer_size(READ_BYTES)
         .max_message_size(Some(MOST_BYTES))
         .max_frame_size(Some(MOST_BYTES))
 }
