@@ -23,7 +23,7 @@ import subprocess
 import sys
 import tempfile
 
-from told import ROOT, event, program, settings, written
+from told import ROOT, event, port_of, program, settings, written
 from wire import Client, Gone
 
 # How many runs there are of `sync` and of `serve` at most.
@@ -113,12 +113,6 @@ def ids_in(path):
         lines = text.readlines()
     need(all(line.endswith("\n") for line in lines), "a line that doesn't end", path)
     return [json.loads(line)["id"] for line in lines]
-
-
-def port_of(relay):
-    """The port that a relay tells, if it comes to listen."""
-    line = relay.stdout.readline()
-    return int(line.rsplit(":", 1)[1]) if line else None
 
 
 def start_relay(folder, name, events, env=None, **values):

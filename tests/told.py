@@ -66,10 +66,22 @@ def begin(path, job, conf, *words):
     return subprocess.Popen([path, job, conf, *words], stdout=subprocess.PIPE, stderr=subprocess.PIPE, text=True)
 
 
+def port_of(child):
+    """The port that a job tells in its first line, if it comes to listen. The line is read byte by byte: what else a reader
+    takes with it, `communicate` doesn't give."""
+    line = b""
+    while not line.endswith(b"\n"):
+        byte = os.read(child.stdout.fileno(), 1)
+        if not byte:
+            return None
+        line += byte
+    return int(line.rsplit(b":", 1)[1])
+
+
 def start(path, job, conf, *words):
     """Starts a job, which listens, and gives its process and its port."""
     child = begin(path, job, conf, *words)
-    return child, int(child.stdout.readline().rsplit(":", 1)[1])
+    return child, port_of(child)
 
 
 def done(path, job, conf):
