@@ -119,17 +119,19 @@ fn put_frame(frames: &mut Vec<u8>, first: u8, masked: bool, payload: &[u8]) -> O
     frames.extend_from_slice(payload).ok()
 }
 
-/// The frames of a relay that says the text so often and then the others, behind its answer to the handshake.
+/// A relay's answer to the handshake, then so many frames with the text, each as it comes, and then the others together.
 fn relay_parts(alloc: Global, times: usize, text: &str, behind: &[&str]) -> Option<Vec<Vec<u8>>> {
-    let mut frames = Vec::new(alloc);
+    let mut parts = Vec::new(alloc);
+    parts.push(ACCEPTS.to_vec(alloc).ok()?).ok()?;
     for _ in 0..times {
-        put_frame(&mut frames, 0x81, false, text.as_bytes())?;
+        let mut frame = Vec::new(alloc);
+        put_frame(&mut frame, 0x81, false, text.as_bytes())?;
+        parts.push(frame).ok()?;
     }
+    let mut frames = Vec::new(alloc);
     for text in behind {
         put_frame(&mut frames, 0x81, false, text.as_bytes())?;
     }
-    let mut parts = Vec::new(alloc);
-    parts.push(ACCEPTS.to_vec(alloc).ok()?).ok()?;
     parts.push(frames).ok()?;
     Some(parts)
 }
