@@ -15,8 +15,9 @@ use serde_json::Value;
 use std::alloc::{AllocError, Global};
 use std::sync::{Arc, Wait};
 
-// As many events as are put into the store at once.
-const BATCH: usize = 512;
+// As many events as are put into the store at once. Each time copies what it changes of the store's roll and maps, which is
+// most of them where the events come in no order.
+const BATCH: usize = 8192;
 
 /// The event of a line.
 fn event_of(alloc: Global, line: &[u8]) -> Result<Arc<Event>, LineFault>
@@ -50,8 +51,8 @@ fn next_event(alloc: Global, text: &[u8]) -> Option<(Arc<Event>, &[u8])>
     }
 }
 
-/// An event and those of the lines behind it, as far as each has one that can be read, and the text behind these. It reads 512 at
-/// most.
+/// An event and those of the lines behind it, as far as each has one that can be read, and the text behind these. It reads 8,192
+/// at most.
 fn next_events(
     alloc: Global,
     first: Arc<Event>,

@@ -93,7 +93,7 @@ kinds_marked f kinds marks is at e hit =
 
 pub tags_marked : (f : Filter) (tags : List TagCondition) (i : ℕ) (c : TagCondition) (marks : List ℕ) → tags ≡ f.tags → i < length tags → get_or tags i c ≡ c → marks ≡ map (value_mark c.letter) c.values → AreMarksOf f marks
 tags_marked f tags i c marks same lt is at e hit =
-    let all : list_all (tags_meet e.draft.tags) f.tags ≡ true = and_last _ _ (and_first _ _ hit) in
+    let all : list_all (tags_meet e.draft.tags) f.tags ≡ true = and_last _ _ hit in
     let met : list_all (tags_meet e.draft.tags) tags ≡ true = ap (list_all (tags_meet e.draft.tags)) same ∙ all in
     let here : tags_meet e.draft.tags c ≡ true = ap (tags_meet e.draft.tags) (sym is) ∙ all_at (tags_meet e.draft.tags) tags i c met lt in
     let w = tag_marked c e.draft.tags here in

@@ -28,7 +28,7 @@ and_first false b h = absurd (true≢false (sym h))
 
 -- what matches is within the filter's times
 pub times_met : (f : Filter) (e : EventView) → matches_of f e ≡ true → within_of f e.draft.created_at ≡ true
-times_met f e h = and_last _ (within_of f e.draft.created_at) h
+times_met f e h = and_last _ (within_of f e.draft.created_at) (and_first _ _ h)
 
 -- what matches has one of the filter's ids
 listed_any : (texts : List (List ℕ)) (id : List ℕ) → list_any (λ (x : Id). bytes_eq x.0 id) (map id_of_bytes texts) ≡ has_text texts id

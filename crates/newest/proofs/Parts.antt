@@ -30,8 +30,8 @@ and_first false b e = refl
 
 outside : (f : Filter) (e : EventView) → within_of f e.draft.created_at ≡ false → matches_of f e ≡ false
 outside f e h =
-    and_last (met (λ ids. has_text ids e.id.0) f.ids && met (λ authors. has_text authors e.draft.pubkey) f.authors
-    && met (λ kinds. list_any (λ k. k == e.draft.kind) kinds) f.kinds && list_all (tags_meet e.draft.tags) f.tags) _ h
+    and_first _ (list_all (tags_meet e.draft.tags) f.tags) (and_last (met (λ ids. has_text ids e.id.0) f.ids
+    && met (λ authors. has_text authors e.draft.pubkey) f.authors && met (λ kinds. list_any (λ k. k == e.draft.kind) kinds) f.kinds) _ h)
 
 until_fails : (o : Option ℕ) (u t : ℕ) → o ≡ Some u → u < t → met (λ until. nat_le t until) o ≡ false
 until_fails None u t is above = cc

@@ -82,6 +82,6 @@ impl Entry {
     {
         let Rank { time, id, .. } = self.rank;
         filter.meets(&id, &self.author, self.kind, time.0)
-            && (filter.tags.as_slice().is_empty() || filter.matches(&self.event))
+            && filter.meets_tags(&self.event)
     }
 }

@@ -23,11 +23,14 @@ tags_meet tags c = list_any (tag_meets c) tags
 abbrev pub within_of : Filter → ℕ → Bool
 within_of f time = met (λ since. nat_le since time) f.since && met (λ until. nat_le time until) f.until
 
+-- all conditions but those on tags hold together for an event of this id, author, kind and time
+abbrev pub meets_of : Filter → List ℕ → List ℕ → ℕ → ℕ → Bool
+meets_of f id author kind time =
+    met (λ ids. has_text ids id) f.ids
+    && met (λ authors. has_text authors author) f.authors
+    && met (λ kinds. list_any (λ k. k == kind) kinds) f.kinds
+    && within_of f time
+
 -- all conditions hold together; the limit has no part in it
 abbrev pub matches_of : Filter → EventView → Bool
-matches_of f e =
-    met (λ ids. has_text ids e.id.0) f.ids
-    && met (λ authors. has_text authors e.draft.pubkey) f.authors
-    && met (λ kinds. list_any (λ k. k == e.draft.kind) kinds) f.kinds
-    && list_all (tags_meet e.draft.tags) f.tags
-    && within_of f e.draft.created_at
+matches_of f e = meets_of f e.id.0 e.draft.pubkey e.draft.kind e.draft.created_at && list_all (tags_meet e.draft.tags) f.tags

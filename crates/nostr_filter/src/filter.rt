@@ -1,8 +1,7 @@
 // Filters, and what they match.
 ghost use Rattle.std.specs.Prelude.{◌≡◌, ◌&&◌, [], ℕ};
-ghost use Rattle.nostr_filter.specs.Matching.{tag_meets, tags_meet, within_of, matches_of};
+ghost use Rattle.nostr_filter.specs.Matching.{tag_meets, tags_meet, within_of, meets_of, matches_of};
 ghost use Rattle.std.specs.List.{list_any, list_all};
-ghost use Rattle.nostr_event.specs.EventView.{EventView};
 
 use crate::conditions::{Bytes32List, Kinds, TagCondition, TagConditions};
 use neg_codec::Id;
@@ -42,8 +41,7 @@ impl Filter {
 
     /// Whether an event with this id, author, kind and time meets each condition but those on tags. The limit has no part in it.
     pub fn meets(&self, id: &Id, author: &[u8; 32], kind: u16, time: u64) -> bool
-        ensures { (e : EventView) → e.id ≡ id.now → e.draft.pubkey ≡ author.now → e.draft.kind ≡ kind → e.draft.created_at ≡ time
-            → matches_of self.now e ≡ result && list_all (tags_meet e.draft.tags) self.now.tags }
+        ensures { result ≡ meets_of self.now id.now.0 author.now kind time }
     {
         let named = match &self.ids {
             Some(ids) => ids.has(&id.0),
@@ -66,7 +64,17 @@ impl Filter {
     {
         let draft = event.draft();
         self.meets(&event.id(), &draft.pubkey, draft.kind, draft.created_at)
-            && tags_met(self.tags.as_slice(), draft.tags.as_slice())
+            && self.meets_tags(event)
+    }
+
+    /// Whether the event meets each condition on tags. Where there is none, the event isn't read.
+    pub fn meets_tags(&self, event: &Event) -> bool
+        ensures value { result ≡ list_all (tags_meet event.now.draft.tags) self.now.tags }
+    {
+        self.tags
+            .as_slice()
+            .iter()
+            .all(|condition| condition_met(condition, event.draft().tags.as_slice()))
     }
 
     fn is_within(&self, time: u64) -> bool
@@ -100,13 +108,4 @@ fn condition_met(condition: &TagCondition, tags: &[Tag]) -> bool
     ensures { result ≡ tags_meet tags.now condition.now }
 {
     tags.iter().any(|tag| tag_met(condition, tag))
-}
-
-// Whether each condition is met by some tag.
-fn tags_met(conditions: &[TagCondition], tags: &[Tag]) -> bool
-    ensures { result ≡ list_all (tags_meet tags.now) conditions.now }
-{
-    conditions
-        .iter()
-        .all(|condition| condition_met(condition, tags))
 }
