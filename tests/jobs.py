@@ -3,12 +3,18 @@
 
     tests/jobs.py [PATH]      (PATH of the program; else the proved build)
 """
+import contextlib
+import json
 import os
+import select
 import socket
 import subprocess
 import tempfile
+import threading
 
-from told import by_id, done, event, program, read, same, settings, start, written
+from played import Played, closes, gives_none, gives_of, listing, lists
+from told import begin, by_id, done, event, line_of, program, read, same, settings, start, written
+from wire import Client
 
 E = [event(1700000000 + n, "event %d" % n) for n in range(4)]
 
@@ -61,6 +67,10 @@ WRONG = [
 REFUSED = [
     ("sync", "events", ""),
     ("sync", "events = 'e'\nevents = 'e'\n", ""),
+    # Bytes that are no UTF-8, wherever they stand and whatever else is wrong.
+    ("serve", "\udcff", ""),
+    ("sync", "events = 'e\udcff'\nrelays = ['a:1']\n", ""),
+    ("sync", "events = 1\n# \udcff\n", ""),
     ("serve", "", " events"),
     ("serve", "events = 1", " events"),
     ("serve", "events = 'e'", " listen"),
@@ -75,13 +85,14 @@ REFUSED = [
 ]
 
 
-def relays_of(path, folder, *held):
-    """A relay for each list of events, and their addresses. Each serves two connections: a session, and one that fetches."""
+def relays_of(path, folder, *held, conns=2):
+    """A relay for each list of events, and their addresses. Each serves two connections where nothing else is said: a session,
+    and one that fetches."""
     relays = []
     for number, events in enumerate(held):
         name = "relay%d" % number
         written(os.path.join(folder, name + ".jsonl"), events)
-        relays.append(start(path, "serve", settings(folder, name, listen="127.0.0.1:0", conns=2)))
+        relays.append(start(path, "serve", settings(folder, name, listen="127.0.0.1:0", conns=conns)))
     return relays, ["127.0.0.1:%d" % port for _, port in relays]
 
 
@@ -126,6 +137,132 @@ def a_filter_and_bases_are_kept(path, folder):
     for relay, _ in relays:
         relay.kill()
         relay.communicate()
+
+
+def ids_of(events):
+    return [it["id"] for it in events]
+
+
+# Relay 0 has five events by itself and gives three of them, and nothing else; relay 1 has seven by itself and gives all; relay 2
+# gives nothing. All three list the same six.
+FIRST, SECOND, ALL = ([event(time + n, "one of some") for n in range(count)] for time, count in ((1000, 5), (2000, 7), (3000, 6)))
+
+# What is printed of each round's plan where the loads begin with 12, 10 and 0, and of the counts where it is the last round.
+# The loads can't be shared but as 17, 17 and 6, then as 20, 20 and 6, and then as 20, 23 and 6.
+ROUNDS = [
+    ("least 17\ngroup 0 1\n", "given 10\nmissed 8\nleft 0\n"),
+    ("round 2\nleast 20\ngroup 0 1\n", "given 13\nmissed 11\nleft 0\n"),
+    ("round 3\nleast 23\ngroup 1\n", "given 16\nmissed 11\nleft 0\n"),
+]
+
+
+def what_was_missed_is_planned_anew(path, folder):
+    """Of other relays, over what each was asked for, up to so many rounds and until nothing is missed. Each round connects to
+    all relays, also to those that it asks nothing."""
+    for rounds in (1, 2, 3, 16):
+        ran = min(rounds, 3)
+        honest, [at] = relays_of(path, folder, SECOND + ALL, conns=1 + ran)
+        written(os.path.join(folder, "mirror.jsonl"), E[:1])
+        with Played(lists(ids_of(FIRST + ALL), gives_of(FIRST[:3]))) as first, Played(lists(ids_of(ALL), gives_none)) as none:
+            conf = settings(folder, "mirror", relays=[first.at, at, none.at], bases=[12, 10, 0], rounds=rounds)
+            told = "relay 0 need 11\nrelay 1 need 13\nrelay 2 need 6\n%s%s" % (
+                "".join(plan for plan, _counts in ROUNDS[:ran]), ROUNDS[ran - 1][1])
+            same(done(path, "sync", conf), (0, told, ""))
+            same(first.names(), [["NEG-OPEN"], ["REQ"], ["REQ"], []][:1 + ran])
+            same(none.names(), [["NEG-OPEN"], ["REQ"], [], []][:1 + ran])
+            asked, asked_none = first.fetched(), none.fetched()
+        same([[len(ids) for ids in asked], asked[0]], [[5, 3, 0][:ran], sorted(ids_of(FIRST))])
+        same(asked_none[0], sorted(ids_of(ALL)))
+        same(honest[0][0].communicate(timeout=60), ("served %d\nevents 13\n" % (1 + ran), ""))
+        # Relay 1 was asked for those of all that relay 0 wasn't, and then for these.
+        later = [[], [it for it in ALL if it["id"] not in asked[-1]], ALL][ran - 1]
+        same(by_id(read(os.path.join(folder, "mirror.jsonl"))), by_id(E[:1] + FIRST[:3] + SECOND + later))
+
+
+# What a relay does in each round with what it is asked for, and the counts that come of it.
+LEFT = [
+    ([closes(E[:2])], "given 0\nmissed 0\nleft 2\n", []),
+    ([closes(E[:2]), closes(E[:2])], "given 0\nmissed 0\nleft 2\n", []),
+    ([closes(E[:2]), gives_of(E[1:])], "given 1\nmissed 1\nleft 0\n", E[1:2]),
+]
+
+
+def what_was_left_is_asked_for_again(path, folder):
+    """Where a relay closes while it is fetched from, its ids are left: that adds nothing to its load, and the next round plans
+    them as this one did."""
+    for steps, counts, came in LEFT:
+        later = iter(steps)
+        with Played(lists(ids_of(E[:2]), lambda *asked, later=later: next(later)(*asked))) as relay:
+            written(os.path.join(folder, "mirror.jsonl"), E[3:])
+            plans = "round 2\n".join(["least 2\ngroup 0\n"] * len(steps))
+            same(done(path, "sync", settings(folder, "mirror", relays=[relay.at], rounds=len(steps))),
+                 (0, "relay 0 need 2\n" + plans + counts, ""))
+            same(relay.fetched(), [sorted(ids_of(E[:2]))] * len(steps))
+        same(by_id(read(os.path.join(folder, "mirror.jsonl"))), by_id(E[3:] + came))
+
+
+def two_workers_fetch_side_by_side(path, folder):
+    """A relay gives nothing before both have asked it. One of them alone asks for 100 ids at the most."""
+    theirs = [event(1000 + n, "theirs") for n in range(150)]
+    both = threading.Barrier(2, timeout=30)
+
+    def gives(*asked):
+        with contextlib.suppress(threading.BrokenBarrierError):
+            both.wait()
+        gives_of(theirs)(*asked)
+
+    with Played(lists(ids_of(theirs), gives)) as relay:
+        told = "relay 0 need 150\nleast 150\ngroup 0\ngiven 150\nmissed 0\nleft 0\n"
+        same(done(path, "sync", settings(folder, "mirror", relays=[relay.at], workers=2)), (0, told, ""))
+        same(relay.names(), [["NEG-OPEN"], ["REQ"], ["REQ"]])
+        same(sorted(sum(relay.fetched(), [])), sorted(ids_of(theirs)))
+    same(by_id(read(os.path.join(folder, "mirror.jsonl"))), by_id(theirs))
+
+
+def what_is_no_event_asked_for_is_missed(path, folder):
+    """One whose id isn't that of its text, some that have no event's shape, and one that nobody asked for in the place of the
+    last."""
+    theirs = [event(1000 + n, "theirs") for n in range(7)]
+    unsigned = {key: value for key, value in theirs[3].items() if key != "sig"}
+    given = [event(999, "not asked for"), dict(theirs[1], content="else"), dict(theirs[2], kind="1"), unsigned,
+             dict(theirs[4], id=theirs[4]["id"].upper()), {"id": theirs[5]["id"]}, theirs[0]]
+
+    def gives(connection, sub, _ids):
+        connection.say(*(["EVENT", sub, it] for it in given), ["EOSE", sub])
+
+    written(os.path.join(folder, "mirror.jsonl"), E[:1])
+    with Played(lists(ids_of(theirs), gives)) as relay:
+        told = "relay 0 need 7\nleast 7\ngroup 0\ngiven 1\nmissed 6\nleft 0\n"
+        same(done(path, "sync", settings(folder, "mirror", relays=[relay.at])), (0, told, ""))
+        same(relay.fetched(), [sorted(ids_of(theirs))])
+    same(by_id(read(os.path.join(folder, "mirror.jsonl"))), by_id([E[0], theirs[0]]))
+
+
+def a_client_learns_what_it_lacks(path, folder):
+    """Of a relay that serves it alone."""
+    written(os.path.join(folder, "relay.jsonl"), E[:2])
+    relay = begin(path, "serve", settings(folder, "relay", listen="127.0.0.1:0", conns=1))
+    first = line_of(relay)
+    port = int(first.rsplit(":", 1)[1])
+    client = Client(port)
+    client.socket.settimeout(60)
+    client.send(json.dumps(["NEG-OPEN", "it", {}, listing(ids_of(E[:1]))]).encode())
+    same(json.loads(client.read()), ["NEG-MSG", "it", listing(ids_of(E[:2]))])
+    client.close()
+    out, errors = relay.communicate(timeout=60)
+    same((first + out, errors, relay.returncode),
+         ("listening 127.0.0.1:%d\nserved 1\nevents 2\n" % port, "", 0))
+
+
+def hosts_have_names(path, folder):
+    written(os.path.join(folder, "relay.jsonl"), E)
+    relay = begin(path, "serve", settings(folder, "relay", listen="localhost:0", conns=2))
+    host, port = line_of(relay).rsplit(":", 1)
+    same(host, "listening localhost")
+    told = "relay 0 need 4\nleast 4\ngroup 0\ngiven 4\nmissed 0\nleft 0\n"
+    same(done(path, "sync", settings(folder, "mirror", relays=["localhost:%d" % int(port)])), (0, told, ""))
+    same(by_id(read(os.path.join(folder, "mirror.jsonl"))), by_id(E))
+    same(relay.communicate(timeout=60), ("served 2\nevents 4\n", ""))
 
 
 def refusals_say_what_and_where(path, folder):
@@ -183,11 +320,23 @@ def no_other_file_is_written(path, folder):
     same(done(path, "serve", conf), (1, "", "refused: write\n"))
 
 
+def a_missing_folder_is_told_first(path, folder):
+    """Nothing is listened on, since that would be refused, and no relay is connected to."""
+    events = os.path.join(folder, "none", "it.jsonl")
+    with socket.create_server(("127.0.0.1", 0)) as taken:
+        at = "127.0.0.1:%d" % taken.getsockname()[1]
+        for job, values in [("serve", dict(listen=at, conns=1)), ("sync", dict(relays=[at])),
+                            ("sync", dict(relays=[at], listen=at, conns=1))]:
+            same(done(path, job, settings(folder, "it", events=events, **values)), (1, "", "refused: write\n"))
+        same(select.select([taken], [], [], 0)[0], [])
+    same(os.listdir(folder), ["it.toml"])
+
+
 def wrong_settings_are_told(path, folder):
     conf = os.path.join(folder, "it.toml")
     cases = [("sync", FRONT + lines + "\n", " " + key) for lines, key in WRONG] + REFUSED
     for job, text, told in cases + [("serve", "events = \n", "")]:
-        with open(conf, "w") as file:
+        with open(conf, "w", encoding="utf-8", errors="surrogateescape") as file:
             file.write(text)
         same((text, *done(path, job, conf)), (text, 1, "", "refused: settings%s\n" % told))
 
@@ -195,8 +344,10 @@ def wrong_settings_are_told(path, folder):
 def main():
     path = program()
     for part in (two_relays_are_mirrored, a_relay_that_is_away_touches_no_other, a_level_mirror_fetches_nothing,
-                 a_filter_and_bases_are_kept, refusals_say_what_and_where, one_run_has_an_events_file,
-                 no_other_file_is_written, wrong_settings_are_told):
+                 a_filter_and_bases_are_kept, what_was_missed_is_planned_anew, what_was_left_is_asked_for_again,
+                 two_workers_fetch_side_by_side, what_is_no_event_asked_for_is_missed, a_client_learns_what_it_lacks,
+                 hosts_have_names, refusals_say_what_and_where, one_run_has_an_events_file, no_other_file_is_written,
+                 a_missing_folder_is_told_first, wrong_settings_are_told):
         with tempfile.TemporaryDirectory() as folder:
             part(path, folder)
         print(part.__name__.replace("_", " "))

@@ -9,20 +9,16 @@ one a frame and one a message that never ends; one doesn't shake hands. The hone
 others but those that were asked for with right ids; the mirror's file has to be whole, and its memory within a bound.
 """
 import argparse
-import base64
-import hashlib
-import json
 import os
 import random
-import re
 import socket
 import struct
 import tempfile
 import threading
 import time
 
+from played import accepting, answered, closes, gives_none, lists
 from told import ROOT, begin, by_id, event, read, same, settings, start, written
-from wire import Client, Gone
 
 # No run takes more MiB than this.
 MEMORY = 64
@@ -43,82 +39,11 @@ given 150
 missed 3000
 left 2
 """
-GUID = b"258EAFA5-E914-47DA-95CA-C5AB0DC85B11"
-
-
-class Connection(Client):
-    """A mirror's connection, as its relay sees it."""
-
-    def __init__(self, stream):
-        self.socket, self.held = stream, b""
-        while b"\r\n\r\n" not in self.held:
-            self.fill()
-        head, self.held = self.held.split(b"\r\n\r\n", 1)
-        key = re.search(rb"Sec-WebSocket-Key: *(\S+)", head, re.I)[1]
-        accept = base64.b64encode(hashlib.sha1(key + GUID).digest())
-        stream.sendall(b"HTTP/1.1 101 Switching Protocols\r\nUpgrade: websocket\r\nConnection: Upgrade\r\n"
-                       b"Sec-WebSocket-Accept: " + accept + b"\r\n\r\n")
-
-    @staticmethod
-    def frame(text, opcode=1, last=True):
-        size = len(text)
-        sizes = bytes([size]) if size < 126 else struct.pack("!BH", 126, size) if size < 1 << 16 else struct.pack("!BQ", 127, size)
-        return bytes([(0x80 if last else 0) | opcode]) + sizes + text
-
-    def read(self):
-        """The next text, which is masked."""
-        first, second = self.take(2)
-        if first & 15 == 8:
-            raise Gone("the mirror said goodbye")
-        size = second & 127
-        if size == 126:
-            size, = struct.unpack("!H", self.take(2))
-        elif size == 127:
-            size, = struct.unpack("!Q", self.take(8))
-        mask = self.take(4)
-        return bytes(byte ^ mask[i % 4] for i, byte in enumerate(self.take(size)))
-
-    def say(self, *values):
-        self.send(*(json.dumps(value).encode() for value in values))
-
-
-def varint(number):
-    digits = [number & 127]
-    while number := number >> 7:
-        digits.append(0x80 | number & 127)
-    return bytes(reversed(digits))
-
-
-def listing(ids):
-    """A Negentropy message that lists ids as all that there is."""
-    return (b"\x61\0\0\x02" + varint(len(ids)) + b"".join(map(bytes.fromhex, ids))).hex()
-
-
-def lists(ids, gives):
-    """A relay that lists these ids, and gives what it gives when it is asked for some."""
-    def answer(connection, asked):
-        if asked[0] == "NEG-OPEN":
-            connection.say(["NEG-MSG", asked[1], listing(ids)])
-        elif asked[0] == "REQ":
-            gives(connection, asked[1], asked[2]["ids"])
-    return answer
-
-
-def gives_none(connection, sub, _ids):
-    connection.say(["EOSE", sub])
 
 
 def gives_others(connection, sub, ids):
     wrong = [dict(event(4, "wrong"), id=id) for id in ids]
     connection.say(*(["EVENT", sub, it] for it in [event(5, "not asked for"), *wrong, {"id": ids[0]}]), ["EOSE", sub])
-
-
-def closes(events):
-    def gives(connection, sub, _ids):
-        connection.say(["EVENT", sub, events[0]])
-        connection.socket.close()
-        raise Gone("closed")
-    return gives
 
 
 def says_else(connection, _asked):
@@ -147,30 +72,10 @@ def message_without_end(connection, _asked):
         connection.socket.sendall(connection.frame(b"x" * 60_000, 0, False))
 
 
-def answered(stream, answer):
-    """Answers what a mirror asks, until one of them leaves."""
-    try:
-        connection = Connection(stream)
-        while True:
-            answer(connection, json.loads(connection.read()))
-    except (Gone, OSError):
-        pass
-    stream.close()
-
-
 def shakes_no_hands(stream):
     stream.recv(1)
     stream.sendall(random.randbytes(1000) + b"\r\n\r\n")
     stream.close()
-
-
-def accepting(server, serve):
-    try:
-        while True:
-            stream, _from = server.accept()
-            threading.Thread(target=serve, args=(stream,), daemon=True).start()
-    except OSError:
-        pass
 
 
 def waited(child):

@@ -1,4 +1,5 @@
 """What the tests of the program share: events, settings, starting it, and comparing what it tells."""
+import atexit
 import hashlib
 import json
 import os
@@ -53,29 +54,37 @@ def by_id(events):
 
 
 def settings(folder, name, **values):
-    """Writes settings whose events stand in NAME.jsonl, and gives their path."""
+    """Writes settings whose events stand in NAME.jsonl where nothing else is said, and gives their path."""
     path = os.path.join(folder, name + ".toml")
     with open(path, "w") as text:
-        for key, value in dict(events=os.path.join(folder, name + ".jsonl"), **values).items():
+        for key, value in {"events": os.path.join(folder, name + ".jsonl"), **values}.items():
             text.write("%s = %s\n" % (key, json.dumps(value)))
     return path
 
 
 def begin(path, job, conf, *words):
-    """Starts a job, and gives its process."""
-    return subprocess.Popen([path, job, conf, *words], stdout=subprocess.PIPE, stderr=subprocess.PIPE, text=True)
+    """Starts a job, and gives its process. It doesn't outlive the test."""
+    child = subprocess.Popen([path, job, conf, *words], stdout=subprocess.PIPE, stderr=subprocess.PIPE, text=True)
+    atexit.register(child.kill)
+    return child
 
 
-def port_of(child):
-    """The port that a job tells in its first line, if it comes to listen. The line is read byte by byte: what else a reader
-    takes with it, `communicate` doesn't give."""
+def line_of(child):
+    """The first line of a job, if it tells one. It is read byte by byte: what else a reader takes with it, `communicate` doesn't
+    give."""
     line = b""
     while not line.endswith(b"\n"):
         byte = os.read(child.stdout.fileno(), 1)
         if not byte:
             return None
         line += byte
-    return int(line.rsplit(b":", 1)[1])
+    return line.decode()
+
+
+def port_of(child):
+    """The port that a job tells in its first line, if it comes to listen."""
+    line = line_of(child)
+    return None if line is None else int(line.rsplit(":", 1)[1])
 
 
 def start(path, job, conf, *words):

@@ -1,0 +1,147 @@
+"""Relays that a test plays: what is asked of them is answered by a function, which gets the connection and what was asked."""
+import base64
+import hashlib
+import json
+import re
+import socket
+import struct
+import threading
+
+import told  # Its path leads to `wire`.
+from wire import Client, Gone
+
+GUID = b"258EAFA5-E914-47DA-95CA-C5AB0DC85B11"
+
+
+class Connection(Client):
+    """A mirror's connection, as its relay sees it."""
+
+    def __init__(self, stream):
+        self.socket, self.held = stream, b""
+        while b"\r\n\r\n" not in self.held:
+            self.fill()
+        head, self.held = self.held.split(b"\r\n\r\n", 1)
+        key = re.search(rb"Sec-WebSocket-Key: *(\S+)", head, re.I)[1]
+        accept = base64.b64encode(hashlib.sha1(key + GUID).digest())
+        stream.sendall(b"HTTP/1.1 101 Switching Protocols\r\nUpgrade: websocket\r\nConnection: Upgrade\r\n"
+                       b"Sec-WebSocket-Accept: " + accept + b"\r\n\r\n")
+
+    @staticmethod
+    def frame(text, opcode=1, last=True):
+        size = len(text)
+        sizes = bytes([size]) if size < 126 else struct.pack("!BH", 126, size) if size < 1 << 16 else struct.pack("!BQ", 127, size)
+        return bytes([(0x80 if last else 0) | opcode]) + sizes + text
+
+    def read(self):
+        """The next text, which is masked."""
+        first, second = self.take(2)
+        if first & 15 == 8:
+            raise Gone("the mirror said goodbye")
+        size = second & 127
+        if size == 126:
+            size, = struct.unpack("!H", self.take(2))
+        elif size == 127:
+            size, = struct.unpack("!Q", self.take(8))
+        mask = self.take(4)
+        return bytes(byte ^ mask[i % 4] for i, byte in enumerate(self.take(size)))
+
+    def say(self, *values):
+        self.send(*(json.dumps(value).encode() for value in values))
+
+
+def varint(number):
+    digits = [number & 127]
+    while number := number >> 7:
+        digits.append(0x80 | number & 127)
+    return bytes(reversed(digits))
+
+
+def listing(ids):
+    """A Negentropy message that lists ids as all that there is."""
+    return (b"\x61\0\0\x02" + varint(len(ids)) + b"".join(map(bytes.fromhex, ids))).hex()
+
+
+def lists(ids, gives):
+    """A relay that lists these ids, and gives what it gives when it is asked for some."""
+    def answer(connection, asked):
+        if asked[0] == "NEG-OPEN":
+            connection.say(["NEG-MSG", asked[1], listing(ids)])
+        elif asked[0] == "REQ":
+            gives(connection, asked[1], asked[2]["ids"])
+    return answer
+
+
+def gives_none(connection, sub, _ids):
+    connection.say(["EOSE", sub])
+
+
+def gives_of(events):
+    """Those of these events that are asked for."""
+    def gives(connection, sub, ids):
+        connection.say(*(["EVENT", sub, it] for it in events if it["id"] in ids), ["EOSE", sub])
+    return gives
+
+
+def closes(events):
+    """The first of these events, and then no more."""
+    def gives(connection, sub, _ids):
+        connection.say(["EVENT", sub, events[0]])
+        connection.socket.close()
+        raise Gone("closed")
+    return gives
+
+
+def answered(stream, answer):
+    """Answers what a mirror asks, until one of them leaves."""
+    try:
+        connection = Connection(stream)
+        while True:
+            answer(connection, json.loads(connection.read()))
+    except (Gone, OSError):
+        pass
+    stream.close()
+
+
+def accepting(server, serve):
+    try:
+        while True:
+            stream, _from = server.accept()
+            threading.Thread(target=serve, args=(stream,), daemon=True).start()
+    except OSError:
+        pass
+
+
+class Played:
+    """A played relay at a port of its own, which notes for each connection what it is asked to compare or to give."""
+
+    def __init__(self, answer):
+        self.answer, self.asked = answer, []
+        self.server = socket.create_server(("127.0.0.1", 0))
+        self.at = "127.0.0.1:%d" % self.server.getsockname()[1]
+        threading.Thread(target=accepting, args=(self.server, self.serve), daemon=True).start()
+
+    def serve(self, stream):
+        # Before the handshake: a mirror that has made a connection is seen.
+        asked = []
+        self.asked.append(asked)
+
+        def answer(connection, text):
+            if text[0] not in ("CLOSE", "NEG-CLOSE"):
+                asked.append(text)
+            self.answer(connection, text)
+        answered(stream, answer)
+
+    def names(self):
+        """The names of what it was asked on each connection, in the order in which they were made."""
+        return [[text[0] for text in asked] for asked in self.asked]
+
+    def fetched(self):
+        """The ids that it was asked to give on each connection but the first, sorted."""
+        return [sorted(id for text in asked for id in text[2]["ids"]) for asked in self.asked[1:]]
+
+    def __enter__(self):
+        return self
+
+    def __exit__(self, *_why):
+        self.server.shutdown(socket.SHUT_RDWR)
+        self.server.close()
