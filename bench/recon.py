@@ -1,13 +1,14 @@
 #!/usr/bin/env python3
 """Measures `recon`, and rolls alone; `recon` beside a plain program that does the same, where one is named.
 
-    bench/recon.py [--baseline PATH] [--mirror PATH] [--items N,N,..] [--ppm P,P,..] [--limit LIMIT] [--runs R]
-    bench/recon.py --shapes [--baseline PATH] ..      lists of which much differs
+    bench/recon.py [--baseline PATH] [--mirror PATH] [--items N,N,..] [--ppm P,P,..] [--limit L,L,..] [--runs R]
+    bench/recon.py --shapes [--baseline PATH] ..      lists of which much differs, with the first L alone
     bench/recon.py --rolls [--calls PATH]             inserts and shares, by `calls rolls`
 
-Both sides have N items, of which P in a million differ. Messages have at most LIMIT bytes. Programs run in turn, R times
-each; the least wall time, the least processor time and the greatest peak of resident memory are shown, and whether the
-outputs are equal. The plain program takes the same words and input, and prints the same.
+Both sides have N items, of which P in a million differ, and messages have at most L bytes: with no lists given, nine rows
+for 60,000 bytes and nine for 1,048,576. Programs run in turn, R times each; the least wall time, the least processor time
+and the greatest peak of resident memory are shown, and whether the outputs are equal. The plain program takes the same
+words and input, and prints the same. The status is 1 where a program fails or the outputs of a row differ.
 """
 import argparse
 import hashlib
@@ -41,9 +42,10 @@ def write(path, mine, theirs):
 
 def table(options):
     """The rows of the table: a name, what writes the input with its arguments, and the limit."""
-    for items in options.items:
-        for ppm in options.ppm:
-            yield "%d items, %d ppm" % (items, ppm), write_items, (items, ppm), options.limit
+    for limit in options.limit:
+        for items in options.items:
+            for ppm in options.ppm:
+                yield "%d items, %d ppm, %d bytes" % (items, ppm, limit), write_items, (items, ppm), limit
 
 
 def write_shape(path, name):
@@ -58,13 +60,13 @@ def write_shape(path, name):
 
 
 def shapes(options):
-    """Lists of which much differs; messages of the first are short."""
+    """Lists of which much differs; messages of the first are short, those of the others have the first limit."""
     for name in ("nothing in common", "each 32nd is lacking", "nothing beside 190,000", "ids differ at their ends"):
-        yield name, write_shape, (name,), 4096 if name == "nothing in common" else options.limit
+        yield name, write_shape, (name,), 4096 if name == "nothing in common" else options.limit[0]
 
 
 def measure(options, name, source, limit, folder):
-    """One row. Whether the outputs are equal."""
+    """One row. Whether the programs ended well and the outputs are equal."""
     ours, theirs = (os.path.join(folder, name) for name in ("ours", "theirs"))
     words = ["recon", "--limit", str(limit)]
     a, b = [], []
@@ -74,10 +76,10 @@ def measure(options, name, source, limit, folder):
             if options.baseline:
                 b.append(once([options.baseline] + words, source, theirs))
     except Refused as refused:
-        print("%26s | %s" % (name, refused), flush=True)
-        return True
+        print("%39s | %s" % (name, refused), flush=True)
+        return False
     equal = not b or same(ours, theirs)
-    print("%26s | %21s | %21s | %21s | %s" % (
+    print("%39s | %21s | %21s | %21s | %s" % (
         name, *compared(a, b), "" if not b else "equal" if equal else "DIFFER"), flush=True)
     return equal
 
@@ -103,13 +105,13 @@ def main():
     parser.add_argument("--rolls", action="store_true")
     parser.add_argument("--items", type=numbers, default=[10_000, 100_000, 440_000])
     parser.add_argument("--ppm", type=numbers, default=[1000, 10_000, 100_000])
-    parser.add_argument("--limit", type=int, default=60_000)
+    parser.add_argument("--limit", type=numbers, default=[60_000, 1_048_576])
     parser.add_argument("--runs", type=int, default=5)
     options = parser.parse_args()
     if options.rolls:
         rolls(options)
         return
-    print("%26s | %21s | %21s | %21s | outputs" % ("lists", "wall ms", "processor ms", "memory MiB"))
+    print("%39s | %21s | %21s | %21s | outputs" % ("lists", "wall ms", "processor ms", "memory MiB"))
     wrong = False
     with tempfile.TemporaryDirectory() as folder:
         source = os.path.join(folder, "items")

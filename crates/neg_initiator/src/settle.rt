@@ -110,8 +110,8 @@ fn walk(
 }
 
 /// The next ask, of no more bytes than the limit, after a reply to the last one: what the reply leaves
-/// open. Ask and reply are walked once, each long list of ids is put in order, and each fingerprint costs a
-/// pass over the items it tells of.
+/// open. Ask and reply are walked once, a list of ids costs a pass over the items it tells of, a long one a
+/// sort too, and a fingerprint two searches and at most 32 ids added up.
 pub fn settle(
     alloc: Global,
     roll: &Roll,

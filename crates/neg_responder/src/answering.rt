@@ -92,8 +92,8 @@ fn answer_fault(alloc: Global, fault: CodecFault) -> Result<Vec<u8>, AnswerFault
 /// The answer has no more bytes than the limit. A list that doesn't fit is cut, and what the roll has from
 /// there on is told by one fingerprint up to infinity, whatever the query says of it.
 ///
-/// The cost is a pass over the query and, for each fingerprint and list in it, a pass over the items that
-/// it tells of.
+/// The cost is a pass over the query, for each list in it a pass over the items that it tells of, and for
+/// each fingerprint two searches and at most 32 ids added up.
 ///
 /// # Errors
 ///

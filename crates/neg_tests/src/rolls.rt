@@ -292,7 +292,36 @@ fn group_len(group: &Group, items: &[Item], from: usize) -> Option<usize> {
     Some(len)
 }
 
-/// Whether a roll has these items, one by one and in its chunks.
+/// Whether the chunks by their numbers, one behind the other, have these items, and no chunk has a number more.
+fn are_in_chunks(roll: &Roll, items: &[Item]) -> bool {
+    let mut from = 0;
+    for i in 0..roll.chunks() {
+        let Some(chunk) = roll.chunk(i) else {
+            return false;
+        };
+        if !is_chunk_at(chunk, items, from) {
+            return false;
+        }
+        from = from.saturating_add(chunk.items().len());
+    }
+    from == items.len() && roll.chunk(roll.chunks()).is_none()
+}
+
+/// Whether each of these items is found at its place.
+fn finds_items(roll: &Roll, items: &[Item]) -> bool {
+    for (at, item) in items.iter().enumerate() {
+        if item.time >= u64::MAX {
+            return false;
+        }
+        let bound = Bound::At(Key::new(item.time, item.id));
+        if roll.find(&bound) != at || roll.find_near(&bound, at) != at {
+            return false;
+        }
+    }
+    true
+}
+
+/// Whether a roll has these items, one by one and in its chunks, of which a group has at most 64.
 fn has_items(roll: &Roll, items: &[Item]) -> bool {
     let mut from = 0;
     let mut chunks: usize = 0;
@@ -308,7 +337,11 @@ fn has_items(roll: &Roll, items: &[Item]) -> bool {
         }
         chunks = chunks.saturating_add(parts);
     }
-    chunks == roll.chunks() && from == items.len() && is_roll_of(roll, items)
+    chunks == roll.chunks()
+        && from == items.len()
+        && are_in_chunks(roll, items)
+        && is_roll_of(roll, items)
+        && finds_items(roll, items)
 }
 
 /// Whether the fingerprints between all these places are those of the items there.
@@ -335,19 +368,19 @@ fn timed_line(alloc: Global, len: u64) -> Result<Vec<Item>, AllocError> {
     Ok(items)
 }
 
-/// Whether 1,025 items lie in chunks, with their fingerprints and ids.
+/// Whether 20,000 items lie in chunks of several groups, with their fingerprints and ids.
 fn lie_in_chunks(alloc: Global) -> Option<bool> {
-    let items = timed_line(alloc, 1025).ok()?;
+    let items = timed_line(alloc, 20_000).ok()?;
     let roll = Roll::from_items(alloc, &items).ok()?;
-    let places = [0, 1, 127, 129, 255, 256, 257, 383, 512, 540, 1024, 1025];
+    let places = [
+        0, 1, 127, 129, 255, 256, 257, 383, 16_383, 16_384, 16_385, 16_700, 20_000,
+    ];
     Some(
-        roll.chunks() >= 3
-            && roll.chunk(0).is_some()
-            && roll.chunk(roll.chunks()).is_none()
+        roll.groups().len() > 1
             && has_items(&roll, &items)
             && has_all_prints(&roll, &items, &places)
-            && items.len() == 1025
-            && has_ids(alloc, &roll, 500, &items[500..600]),
+            && items.len() == 20_000
+            && has_ids(alloc, &roll, 16_300, &items[16_300..16_700]),
     )
 }
 
@@ -372,7 +405,9 @@ fn fill_in(roll: &mut Roll) -> Result<(), RollFault> {
 
 /// Whether a roll has these items, and their fingerprints.
 fn is_whole(roll: &Roll, items: &[Item]) -> bool {
-    let places = [0, 2, 200, 255, 256, 700, 1000, 1025, 1300, 1624, 1625];
+    let places = [
+        0, 2, 200, 255, 256, 700, 1025, 1300, 1624, 1625, 9000, 20_000,
+    ];
     has_items(roll, items) && has_all_prints(roll, items, &places)
 }
 
@@ -392,24 +427,24 @@ fn share_stays(alloc: Global) -> Option<bool> {
     Some(stays(alloc, &mut roll, &before, &after))
 }
 
-/// Puts the items of 1100 times into a roll, the last first.
+/// Puts the items of 20,000 times into a roll, the last first and then in no order.
 fn put_one_by_one(roll: &mut Roll) -> Result<(), RollFault> {
-    for time in 0..1100 {
-        roll.insert(timed(1099 - time))?;
+    for at in 0..20_000 {
+        roll.insert(timed(19_999 - at * 7919 % 20_000))?;
     }
     Ok(())
 }
 
-/// Whether a roll into which items were put one by one has them.
+/// Whether a roll into which items were put one by one has them, in several groups.
 fn grows(alloc: Global) -> Option<bool> {
-    let items = timed_line(alloc, 1100).ok()?;
+    let items = timed_line(alloc, 20_000).ok()?;
     let mut roll = Roll::from_items(alloc, &[]).ok()?;
     let refused = [(timed(512), Err(RollFault::Present))];
     Some(
         put_one_by_one(&mut roll) == Ok(())
-            && has_items(&roll, &items)
+            && roll.groups().len() > 1
             && takes(&mut roll, &refused)
-            && has_items(&roll, &items),
+            && is_whole(&roll, &items),
     )
 }
 
