@@ -6,11 +6,13 @@
 import contextlib
 import json
 import os
+import resource
 import select
 import socket
 import subprocess
 import tempfile
 import threading
+import time
 
 from played import Played, closes, gives_none, gives_of, listing, lists
 from told import begin, by_id, done, event, line_of, program, read, same, settings, start, written
@@ -254,6 +256,33 @@ def a_client_learns_what_it_lacks(path, folder):
          ("listening 127.0.0.1:%d\nserved 1\nevents 2\n" % port, "", 0))
 
 
+def connections_wait_for_descriptors(path, folder):
+    """Where the system gives a relay no more of them, none is lost that comes in meanwhile."""
+    relay, port = start(path, "serve", settings(folder, "relay", listen="127.0.0.1:0", conns=4))
+    # With room for two more.
+    limit, room = 0, 2
+    used = {int(name) for name in os.listdir("/proc/%d/fd" % relay.pid)}
+    while room or limit <= max(used):
+        room -= limit not in used
+        limit += 1
+    resource.prlimit(relay.pid, resource.RLIMIT_NOFILE, (limit, resource.prlimit(relay.pid, resource.RLIMIT_NOFILE)[1]))
+    first = [Client(port), Client(port)]
+    later = []
+    waiting = [threading.Thread(target=lambda: later.append(Client(port)), daemon=True) for _one in range(2)]
+    for one in waiting:
+        one.start()
+    time.sleep(0.5)
+    same(later, [])
+    for client in first:
+        client.close()
+    for one in waiting:
+        one.join(60)
+    same(len(later), 2)
+    for client in later:
+        client.close()
+    same(relay.communicate(timeout=60), ("served 4\nevents 0\n", ""))
+
+
 def hosts_have_names(path, folder):
     written(os.path.join(folder, "relay.jsonl"), E)
     relay = begin(path, "serve", settings(folder, "relay", listen="localhost:0", conns=2))
@@ -346,8 +375,9 @@ def main():
     for part in (two_relays_are_mirrored, a_relay_that_is_away_touches_no_other, a_level_mirror_fetches_nothing,
                  a_filter_and_bases_are_kept, what_was_missed_is_planned_anew, what_was_left_is_asked_for_again,
                  two_workers_fetch_side_by_side, what_is_no_event_asked_for_is_missed, a_client_learns_what_it_lacks,
-                 hosts_have_names, refusals_say_what_and_where, one_run_has_an_events_file, no_other_file_is_written,
-                 a_missing_folder_is_told_first, wrong_settings_are_told):
+                 connections_wait_for_descriptors, hosts_have_names, refusals_say_what_and_where,
+                 one_run_has_an_events_file, no_other_file_is_written, a_missing_folder_is_told_first,
+                 wrong_settings_are_told):
         with tempfile.TemporaryDirectory() as folder:
             part(path, folder)
         print(part.__name__.replace("_", " "))

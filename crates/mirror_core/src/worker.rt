@@ -1,8 +1,8 @@
 //! A worker: it claims cells of its lane's relay, asks its source for their ids, and places the events that came.
 
-ghost use Rattle.std.specs.Prelude.{◌≡◌, ◌<◌, ◌≤◌, ◌+◌, ◌-◌, ◌^◌, ◌⊎◌, [], ◌∷◌, ℕ, false, true, length, drop, Contains, Some, Err, slice_get, IfOk, IfErr, OnOk, OnErr, MatchOption};
+ghost use Rattle.std.specs.Prelude.{◌≡◌, ◌<◌, ◌≤◌, ◌+◌, ◌-◌, ◌^◌, ◌⊎◌, [], ◌∷◌, ℕ, false, true, length, drop, Contains, All, Some, Err, slice_get, IfOk, IfErr, IfSome, OnOk, OnErr, MatchOption};
 ghost use Rattle.std.specs.Arc.{arc_value};
-ghost use Rattle.mirror_core.specs.Fetching.{fetching, ids_of};
+ghost use Rattle.mirror_core.specs.Fetching.{fetching, ids_of, IsGiven, IsAsked};
 ghost use Rattle.mirror_core.specs.Batches.{Batched, SameLane, EndsCell, Settles};
 ghost use Rattle.mirror_core.specs.Working.{is_through, stop_of, IsUnused, Logs, Worked};
 ghost use Rattle.mirror_core.specs.Asked.{AsksOnce};
@@ -56,18 +56,29 @@ fn place_of(given: &[Arc<Event>], id: &Id) -> Option<usize>
     None
 }
 
+/// The event with this id, if it was given.
+fn given_with(given: &[Arc<Event>], id: &Id) -> Result<Option<Arc<Event>>, AllocError>
+    ensures { IfOk result (λ found. IfSome found (λ event. IsGiven id.now given.now (arc_value event))) }
+{
+    let Some(k) = place_of(given, id) else {
+        return Ok(None);
+    };
+    Ok(Some(Arc::try_clone(&given[k])?))
+}
+
 /// Those of the given events that were asked for.
 fn asked_of(
     alloc: Global,
     ids: &[Id],
     given: &[Arc<Event>],
-) -> Result<Vec<Arc<Event>>, AllocError> {
+) -> Result<Vec<Arc<Event>>, AllocError>
+    ensures { IfOk result (λ asked. All (λ event. IsAsked ids.now given.now (arc_value event)) asked.items) }
+{
     let mut asked = Vec::with_capacity(alloc, ids.len())?;
     for id in ids {
-        let Some(k) = place_of(given, id) else {
-            continue;
-        };
-        asked.push(Arc::try_clone(&given[k])?)?;
+        if let Some(event) = given_with(given, id)? {
+            asked.push(event)?;
+        }
     }
     Ok(asked)
 }

@@ -2,14 +2,18 @@
 
 ghost use Rattle.std.specs.Prelude.{◌≡◌, ℕ, ◌+◌, ◌<◌, ◌^◌, ◌-◌, List, [], ◌∷◌, All, IfOk, IfErr, IfSome};
 
+use event_store::{Blank, Naming, open_store};
 use item_roll::Roll;
-use mirror_core::{End, SyncFault, Synced, sync_roll};
+use mirror_core::{End, SyncFault, Synced, sync_plan, sync_roll};
 use neg_codec::{Id, Item};
 use neg_session::{LocalPeer, Outcome, Pair, Peer, PeerFault, SessionFault, SessionLimits};
+use nostr_filter::Filter;
 use offer_table::Bases;
 use sharing::RELAYS;
 use std::alloc::Global;
+use std::marker::Brand;
 use std::rt::Clock;
+use std::sync::Wait;
 use std::sync::atomic::{AtomicU64, Ordering};
 use std::test::Fail;
 use std::thread;
@@ -150,29 +154,68 @@ fn needed_ids_are_shared_out(rt: HostRuntime) -> Result<(), Fail> {
 /// More peers than there may be, with the item 1 each.
 static MANY: [&[u8]; 257] = [b"\x01"; 257];
 
+/// Brings an empty store level with such relays.
+fn planned<J: Naming, D: Wait + Drop, R: Threads + Sync>(
+    rt: &R,
+    keep: D,
+    alloc: Global,
+    blank: Blank,
+    peers: &mut [LocalPeer],
+) -> Option<Result<Synced, SyncFault>>
+    requires book { blank ≡ J.book }
+    requires most { J.most ≡ 1000000 }
+    requires ready { All (λ p. p.faults < 2 ^ 64 - 1) peers.old }
+{
+    let (_desk, mut readers) = open_store::<J, D>(keep, alloc, blank, 1).ok()?;
+    let mut reader = readers.pop()?;
+    let snapshot = reader.pin(alloc, &Filter::all()).ok()?;
+    let (bases, limits) = (Bases::none(), SessionLimits::default());
+    Some(sync_plan(rt, alloc, peers, &snapshot, &bases, &limits))
+}
+
+/// The same, where the store is named.
+fn synced_whole<R: Threads + Wait + Sync>(
+    rt: &R,
+    alloc: Global,
+    peers: &mut [LocalPeer],
+) -> Option<Result<Synced, SyncFault>>
+    requires ready { All (λ p. p.faults < 2 ^ 64 - 1) peers.old }
+{
+    planned::<Brand, &R, R>(rt, rt, alloc, Blank::new(), peers)
+}
+
+/// Whether the sessions with so many relays finished, of which one is to be asked for the item.
+fn all_share_out<R: Threads + Wait + Sync>(rt: &R, alloc: Global, relays: &[&[u8]]) -> bool {
+    let Some(mut peers) = peers_of(alloc, relays) else {
+        return false;
+    };
+    let done = synced_whole(rt, alloc, &mut peers);
+    done.is_some_and(|done| {
+        done.is_ok_and(|done| {
+            done.ends.len() == relays.len()
+                && all_finished(&done.ends)
+                && done.plan.least_max() == 1
+        })
+    })
+}
+
 #[test]
 fn more_than_64_relays_share_out(rt: HostRuntime) -> Result<(), Fail> {
-    let done = synced(&rt, rt.alloc(), &MANY[..65], b"", &[]);
-    assert!(rt;
-        done.is_some_and(|done| {
-            done.ends.len() == 65 && all_finished(&done.ends) && done.plan.least_max() == 1
-        })
-    );
+    let alloc = rt.alloc();
+    assert!(rt; all_share_out(&rt, alloc, &MANY[..65]) && all_share_out(&rt, alloc, &MANY[..256]));
     Ok(())
 }
 
 /// The fault where so many relays are asked, of which none was.
-fn refused<R: Threads + Sync>(rt: &R, alloc: Global, relays: &[&[u8]]) -> Option<SyncFault> {
-    let mine = roll_of(alloc, b"")?;
+fn refused<R: Threads + Wait + Sync>(rt: &R, alloc: Global, relays: &[&[u8]]) -> Option<SyncFault> {
     let mut peers = peers_of(alloc, relays)?;
-    let limits = SessionLimits::default();
-    let fault = sync_roll(rt, alloc, &mut peers, &mine, &Bases::none(), &limits).err();
+    let done = synced_whole(rt, alloc, &mut peers)?;
     for peer in &peers {
         if !peer.pairs().is_empty() {
             return None;
         }
     }
-    fault
+    done.err()
 }
 
 #[test]

@@ -81,7 +81,6 @@ impl Entry {
         ensures { result ≡ matches_of filter.now self.now.1 }
     {
         let Rank { time, id, .. } = self.rank;
-        filter.meets(&id, &self.author, self.kind, time.0)
-            && filter.meets_tags(&self.event)
+        filter.meets(&id, &self.author, self.kind, time.0) && filter.meets_tags(&self.event)
     }
 }

@@ -71,10 +71,10 @@ impl Filter {
     pub fn meets_tags(&self, event: &Event) -> bool
         ensures value { result ≡ list_all (tags_meet event.now.draft.tags) self.now.tags }
     {
-        self.tags
-            .as_slice()
-            .iter()
-            .all(|condition| condition_met(condition, event.draft().tags.as_slice()))
+        self.tags.as_slice().iter().all(|condition| condition_met(
+            condition,
+            event.draft().tags.as_slice(),
+        ))
     }
 
     fn is_within(&self, time: u64) -> bool

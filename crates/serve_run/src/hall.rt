@@ -7,14 +7,20 @@ use relay_core::RelayLimits;
 use std::alloc::Global;
 use std::net::{Net, TcpListener, TcpStream};
 use std::rt::Clock;
-use std::sync::atomic::{AtomicU64, Ordering};
+use std::sync::atomic::{AtomicBool, AtomicU64, Ordering};
 use std::sync::{Condvar, CondvarTimeouts, Mutex, Wait};
-use std::thread::Threads;
+use std::thread::{Threads, sleep};
 use std::time::Duration;
 use ws_link::serve_conn;
 
 /// For how many milliseconds it is tried to wake a worker that waits for a connection.
 const WAKING: u64 = 100;
+
+/// For how many milliseconds a worker pauses where no connection can be accepted, as where no descriptor is left.
+const PAUSE: u64 = 100;
+
+/// How often it is tried to accept one connection: for at least ten hours.
+const MOST_TRIES: usize = 360_000;
 
 /// Where so many connections come in, and the desk of the store that they are served from.
 #[derive(Drop)]
@@ -23,6 +29,8 @@ pub struct Hall<K> {
     conns: u64,
     // How many connections workers went for.
     begun: AtomicU64,
+    // Whether no further connections are taken.
+    closed: AtomicBool,
     push: Option<Duration>,
     timeout: Duration,
     desk: Mutex<K>,
@@ -45,6 +53,7 @@ impl<K> Hall<K> {
             listener,
             conns,
             begun: AtomicU64::new(0),
+            closed: AtomicBool::new(false),
             push,
             timeout,
             desk: Mutex::new(desk),
@@ -86,14 +95,23 @@ impl<K> Hall<K> {
         !waited.timed_out()
     }
 
-    // Waits for a connection, if one can be had.
-    fn accepted(&self) -> Option<Client> {
-        let (stream, _from) = self.listener.accept().ok()?;
-        Some(Client::new(stream, self.push, self.timeout))
+    // Waits for a connection, and pauses where none can be accepted, unless no further ones are taken.
+    fn accepted<C: Clock>(&self, clock: &C) -> Option<Client> {
+        for _ in 0..MOST_TRIES {
+            if let Ok((stream, _from)) = self.listener.accept() {
+                return Some(Client::new(stream, self.push, self.timeout));
+            }
+            if self.closed.load(Ordering::SeqCst) {
+                return None;
+            }
+            sleep(clock, Duration::from_millis(PAUSE));
+        }
+        None
     }
 
     /// Takes no further connections. Workers that wait for one, at most so many, are woken by connections that end at once.
     pub fn close<R: Net>(&self, rt: &R, waiting: usize) {
+        self.closed.store(true, Ordering::SeqCst);
         self.begun.store(self.conns, Ordering::SeqCst);
         let Ok(address) = self.listener.local_addr() else {
             return;
@@ -106,9 +124,10 @@ impl<K> Hall<K> {
 }
 
 /// Serves one connection after another, until none is left.
-fn serve_each<J: Naming, D: Wait + Drop, R: Wait>(
+fn serve_each<J: Naming, D: Wait + Drop, R: Wait, C: Clock>(
     rt: &R,
     alloc: Global,
+    clock: &C,
     hall: &Hall<Desk<J, D>>,
     reader: &mut Reader<J>,
 ) {
@@ -116,26 +135,34 @@ fn serve_each<J: Naming, D: Wait + Drop, R: Wait>(
         if !hall.is_next() {
             return;
         }
-        if let Some(client) = hall.accepted() {
+        if let Some(client) = hall.accepted(clock) {
             let limits = RelayLimits::default();
             let _ = serve_conn(rt, alloc, client, reader, &hall.desk, limits);
         }
     }
 }
 
-/// Serves connections, until none is left.
-impl<J: Naming, D: Wait + Drop> Duty<Reader<J>> for Hall<Desk<J, D>> {
+/// Serves a hall's connections, until none is left.
+#[derive(Clone, Copy)]
+struct Serving<'c, 'h, C, K> {
+    clock: &'c C,
+    hall: &'h Hall<K>,
+}
+
+impl<'c, 'h, C: Clock, J: Naming, D: Wait + Drop> Duty<Reader<J>>
+    for Serving<'c, 'h, C, Desk<J, D>> {
     fn work<R: Wait>(&self, rt: &R, alloc: Global, reader: &mut Reader<J>) {
-        serve_each(rt, alloc, self, reader);
-        self.end_one(rt);
+        serve_each(rt, alloc, self.clock, self.hall, reader);
+        self.hall.end_one(rt);
     }
 }
 
-/// Serves the hall's connections, with a reader for each at a time: where all are lent none is accepted. A connection that
-/// can't be accepted, or ends by a fault, counts and touches no other. That is done beside other work in this thread, and gives
-/// what the work answers once both have ended. Where no thread can be made, connections are served after the work.
+/// Serves the hall's connections, with a reader for each at a time: where all are lent none is accepted. One that ends by a
+/// fault counts and touches no other. Where none can be accepted, it is tried again after a pause. That is done beside other
+/// work in this thread, and gives what the work answers once both have ended. Where no thread can be made, connections are
+/// served after the work.
 pub fn serve_beside<
-    R: Threads + Wait + Sync,
+    R: Threads + Wait + Clock + Sync,
     J: Naming + Send + Sync,
     D: Wait + Drop + Send,
     G: FnOnce() -> B,
@@ -144,5 +171,6 @@ pub fn serve_beside<
     requires { G.pre work }
     ensures { G.post work result }
 {
-    run_beside(rt, alloc, hall, readers, work)
+    let serving = Serving { clock: rt, hall };
+    run_beside(rt, alloc, &serving, readers, work)
 }

@@ -19,7 +19,7 @@ use tungstenite::{
 const MOST_BYTES: usize = 4_194_304;
 
 /// How many bytes one read of a stream asks for. Each connection keeps twice as many.
-const READ_BYTES: usize = 16_384;
+const READ_BYTES: usize = 4_096;
 
 /// Longer messages are refused before they are read.
 pub fn config() -> WebSocketConfig {
