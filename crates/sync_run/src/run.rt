@@ -2,6 +2,7 @@
 
 ghost use Rattle.std.specs.Prelude.{◌≡◌, ◌++◌, ℕ, List, None, length, IfOk, OnOk};
 ghost use Rattle.std.specs.Io.KnownBytes.{Appends};
+ghost use Rattle.std.specs.Thread.{IsSend};
 ghost use Rattle.fetch_plan.specs.Plan.{Planned};
 ghost use Rattle.sync_run.specs.Lines.{ends_text, plan_text, round_text, counts_text};
 ghost use Rattle.sync_run.specs.Printed.{IsSynced, IsSyncDone, Prints, PrintsOfSome, rounds_text};
@@ -351,13 +352,21 @@ fn run_serving<
         every: settings.save_every(),
         has: published(alloc, reader),
     };
-    let ran = serve_beside(rt, alloc, &hall, readers, || {
-        let ran = run_in_hall(
-            rt, alloc, settings, &hall, workers, reader, writer, progress,
-        );
-        save_meanwhile(rt, alloc, &hall, workers, schedule, reader, &file);
-        ran
-    });
+    let ran = serve_beside(
+        rt,
+        alloc,
+        &hall,
+        readers,
+        ||
+            requires { IsSend J.row × IsSend D.row × IsSend P.row }
+        {
+            let ran = run_in_hall(
+                rt, alloc, settings, &hall, workers, reader, writer, progress,
+            );
+            save_meanwhile(rt, alloc, &hall, workers, schedule, reader, &file);
+            ran
+        },
+    );
     let saved = save(rt, alloc, reader, file);
     drop(hall);
     ran?;
