@@ -67,11 +67,7 @@ fn given_with(given: &[Arc<Event>], id: &Id) -> Result<Option<Arc<Event>>, Alloc
 }
 
 /// Those of the given events that were asked for.
-fn asked_of(
-    alloc: Global,
-    ids: &[Id],
-    given: &[Arc<Event>],
-) -> Result<Vec<Arc<Event>>, AllocError>
+fn asked_of(alloc: Global, ids: &[Id], given: &[Arc<Event>]) -> Result<Vec<Arc<Event>>, AllocError>
     ensures { IfOk result (λ asked. All (λ event. IsAsked ids.now given.now (arc_value event)) asked.items) }
 {
     let mut asked = Vec::with_capacity(alloc, ids.len())?;

@@ -18,8 +18,8 @@ asked_one ids k d given o e lt is h =
 
 pub loop-id-preserved : goal.loop-id-preserved
 loop-id-preserved c = elim c.match-branch-3.branch [
-      | in-Some+in_ok-push w ↦
-          let asked = asked_one c.args.ids.now c.loop-id.id-index _ c.args.given.now _ w.in-Some.event c.loop-id-test.true w.in-Some.is c.in_ok-event.ensures in
-          rw w.asked-is (rw w.in_ok-push.ensures.items (All-push (λ event. IsAsked c.args.ids.now c.args.given.now (arc_value event)) c.loop-id.asked.items w.in-Some.event c.loop-id.invariant asked))
-      | in_default w ↦ rw w.asked-is c.loop-id.invariant
-    ]
+  | in-Some+in_ok-push w ↦
+      let asked = asked_one c.args.ids.now c.loop-id.id-index _ c.args.given.now _ w.in-Some.event c.loop-id-test.true w.in-Some.is c.in_ok-event.ensures in
+      rw w.asked-is (rw w.in_ok-push.ensures.items (All-push (λ event. IsAsked c.args.ids.now c.args.given.now (arc_value event)) c.loop-id.asked.items w.in-Some.event c.loop-id.invariant asked))
+  | in_default w ↦ rw w.asked-is c.loop-id.invariant
+]
