@@ -17,21 +17,22 @@ use event_store::{Naming, Placed};
 use fetch_plan::{Cell, Plan};
 use neg_codec::Id;
 use std::alloc::{AllocError, Global};
-use std::marker::Model;
+use std::marker::{Model, PhantomData};
 use std::snapshot::Snapshot;
 
 // The most lanes of a board.
 const MOST_LANES: usize = 1024;
 
-/// The board of a plan.
+/// The board of a plan, whose cells are done by events of the store with this name.
 #[derive(Drop)]
-pub struct Board {
+pub struct Board<J: Naming> {
     table: Table<u8, Records, Snapshot<Layout>, Rule, Global>,
     layout: Layout,
     alloc: Global,
+    of: PhantomData<J>,
 }
 
-impl Model for Board {
+impl<J: Naming> Model for Board<J> {
     ghost use Rattle.std.specs.Prelude.{◌≡◌, ◌+◌, length};
     ghost use Rattle.claim_board.specs.Views.{BoardView};
 
@@ -106,13 +107,13 @@ fn cells_of(alloc: Global, plan: &Plan) -> Result<Vec<(Id, u16)>, AllocError>
     Ok(cells)
 }
 
-impl Board {
+impl<J: Naming> Board<J> {
     // A board with a seat that stands for all lanes.
     fn open(
         alloc: Global,
         plan: &Plan,
         lanes: &[u16],
-    ) -> Result<(Board, Seat<u8, Records>), AllocError>
+    ) -> Result<(Board<J>, Seat<u8, Records>), AllocError>
         requires { length lanes.now ≤ 1024 }
         ensures board { IfOk result (λ r. (r.0.cells ≡ plan.now.gives) × (r.0.lanes ≡ lanes.now)) }
         ensures seat { IfOk result (λ r. (r.1.table_id ≡ r.0.board) × (r.1.me ≡ (named 0 lanes.now, []))) }
@@ -128,6 +129,7 @@ impl Board {
             table,
             layout,
             alloc,
+            of: PhantomData,
         };
         Ok((board, seat))
     }
@@ -146,7 +148,11 @@ impl Board {
     }
 
     /// A lane for each relay that is named, and all cells free.
-    pub fn new(alloc: Global, plan: &Plan, lanes: &[u16]) -> Result<(Board, Vec<Lane>), BoardFault>
+    pub fn new(
+        alloc: Global,
+        plan: &Plan,
+        lanes: &[u16],
+    ) -> Result<(Board<J>, Vec<Lane>), BoardFault>
         ensures board { IfOk result (λ r. (r.0.cells ≡ plan.now.gives) × (r.0.lanes ≡ lanes.now)) }
         ensures lanes { IfOk result (λ r. r.1.items ≡ map (placed_at r.0.board) (named 0 lanes.now)) }
         ensures count { IfOk result (λ _. (0 < length lanes.now) × (length lanes.now ≤ 1024)) }
@@ -210,8 +216,8 @@ impl Board {
         cell_of(found)
     }
 
-    /// The cell that the lane holds is done.
-    pub fn finish<J: Naming>(&self, lane: &mut Lane, cell: usize, placed: &Placed<J>)
+    /// The cell that the lane holds is done, since its event is in the board's store.
+    pub fn finish(&self, lane: &mut Lane, cell: usize, placed: &Placed<J>)
         requires board { lane.old.board ≡ self.now.board }
         requires cell { (cell < length self.now.cells) × Contains lane.old.own.held cell }
         requires placed { IsIdOf self.now.cells cell placed.now.id }
@@ -278,7 +284,7 @@ impl Board {
     }
 
     /// Ends the board, and tells what each cell is.
-    pub fn close(self, lane: Lane) -> Result<Vec<Cell>, (AllocError, Board, Lane)>
+    pub fn close(self, lane: Lane) -> Result<Vec<Cell>, (AllocError, Board<J>, Lane)>
         requires board { lane.board ≡ self.board }
         requires nothing { lane.own.held ≡ [] }
         ensures ok { IfOk result (λ v. (length v.items ≡ length self.cells) × ((i : ℕ) → i < length self.cells → Settled (length self.lanes) lane i (slice_index_or v.items i Free))) }
@@ -293,6 +299,7 @@ impl Board {
             table,
             layout,
             alloc: _,
+            of: _,
         } = self;
         let Lane {
             seat,

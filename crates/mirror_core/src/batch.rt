@@ -5,6 +5,7 @@ ghost use Rattle.mirror_core.specs.Batches.{Batched, Holds, SameLane};
 ghost use Rattle.mirror_core.specs.Asked.{AreIdsOf};
 
 use claim_board::{Board, Claimed, Lane};
+use event_store::Naming;
 use neg_codec::Id;
 use std::alloc::{AllocError, Global};
 
@@ -20,7 +21,7 @@ pub(crate) struct Batch {
 }
 
 /// Comes to the next cell, which is claimed if it is of the lane's relay.
-fn claim_next(board: &Board, lane: &mut Lane, batch: &mut Batch)
+fn claim_next<J: Naming>(board: &Board<J>, lane: &mut Lane, batch: &mut Batch)
     requires board { lane.old.board ≡ board.now.board }
     requires next { (batch.old.next < length board.now.cells) × (batch.old.next + 1 < 2 ^ 64) }
     requires room { (length batch.old.cells.items < batch.old.cells.cap) × (length batch.old.ids.items < batch.old.ids.cap) }
@@ -51,9 +52,9 @@ fn claim_next(board: &Board, lane: &mut Lane, batch: &mut Batch)
 }
 
 /// Claims cells of the lane's relay from the next one on, up to the most that are asked for at a time.
-pub(crate) fn fill(
+pub(crate) fn fill<J: Naming>(
     alloc: Global,
-    board: &Board,
+    board: &Board<J>,
     lane: &mut Lane,
     next: usize,
 ) -> Result<Batch, AllocError>
@@ -79,7 +80,12 @@ pub(crate) fn fill(
 }
 
 /// Gives the cells from a place on back, which are those that the lane holds.
-pub(crate) fn release_from(board: &Board, lane: &mut Lane, cells: &[usize], first: usize)
+pub(crate) fn release_from<J: Naming>(
+    board: &Board<J>,
+    lane: &mut Lane,
+    cells: &[usize],
+    first: usize,
+)
     requires board { lane.old.board ≡ board.now.board }
     requires holds { Holds (drop first cells.now) lane.old.own }
     requires within { (i : ℕ) → Contains (drop first cells.now) i → i < length board.now.cells }

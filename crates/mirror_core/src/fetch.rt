@@ -74,7 +74,7 @@ pub fn fetch_all<
 >(
     rt: &R,
     alloc: Global,
-    board: Board,
+    board: Board<J>,
     lanes: Vec<Lane>,
     sources: &mut [S],
     desk: &Mutex<Desk<J, D>>,

@@ -95,7 +95,7 @@ fn place_together<R: Wait, J: Naming, D: Wait + Drop>(
 /// Ends a cell that the lane holds: as done once its event is placed, or as missed where its source gave none.
 fn end_cell<R: Wait, J: Naming, D: Wait + Drop>(
     rt: &R,
-    board: &Board,
+    board: &Board<J>,
     desk: &Mutex<Desk<J, D>>,
     lane: &mut Lane,
     cell: usize,
@@ -128,7 +128,7 @@ fn end_cell<R: Wait, J: Naming, D: Wait + Drop>(
 fn settle<R: Wait, J: Naming, D: Wait + Drop>(
     rt: &R,
     alloc: Global,
-    board: &Board,
+    board: &Board<J>,
     desk: &Mutex<Desk<J, D>>,
     lane: &mut Lane,
     batch: &Batch,
@@ -159,7 +159,7 @@ fn settle<R: Wait, J: Naming, D: Wait + Drop>(
 fn fetch_batch<R: Wait, J: Naming, D: Wait + Drop, S: Source>(
     rt: &R,
     alloc: Global,
-    board: &Board,
+    board: &Board<J>,
     desk: &Mutex<Desk<J, D>>,
     lane: &mut Lane,
     source: &mut S,
@@ -199,7 +199,7 @@ fn fetch_batch<R: Wait, J: Naming, D: Wait + Drop, S: Source>(
 fn work_lane<R: Wait, J: Naming, D: Wait + Drop, S: Source>(
     rt: &R,
     alloc: Global,
-    board: &Board,
+    board: &Board<J>,
     desk: &Mutex<Desk<J, D>>,
     lane: &mut Lane,
     source: &mut S,
@@ -224,14 +224,14 @@ fn work_lane<R: Wait, J: Naming, D: Wait + Drop, S: Source>(
 }
 
 /// Works its lane over all cells of its relay, and places what comes through the desk.
-impl<J: Naming, D: Wait + Drop, S: Source> Duty<S, Stop<J>> for Mutex<Desk<J, D>> {
+impl<J: Naming, D: Wait + Drop, S: Source> Duty<J, S, Stop<J>> for Mutex<Desk<J, D>> {
     ghost did = { λ cells l m s t stop. Worked cells l m (S.log s) (S.log t) (S.faults s) (S.faults t) stop × S.becomes s t };
 
     fn work<R: Wait>(
         &self,
         rt: &R,
         alloc: Global,
-        board: &Board,
+        board: &Board<J>,
         lane: &mut Lane,
         source: &mut S,
     ) -> Stop<J> {

@@ -10,12 +10,13 @@ ghost use Rattle.mirror_core.specs.Closing.{AllBack, Closed, behind};
 
 use crate::source::Source;
 use claim_board::{Board, Cell, Lane};
+use event_store::Naming;
 use std::alloc::Global;
 use std::sync::Wait;
 use std::thread::{Threads, join_mut};
 
 /// What a worker does on its lane and with its source, and how it ends.
-pub(crate) trait Duty<S: Source, E> {
+pub(crate) trait Duty<J: Naming, S: Source, E> {
     /// A lane and a source came from the first to the second over these cells, and the worker ended so.
     ghost did: { List (Id × ℕ) → LaneView → LaneView → S → S → E → Type 0 };
 
@@ -23,7 +24,7 @@ pub(crate) trait Duty<S: Source, E> {
         &self,
         rt: &R,
         alloc: Global,
-        board: &Board,
+        board: &Board<J>,
         lane: &mut Lane,
         source: &mut S,
     ) -> E
@@ -37,13 +38,14 @@ pub(crate) trait Duty<S: Source, E> {
 #[cycle(workers)]
 pub(crate) fn run_workers<
     R: Threads + Wait + Sync,
+    J: Naming + Sync,
     S: Source + Send,
     E: Drop + Send,
-    H: Duty<S, E> + Sync,
+    H: Duty<J, S, E> + Sync,
 >(
     rt: &R,
     alloc: &Global,
-    board: &Board,
+    board: &Board<J>,
     duty: &H,
     lanes: &mut [Lane],
     sources: &mut [S],
@@ -68,18 +70,18 @@ pub(crate) fn run_workers<
     join_mut(
         rt,
         &mut ||
-            requires { IsSync R.row × IsSend S.row × IsSend E.row × IsSync H.row × (length front.now ≡ length near.now) × (length front.now ≡ length first.now) × All (λ l. (l.board ≡ board.now.board) × IsUnused l.own) front.now × All (λ s. S.faults s < 2 ^ 64 - 1) near.now }
+            requires { IsSync R.row × IsSync J.row × IsSend S.row × IsSend E.row × IsSync H.row × (length front.now ≡ length near.now) × (length front.now ≡ length first.now) × All (λ l. (l.board ≡ board.now.board) × IsUnused l.own) front.now × All (λ s. S.faults s < 2 ^ 64 - 1) near.now }
             ensures { AllSix (λ l m s t _ stop. H.did board.entry.now.cells l m s t stop) front.entry.now front.exit.now near.entry.now near.exit.now first.entry.now first.exit.now }
         { run_workers(rt, alloc, board, duty, front, near, first) },
         &mut ||
-            requires { IsSync R.row × IsSend S.row × IsSend E.row × IsSync H.row × (length back.now ≡ length far.now) × (length back.now ≡ length last.now) × All (λ l. (l.board ≡ board.now.board) × IsUnused l.own) back.now × All (λ s. S.faults s < 2 ^ 64 - 1) far.now }
+            requires { IsSync R.row × IsSync J.row × IsSend S.row × IsSend E.row × IsSync H.row × (length back.now ≡ length far.now) × (length back.now ≡ length last.now) × All (λ l. (l.board ≡ board.now.board) × IsUnused l.own) back.now × All (λ s. S.faults s < 2 ^ 64 - 1) far.now }
             ensures { AllSix (λ l m s t _ stop. H.did board.entry.now.cells l m s t stop) back.entry.now back.exit.now far.entry.now far.exit.now last.entry.now last.exit.now }
         { run_workers(rt, alloc, board, duty, back, far, last) },
     );
 }
 
 /// Closes the board once all its lanes have come back, of which there is one at least. None for want of memory.
-pub(crate) fn close_all(board: Board, mut lanes: Vec<Lane>) -> Option<Vec<Cell>>
+pub(crate) fn close_all<J: Naming>(board: Board<J>, mut lanes: Vec<Lane>) -> Option<Vec<Cell>>
     requires { AllBack board.board lanes.items }
     ensures { IfSome result (λ v. (keeper : LaneView) × (all_of keeper ≡ behind lanes.items) × Closed board.cells board.lanes keeper v.items) }
 {

@@ -4,7 +4,7 @@ use Rattle.mirror_core.specs.Asked.{AreIdsOf}
 use Rattle.mirror_core.proofs.batch.fill.Given as goal
 
 abbrev pub invariant-loop-batch : goal.invariant-loop-batch
-invariant-loop-batch l = record {
+invariant-loop-batch g l = record {
   board : l.lane.board ≡ l.board.board;
   same : SameLane l.fn.lane l.lane;
   ended : l.lane.own.ended ≡ l.fn.lane.own.ended;
@@ -17,4 +17,4 @@ invariant-loop-batch l = record {
 }
 
 abbrev pub decreases-loop-batch : goal.decreases-loop-batch
-decreases-loop-batch l = length l.board.cells - l.batch.next
+decreases-loop-batch g l = length l.board.cells - l.batch.next

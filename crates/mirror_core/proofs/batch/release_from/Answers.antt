@@ -9,7 +9,7 @@ use Rattle.mirror_core.proofs.Batches.{holds_rest, holds_none}
 use Rattle.mirror_core.proofs.batch.release_from.Goals as goal
 
 pub release-requires-clause-cell : goal.release-requires-clause-cell
-release-requires-clause-cell c =
+release-requires-clause-cell g c =
     let cells = c.args.cells.now in
     let k = c.loop-k.k in
     let x = get_or cells k 0 in
@@ -19,7 +19,7 @@ release-requires-clause-cell c =
     (c.loop-k.invariant.within x (subst (λ (z : List ℕ). Contains z x) (sym more) (in_first x rest)), (holds.held x).1 (in_first x rest))
 
 pub loop-k-preserved : goal.loop-k-preserved
-loop-k-preserved c =
+loop-k-preserved g c =
     let cells = c.args.cells.now in
     let k = c.loop-k.k in
     let x = get_or cells k 0 in
@@ -42,6 +42,6 @@ loop-k-preserved c =
     }
 
 pub returns-clause-held : goal.returns-clause-held
-returns-clause-held c =
+returns-clause-held g c =
     let none = drop_of_length-le c.args.cells.now (omega (arith, c.loop-k-test.false, c.loop-k.auto.k-end)) in
     holds_none c.loop-k.lane.own (subst (λ (z : List ℕ). Holds z c.loop-k.lane.own) none c.loop-k.invariant.holds)

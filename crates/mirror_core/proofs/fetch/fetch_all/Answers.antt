@@ -18,10 +18,10 @@ use Rattle.mirror_core.proofs.worker.Stop.TheSendSync as stop
 use Rattle.mirror_core.proofs.fetch.fetch_all.Goals as goal
 
 pub run_workers-requires-send-E : goal.run_workers-requires-send-E
-run_workers-requires-send-E g c κs within = param_send 2 _ (arg_send _ no _ (stop.the_send (param 1 g.row.J) g.J.Naming))
+run_workers-requires-send-E g c κs within = param_send 3 _ (arg_send _ no _ (stop.the_send (param 1 g.row.J) g.J.Naming))
 
 pub run_workers-requires-sync-H : goal.run_workers-requires-sync-H
-run_workers-requires-sync-H g c κs within = param_sync 3 _ (arg_sync _ no _ (locked_desk_sync (param 1 g.row.J) g.J.Naming (param 2 g.row.D) c.type_bounds.send-D))
+run_workers-requires-sync-H g c κs within = param_sync 4 _ (arg_sync _ no _ (locked_desk_sync (param 1 g.row.J) g.J.Naming (param 2 g.row.D) c.type_bounds.send-D))
 
 pub run_workers-requires-clause-unused : goal.run_workers-requires-clause-unused
 run_workers-requires-clause-unused g c κs within =

@@ -4,7 +4,7 @@ use Rattle.claim_board.specs.Views.{all_of}
 use Rattle.mirror_core.proofs.workers.close_all.Given as goal
 
 abbrev pub invariant-loop-lane : goal.invariant-loop-lane
-invariant-loop-lane l = record {
+invariant-loop-lane g l = record {
   board : l.keeper.board ≡ l.board.board;
   held : l.keeper.own.held ≡ [];
   back : AllBack l.board.board l.lanes.items;
@@ -12,4 +12,4 @@ invariant-loop-lane l = record {
 }
 
 abbrev pub decreases-loop-lane : goal.decreases-loop-lane
-decreases-loop-lane l = length l.lanes.items
+decreases-loop-lane g l = length l.lanes.items

@@ -12,7 +12,7 @@ use Rattle.claim_board.proofs.board.Board.claim.Goals as goal
 use Rattle.claim_board.proofs.board.Board.claim.Goals.{then-found-eq0, else-found-eq0}
 
 pub compare_exchange-found-requires : goal.compare_exchange-found-requires
-compare_exchange-found-requires c =
+compare_exchange-found-requires g c =
     let board = c.self.view_is in
     let lane = c.lane.view_is in
     let cells = ap (λ (z : BoardView). length z.cells) board in
@@ -25,17 +25,17 @@ compare_exchange-found-requires c =
     )
 
 pub cell_of-requires : goal.cell_of-requires
-cell_of-requires c = let t = after_claim _ _ _ _ _ _ c.lane.invariant c.compare_exchange-found.ensures.2 in (t.5 c.if-found-eq0.false).0
+cell_of-requires g c = let t = after_claim _ _ _ _ _ _ c.lane.invariant c.compare_exchange-found.ensures.2 in (t.5 c.if-found-eq0.false).0
 
 pub invariant_of-lane : goal.invariant_of-lane
-invariant_of-lane c = let t = after_claim _ _ _ _ _ _ c.lane.invariant c.compare_exchange-found.ensures.2 in seated _ _ _ _ t.0 c.lane.invariant t.1 t.2 t.3
+invariant_of-lane g c = let t = after_claim _ _ _ _ _ _ c.lane.invariant c.compare_exchange-found.ensures.2 in seated _ _ _ _ t.0 c.lane.invariant t.1 t.2 t.3
 
 pub returns-clause-same : goal.returns-clause-same
-returns-clause-same c = let t = after_claim _ _ _ _ _ _ c.lane.invariant c.compare_exchange-found.ensures.2 in
+returns-clause-same g c = let t = after_claim _ _ _ _ _ _ c.lane.invariant c.compare_exchange-found.ensures.2 in
     (c.compare_exchange-found.ensures.0 ∙ ap (λ (z : LaneView). z.board) c.lane.view_is, ap (λ (z : Me ℕ (List LaneRecord)). others_of z.0) t.1 ∙ ap (λ (z : LaneView). z.others) c.lane.view_is)
 
 pub returns-clause-claimed : goal.returns-clause-claimed
-returns-clause-claimed c = let t = after_claim _ _ _ _ _ _ c.lane.invariant c.compare_exchange-found.ensures.2 in
+returns-clause-claimed g c = let t = after_claim _ _ _ _ _ _ c.lane.invariant c.compare_exchange-found.ensures.2 in
     let own : own_of c.lane.inside.seat.me.0 ≡ c.args.lane.now.own = ap (λ (z : LaneView). z.own) c.lane.view_is in
     let f : t.0 ≡ own_of c.compare_exchange-found.new.seat.me.0 = sym (ap (λ (z : Me ℕ (List LaneRecord)). own_of z.0) t.1) in
     elim c.if-found-eq0.branch [

@@ -9,13 +9,13 @@ use Rattle.claim_board.proofs.Closing.{settles, or_at, told_more, honest}
 use Rattle.claim_board.proofs.board.Board.close.Goals as goal
 
 pub cell_of-requires : goal.cell_of-requires
-cell_of-requires c =
+cell_of-requires g c =
     let last = c.loop-i.invariant.last in
     let idle = idle_view c.lane.inside.seat.me _ _ c.args.lane c.lane.invariant (ap (λ (z : LaneView). all_of z) c.lane.view_is) c.requires.nothing in
     (settles (relays c.args.self.cells) c.args.self.lanes last.0 c.args.lane _ _ last.2 idle c.loop-i.i c.word.result (or_at (slots_items c.close_with-closed.result.words) (c.loop-i.i + 1) c.word.result c.word.ensures)).0
 
 pub loop-i-preserved : goal.loop-i-preserved
-loop-i-preserved c =
+loop-i-preserved g c =
     let old = c.loop-i.invariant in
     let idle = idle_view c.lane.inside.seat.me _ _ c.args.lane c.lane.invariant (ap (λ (z : LaneView). all_of z) c.lane.view_is) c.requires.nothing in
     let t = settles (relays c.args.self.cells) c.args.self.lanes old.last.0 c.args.lane _ _ old.last.2 idle c.loop-i.i c.word.result (or_at (slots_items c.close_with-closed.result.words) (c.loop-i.i + 1) c.word.result c.word.ensures) in
@@ -33,4 +33,4 @@ loop-i-preserved c =
     }
 
 pub returns-clause-honest : goal.returns-clause-honest
-returns-clause-honest c = let last = c.loop-i.invariant.last in honest c.args.self.cells c.args.self.lanes last.0 c.args.lane _ _ last.2
+returns-clause-honest g c = let last = c.loop-i.invariant.last in honest c.args.self.cells c.args.self.lanes last.0 c.args.lane _ _ last.2

@@ -7,7 +7,7 @@ use Rattle.claim_board.specs.Views.{all_of, Settled}
 use Rattle.claim_board.proofs.board.Board.close.Given as goal
 
 abbrev pub invariant-loop-i : goal.invariant-loop-i
-invariant-loop-i l = record {
+invariant-loop-i g l = record {
   last : (id : ℕ) × (xs : List ℕ) × Final (Seen (Kept (relays l.fn.self.cells) l.fn.self.lanes) id (all_of l.fn.lane)) (slots_items l.closed.words) xs;
   full : IsFull l.closed.words;
   wide : slots_len l.closed.words ≡ length l.fn.self.cells + 1;

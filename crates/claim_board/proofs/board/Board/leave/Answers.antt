@@ -8,7 +8,7 @@ use Rattle.claim_board.proofs.Lanes.{after_join}
 use Rattle.claim_board.proofs.board.Board.leave.Goals as goal
 
 pub join_seat-requires : goal.join_seat-requires
-join_seat-requires c =
+join_seat-requires g c =
     let board = ap (λ (z : BoardView). z.board) c.self.view_is in
     let words = c.self.invariant.1 in (
       ap (λ (z : LaneView). z.board) c.keeper.view_is ∙ (c.requires.board.0 ∙ sym board),
@@ -19,4 +19,4 @@ join_seat-requires c =
     )
 
 pub invariant_of-keeper : goal.invariant_of-keeper
-invariant_of-keeper c = (after_join _ _ _ _ _ _ _ c.keeper.invariant c.lane.invariant (ap (λ (z : LaneView). z.own.held) c.lane.view_is ∙ c.requires.nothing) c.join_seat.ensures.2).1
+invariant_of-keeper g c = (after_join _ _ _ _ _ _ _ c.keeper.invariant c.lane.invariant (ap (λ (z : LaneView). z.own.held) c.lane.view_is ∙ c.requires.nothing) c.join_seat.ensures.2).1

@@ -8,7 +8,7 @@ use Rattle.claim_board.proofs.Lanes.{may_look, after_look, seated}
 use Rattle.claim_board.proofs.board.Board.look.Goals as goal
 
 pub load-found-requires : goal.load-found-requires
-load-found-requires c =
+load-found-requires g c =
     let board = c.self.view_is in
     let lane = c.lane.view_is in
     let cells = ap (λ (z : BoardView). length z.cells) board in
@@ -20,17 +20,17 @@ load-found-requires c =
     )
 
 pub cell_of-requires : goal.cell_of-requires
-cell_of-requires c = (after_look _ _ _ _ _ _ c.lane.invariant c.load-found.ensures.2).4
+cell_of-requires g c = (after_look _ _ _ _ _ _ c.lane.invariant c.load-found.ensures.2).4
 
 pub invariant_of-lane : goal.invariant_of-lane
-invariant_of-lane c = let t = after_look _ _ _ _ _ _ c.lane.invariant c.load-found.ensures.2 in seated _ _ _ _ t.0 c.lane.invariant t.1 t.2 t.3
+invariant_of-lane g c = let t = after_look _ _ _ _ _ _ c.lane.invariant c.load-found.ensures.2 in seated _ _ _ _ t.0 c.lane.invariant t.1 t.2 t.3
 
 pub returns-clause-same : goal.returns-clause-same
-returns-clause-same c = let t = after_look _ _ _ _ _ _ c.lane.invariant c.load-found.ensures.2 in
+returns-clause-same g c = let t = after_look _ _ _ _ _ _ c.lane.invariant c.load-found.ensures.2 in
     (c.load-found.ensures.0 ∙ ap (λ (z : LaneView). z.board) c.lane.view_is, ap (λ (z : Me ℕ (List LaneRecord)). others_of z.0) t.1 ∙ ap (λ (z : LaneView). z.others) c.lane.view_is)
 
 pub returns-clause-seen : goal.returns-clause-seen
-returns-clause-seen c = let t = after_look _ _ _ _ _ _ c.lane.invariant c.load-found.ensures.2 in
+returns-clause-seen g c = let t = after_look _ _ _ _ _ _ c.lane.invariant c.load-found.ensures.2 in
     let own : own_of c.lane.inside.seat.me.0 ≡ c.args.lane.now.own = ap (λ (z : LaneView). z.own) c.lane.view_is in
     let f : t.0 ≡ own_of c.load-found.new.seat.me.0 = sym (ap (λ (z : Me ℕ (List LaneRecord)). own_of z.0) t.1) in
     subst (λ (z : LaneRecord × LaneRecord × Cell). Sees c.args.cell z.0 z.2 z.1) (λ k. (own k, f k, sym c.cell_of.ensures k)) t.5

@@ -7,7 +7,7 @@ use Rattle.claim_board.proofs.Deals.{all_zero}
 use Rattle.claim_board.proofs.board.Board.open.Goals as goal
 
 pub of_words-requires : goal.of_words-requires
-of_words-requires c =
+of_words-requires g c =
     let value = c.of-about.ensures in
     let cells : c.of-about.result.value.cells.items ≡ c.args.plan.now.gives = ap (λ (z : Layout). z.cells.items) value ∙ c.in_ok-cells_of.ensures.cells in
     let lanes : c.of-about.result.value.lanes.items ≡ c.args.lanes.now = ap (λ (z : Layout). z.lanes.items) value ∙ c.in_ok-copied.ensures in

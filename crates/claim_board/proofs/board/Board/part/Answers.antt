@@ -5,7 +5,7 @@ use Rattle.claim_board.proofs.Cuts.{splits}
 use Rattle.claim_board.proofs.board.Board.part.Goals as goal
 
 pub split_seat-seat-requires : goal.split_seat-seat-requires
-split_seat-seat-requires c =
+split_seat-seat-requires g c =
     let words = c.self.invariant.1 in (
       c.requires.board ∙ sym (ap (λ (z : BoardView). z.board) c.self.view_is),
       omega arith,

@@ -8,7 +8,7 @@ use Rattle.claim_board.proofs.Lanes.{may_release, after_release, seated}
 use Rattle.claim_board.proofs.board.Board.release.Goals as goal
 
 pub swap-requires : goal.swap-requires
-swap-requires c =
+swap-requires g c =
     let board = c.self.view_is in
     let lane = c.lane.view_is in
     let cells = ap (λ (z : BoardView). length z.cells) board in
@@ -20,10 +20,10 @@ swap-requires c =
     )
 
 pub invariant_of-lane : goal.invariant_of-lane
-invariant_of-lane c = let t = after_release _ _ _ _ _ c.lane.invariant c.swap.ensures.2 in seated _ _ _ _ _ c.lane.invariant t refl refl
+invariant_of-lane g c = let t = after_release _ _ _ _ _ c.lane.invariant c.swap.ensures.2 in seated _ _ _ _ _ c.lane.invariant t refl refl
 
 pub returns : goal.returns
-returns c = let t = after_release _ _ _ _ _ c.lane.invariant c.swap.ensures.2 in
+returns g c = let t = after_release _ _ _ _ _ c.lane.invariant c.swap.ensures.2 in
     let v = c.lane.view_is in
     λ k. record {
       board = (c.swap.ensures.0 ∙ ap (λ (z : LaneView). z.board) v) k;
