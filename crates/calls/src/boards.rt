@@ -11,6 +11,7 @@ use fetch_plan::plan;
 use offer_table::Bases;
 use round_core::{Answer, Round, RoundEvent};
 use std::alloc::Global;
+use std::marker::Brand;
 
 /// The names of the calls.
 pub const NAMES: &[&str] = &[
@@ -41,7 +42,7 @@ pub fn said_of(alloc: Global, name: &str) -> Option<Said> {
 
 fn made(alloc: Global) -> Option<Said> {
     let plan = plan(alloc, &table(alloc)?, &Bases::none()).ok()?;
-    match Board::new(alloc, &plan, &[0, 1, 2]) {
+    match Board::<Brand>::new(alloc, &plan, &[0, 1, 2]) {
         Ok((board, lanes)) => Said::ample(board.len() == 3 && lanes.len() == 3),
         Err(BoardFault::Memory) => Said::memory(gives(&plan, GIVES, 1)),
         Err(BoardFault::Lanes) => Said::wrong(),
@@ -49,7 +50,7 @@ fn made(alloc: Global) -> Option<Said> {
 }
 
 /// A board and its one lane, which holds nothing.
-fn board(alloc: Global) -> Option<(Board, Lane)>
+fn board(alloc: Global) -> Option<(Board<Brand>, Lane)>
     ensures { IfSome result (λ r. r.1 ≡ placed_at r.0.board (fresh 0 0)) }
 {
     let plan = plan(alloc, &table(alloc)?, &Bases::none()).ok()?;

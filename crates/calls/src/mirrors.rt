@@ -119,7 +119,7 @@ fn report(alloc: Global, relay: u16, event: &Event) -> Option<OfferTable> {
 }
 
 /// The board of what two relays have, the first event's relay with the second lane.
-fn board(alloc: Global, lower: &Event, upper: &Event) -> Option<(Board, Vec<Lane>)>
+fn board<J: Naming>(alloc: Global, lower: &Event, upper: &Event) -> Option<(Board<J>, Vec<Lane>)>
     ensures { IfSome result (λ r. r.1.items ≡ map (placed_at r.0.board) (named 0 r.0.lanes)) }
 {
     let table = report(alloc, 0, lower)?

@@ -24,7 +24,7 @@ fn plan_of(alloc: Global, id: &Id) -> Option<Plan> {
 }
 
 // The board of that plan, and its two lanes.
-fn two_lanes(alloc: Global, id: &Id) -> Option<(Board, Lane, Lane)>
+fn two_lanes<J: Naming>(alloc: Global, id: &Id) -> Option<(Board<J>, Lane, Lane)>
     ensures board { IfSome result (λ r. (length r.0.cells ≡ 1) × (slice_index (relays r.0.cells) 0 ≡ 0) × IsIdOf r.0.cells 0 id.now) }
     ensures lanes { IfSome result (λ r. (r.1 ≡ placed_at r.0.board (fresh 0 0)) × (r.2 ≡ placed_at r.0.board (fresh 1 0))) }
 {
@@ -44,7 +44,7 @@ fn two_lanes(alloc: Global, id: &Id) -> Option<(Board, Lane, Lane)>
 
 // What two lanes find that claim, release and finish the one cell, and what it is in the end.
 fn played<J: Naming>(
-    board: Board,
+    board: Board<J>,
     first: Lane,
     second: Lane,
     placed: &Placed<J>,
@@ -116,8 +116,8 @@ fn lanes_are_one_to_1024(rt: HostRuntime) -> Result<(), Fail> {
         panic!(rt; "no plan")
     };
     let lanes = [3; 1025];
-    assert!(rt; Board::new(alloc, &plan, &[]).err() == Some(BoardFault::Lanes));
-    assert!(rt; Board::new(alloc, &plan, &lanes).err() == Some(BoardFault::Lanes));
-    assert!(rt; Board::new(alloc, &plan, &lanes[1..]).is_ok());
+    assert!(rt; Board::<Brand>::new(alloc, &plan, &[]).err() == Some(BoardFault::Lanes));
+    assert!(rt; Board::<Brand>::new(alloc, &plan, &lanes).err() == Some(BoardFault::Lanes));
+    assert!(rt; Board::<Brand>::new(alloc, &plan, &lanes[1..]).is_ok());
     Ok(())
 }

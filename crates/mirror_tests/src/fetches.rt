@@ -121,7 +121,11 @@ impl<C: Clock> Source for Giving<'_, C> {
 }
 
 /// A plan's board with a lane for each source, and the lanes.
-fn board_of(alloc: Global, table: &OfferTable, lanes: &[u16]) -> Option<(Board, Vec<Lane>)>
+fn board_of<J: Naming>(
+    alloc: Global,
+    table: &OfferTable,
+    lanes: &[u16],
+) -> Option<(Board<J>, Vec<Lane>)>
     ensures { IfSome result (λ r. r.1.items ≡ map (placed_at r.0.board) (named 0 r.0.lanes)) }
 {
     let plan = plan(alloc, table, &Bases::none()).ok()?;
