@@ -12,6 +12,7 @@ pub const NAMES: &[&str] = &[
     "decode",
     "encode",
     "from_items",
+    "from_vec",
     "insert",
     "ids",
     "split listed",
@@ -26,6 +27,7 @@ pub fn said_of(alloc: Global, name: &str) -> Option<Said> {
         "decode" => decode_message(alloc),
         "encode" => encode_message(alloc),
         "from_items" => from_items(alloc),
+        "from_vec" => from_vec(alloc),
         "insert" => insert(alloc),
         "ids" => ids(alloc),
         "split listed" => split(alloc, 31),
@@ -120,6 +122,19 @@ pub fn has_items(roll: &Roll, items: &[Item]) -> bool {
 fn from_items(alloc: Global) -> Option<Said> {
     let items = line(alloc, 0, 3)?;
     match Roll::from_items(alloc, &[item(2), item(0), item(1)]) {
+        Ok(roll) => Said::ample(has_items(&roll, &items)),
+        Err(RollFault::Memory) => Said::memory(true),
+        Err(_) => Said::wrong(),
+    }
+}
+
+fn from_vec(alloc: Global) -> Option<Said> {
+    let items = line(alloc, 0, 3)?;
+    let mut given = Vec::new(alloc);
+    for time in [2, 0, 1] {
+        given.push(item(time)).ok()?;
+    }
+    match Roll::from_vec(alloc, given) {
         Ok(roll) => Said::ample(has_items(&roll, &items)),
         Err(RollFault::Memory) => Said::memory(true),
         Err(_) => Said::wrong(),

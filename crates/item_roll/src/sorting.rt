@@ -24,15 +24,22 @@ pub fn all_finite(items: &[Item]) -> bool
     true
 }
 
-/// The items, each before those that come after it.
-pub fn in_order(alloc: Global, items: &[Item]) -> Result<Vec<Item>, AllocError>
-    ensures all { IfOk result (λ v. IsPermutation items.now v.items) }
-    ensures rises { IfOk result (λ v. IsNonDecreasingBy place v.items) }
+/// A copy.
+pub fn copied(alloc: Global, items: &[Item]) -> Result<Vec<Item>, AllocError>
+    ensures { IfOk result (λ v. v.items ≡ items.now) }
 {
-    let mut sorted = Vec::new(alloc);
-    sorted.extend_from_slice(items)?;
-    sorted.sort_unstable_by(|a, b| a.compare(b));
-    Ok(sorted)
+    let mut copy = Vec::new(alloc);
+    copy.extend_from_slice(items)?;
+    Ok(copy)
+}
+
+/// The items, each before those that come after it.
+pub fn in_order(mut items: Vec<Item>) -> Vec<Item>
+    ensures all { IsPermutation items.items result.items }
+    ensures rises { IsNonDecreasingBy place result.items }
+{
+    items.sort_unstable_by(|a, b| a.compare(b));
+    items
 }
 
 /// Whether an item stands twice in items that are in order.
