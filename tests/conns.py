@@ -67,8 +67,11 @@ class Talker(Client):
         return texts
 
     def answers(self, text):
+        """What comes for a text. An event's answer is read before the ping goes out, which would overtake it: events wait for
+        those that came with them."""
         self.send(text.encode())
-        return self.sent_until_pong()
+        told = [shown(self.read())] if text.startswith('["EVENT",') else []
+        return told + self.sent_until_pong()
 
     def pushed(self, count):
         """The texts that come by themselves, where there are to be so many."""
@@ -179,6 +182,33 @@ def events_are_sent_once(path):
         (req("aa"), ["aa 3", "aa 2", "aa 1", eose("aa"), "a 3", "b 3"]),
         ('["CLOSE","c"]', []),
     ])
+
+
+DUPLICATE = "%d true duplicate: already have this event"
+
+
+def events_that_come_together(path):
+    """Texts in one write: each is answered in turn, and a request finds all that came before it."""
+    with tempfile.TemporaryDirectory() as folder:
+        relay, port = start(path, "serve", settings(folder, "relay", listen="127.0.0.1:0", conns=1))
+        try:
+            client = Talker(port)
+            texts = [gives(1), gives(2), gives(1), '["EVENT",{}]', '["EVENT",{"id":"%s"}]' % EVENTS["4"]["id"], gives(3), req("a"),
+                     gives(4)] + [gives(5)] * 130
+            client.send(*(text.encode() for text in texts))
+            wanted = ["1 true ", "2 true ", DUPLICATE % 1, '["NOTICE","invalid: bad message"]', "4 false invalid: bad event", "3 true ",
+                      "a 3", "a 2", "a 1", eose("a"), "4 true ", "5 true "] + [DUPLICATE % 5] * 129
+            told = [shown(client.read()) for _text in range(len(wanted) + 2)]
+            # What was published comes behind some of the answers.
+            same([text for text in told if text not in ("a 4", "a 5")], wanted)
+            same([text for text in told if text in ("a 4", "a 5")], ["a 4", "a 5"])
+            same(client.sent_until_pong(), [])
+            client.close()
+            same(relay.communicate(timeout=60), ("served 1\nevents 5\n", ""))
+            same(read(os.path.join(folder, "relay.jsonl")), [EVENTS[str(number)] for number in range(1, 6)])
+        finally:
+            relay.kill()
+            relay.communicate()
 
 
 def events_come_by_themselves(path):
@@ -424,8 +454,9 @@ def beginnings_of_messages(path):
 
 def main():
     path = program()
-    for part in (the_newest_are_chosen, events_are_sent_once, events_come_by_themselves, names_in_byte_order, subscriptions_end,
-                 texts_that_are_no_messages, sessions_keep_what_they_found, sessions_end, long_texts, beginnings_of_messages):
+    for part in (the_newest_are_chosen, events_are_sent_once, events_that_come_together, events_come_by_themselves,
+                 names_in_byte_order, subscriptions_end, texts_that_are_no_messages, sessions_keep_what_they_found,
+                 sessions_end, long_texts, beginnings_of_messages):
         part(path)
         print(part.__name__.replace("_", " "))
 

@@ -14,6 +14,7 @@ use std::thread::Threads;
 pub enum Call {
     Insert,
     InsertAll,
+    InsertEach,
     Pin,
     PinAll,
     Choose,
@@ -35,6 +36,7 @@ pub fn call_of(name: &str) -> Option<Call> {
     match name {
         "Desk::insert" => Some(Call::Insert),
         "Desk::insert_all" => Some(Call::InsertAll),
+        "Desk::insert_each" => Some(Call::InsertEach),
         "Reader::pin" => Some(Call::Pin),
         "Reader::pin all" => Some(Call::PinAll),
         "AllEvents::choose" => Some(Call::Choose),
@@ -59,6 +61,7 @@ fn held(call: Call) -> usize {
         Call::Fetch | Call::InsertLines => 0,
         Call::Insert
         | Call::InsertAll
+        | Call::InsertEach
         | Call::Pin
         | Call::PinAll
         | Call::Choose
@@ -86,6 +89,7 @@ pub fn over_store<J: Naming + Send + Sync, R: Threads + Wait + Sync>(
         Call::WriteLines => jobs::write(alloc, &mut reader),
         Call::Insert => stores::insert(rt, alloc, &mut desk, &mut reader),
         Call::InsertAll => stores::insert_all(rt, alloc, &mut desk, &mut reader),
+        Call::InsertEach => stores::insert_each(rt, alloc, &mut desk, &mut reader),
         Call::Pin => stores::pin(alloc, &mut reader, r##"{"kinds":[7]}"##, 1),
         Call::PinAll => stores::pin(alloc, &mut reader, "{}", 2),
         Call::Choose => stores::chosen(alloc, &mut reader),

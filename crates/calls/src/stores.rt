@@ -5,7 +5,7 @@ ghost use Rattle.std.specs.Prelude.{◌≡◌};
 use crate::events::{event, event_id, filter};
 use crate::said::Said;
 use event_store::{
-    Blank, Desk, EventList, InsertFault, Naming, PinFault, Reader, StoreFault, open_small,
+    Blank, Desk, EventList, InsertFault, Naming, PinFault, Placed, Reader, StoreFault, open_small,
     open_store,
 };
 use std::alloc::Global;
@@ -15,6 +15,7 @@ use std::sync::Wait;
 pub const NAMES: &[&str] = &[
     "Desk::insert",
     "Desk::insert_all",
+    "Desk::insert_each",
     "Reader::pin",
     "Reader::pin all",
     "AllEvents::choose",
@@ -133,6 +134,35 @@ pub fn insert_all<J: Naming, R: Wait>(
             is_pin_kept
                 && publishes(alloc, reader, 2)
                 && desk.insert_all(rt, &events).is_ok()
+                && publishes(alloc, reader, 3),
+        ),
+    }
+}
+
+/// Whether of three events that were placed the second alone was new.
+fn is_second_fresh<J: Naming>(placed: &[Placed<J>]) -> bool {
+    match placed {
+        [first, second, third] => !first.is_fresh() && second.is_fresh() && !third.is_fresh(),
+        _ => false,
+    }
+}
+
+/// Inserts the same as `insert_all` does, and is told of each.
+pub fn insert_each<J: Naming, R: Wait>(
+    rt: &R,
+    alloc: Global,
+    desk: &mut Desk<J, &R>,
+    reader: &mut Reader<J>,
+) -> Option<Said> {
+    let mut events = Vec::new(alloc);
+    for at in [0, 2, 2] {
+        events.push(event(alloc, at)?).ok()?;
+    }
+    match desk.insert_each(rt, &events) {
+        Ok(placed) => Said::ample(is_second_fresh(&placed) && publishes(alloc, reader, 3)),
+        Err(_) => Said::memory(
+            publishes(alloc, reader, 2)
+                && desk.insert_each(rt, &events).is_ok()
                 && publishes(alloc, reader, 3),
         ),
     }

@@ -1,5 +1,5 @@
 -- Lists of events, as a store has them.
-use Rattle.std.specs.Prelude.{◌≢◌, ℕ, ◌+◌, Bool, List, [], ◌∷◌, ◌++◌, AllPairs, filter, filter_map, Option, None, Some, bytes_eq, if◌then◌else◌}
+use Rattle.std.specs.Prelude.{◌≢◌, ℕ, ◌+◌, Bool, List, [], ◌∷◌, ◌++◌, AllPairs, filter, filter_map, Option, None, Some, bytes_eq, not, if◌then◌else◌}
 use Rattle.std.specs.List.{list_any}
 use Rattle.neg_codec.specs.declared.Id.{Id}
 use Rattle.neg_codec.specs.declared.Item.{Item}
@@ -23,6 +23,11 @@ with_event e events = if has_id e.id events then events else events ++ e ∷ []
 abbrev pub with_events : List EventView → List EventView → List EventView
 with_events [] events = events
 with_events (e ∷ more) events = with_events more (with_event e events)
+
+-- whether each event of a list in turn is new behind others
+abbrev pub freshness : List EventView → List EventView → List Bool
+freshness [] events = []
+freshness (e ∷ more) events = not (has_id e.id events) ∷ freshness more (with_event e events)
 
 -- no two have one id
 abbrev pub Distinct : List EventView → Type 0
@@ -48,6 +53,11 @@ pub record Placing : Type 0 where
 
 abbrev pub placing : Id → Bool → List EventView → Placing
 placing id fresh list = record { id = id; fresh = fresh; list = list }
+
+-- what is told of each event of a list in turn, put behind others, where all are published at once
+abbrev pub placings : List EventView → List EventView → List EventView → List Placing
+placings [] events list = []
+placings (e ∷ more) events list = placing e.id (not (has_id e.id events)) list ∷ placings more (with_event e events) list
 
 -- what was pinned: the published list, its events that match, and their items
 pub record Pinned : Type 0 where

@@ -1,7 +1,7 @@
 //! The one who inserts.
 ghost use Rattle.std.specs.Prelude.{◌≡◌, ◌<◌, ◌≤◌, not, false, [], ◌∷◌, ◌++◌, length, map, take, IfOk, IfErr, OnErr, if◌then◌else◌};
 ghost use Rattle.std.specs.Arc.{arc_value};
-ghost use Rattle.event_store.specs.Events.{has_id, Distinct, with_events};
+ghost use Rattle.event_store.specs.Events.{has_id, Distinct, placings, with_events};
 ghost use Rattle.event_store.specs.Faults.{RefusesRightly, EndsRightly};
 ghost use mathlib.Core.List.{IsPrefix};
 
@@ -177,9 +177,31 @@ impl<J: Naming, R: Wait + Drop> Desk<J, R> {
         ensures err { OnErr result (self.new ≡ self.old) }
     {
         let state = self.pen.published().state();
-        let (state, taken) = state.with_all(self.alloc, events, self.most)?;
+        let (state, fresh) = state.with_all(self.alloc, events, self.most)?;
         self.show(rt, state)?;
-        Ok(taken)
+        Ok(fresh.len())
+    }
+
+    /// Publishes as `insert_all` does, and tells of each event that it took that it is published, and whether it is new: it isn't
+    /// where its id was published before, or stands before it in the list.
+    pub fn insert_each<W: Wait>(
+        &mut self,
+        rt: &W,
+        events: &[Arc<Event>],
+    ) -> Result<Vec<Placed<J>>, AllocError>
+        ensures placed { IfOk result (λ v. v.items ≡ placings (take (length v.items) (map arc_value events.now)) self.old self.new) }
+        ensures list { IfOk result (λ v. self.new ≡ with_events (take (length v.items) (map arc_value events.now)) self.old) }
+        ensures ends { IfOk result (λ v. EndsRightly J.most (map arc_value events.now) (length v.items) self.new) }
+        ensures err { OnErr result (self.new ≡ self.old) }
+    {
+        let state = self.pen.published().state();
+        let (state, fresh) = state.with_all(self.alloc, events, self.most)?;
+        let mut placed = Vec::with_capacity(self.alloc, fresh.len())?;
+        let front = self.show(rt, state)?;
+        for at in 0..fresh.len() {
+            placed.push_reserved(Placed::new(events[at].id(), fresh[at], front.again()));
+        }
+        Ok(placed)
     }
 
     fn put<W: Wait>(&mut self, rt: &W, event: &Arc<Event>) -> Result<Front<J>, AllocError>

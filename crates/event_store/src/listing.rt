@@ -2,7 +2,7 @@
 ghost use Rattle.std.specs.Prelude.{◌≡◌, ◌<◌, ◌≤◌, false, [], ◌∷◌, ◌++◌, length, map, take, IfOk};
 ghost use Rattle.std.specs.Arc.{arc_value};
 ghost use Rattle.newest.specs.Newest.{AreOf};
-ghost use Rattle.event_store.specs.Events.{has_id, place_in, Distinct, with_events};
+ghost use Rattle.event_store.specs.Events.{has_id, place_in, Distinct, freshness, with_events};
 ghost use Rattle.event_store.specs.Faults.{EndsRightly};
 
 use crate::event_list::EventList;
@@ -108,30 +108,35 @@ impl Listing {
     }
 
     /// These events, and behind them the others in their order, except those whose ids are there by then. It ends before the
-    /// first new one that would be more than so many, and says how many of the others it took.
+    /// first new one that would be more than so many, and says of each that it took whether it is new.
     pub fn with_all(
         self,
         alloc: Global,
         others: &[Arc<Event>],
         most: usize,
-    ) -> Result<(Listing, usize), AllocError>
+    ) -> Result<(Listing, Vec<bool>), AllocError>
         requires few { most ≤ 1000000 }
         requires room { length self ≤ most }
-        ensures list { IfOk result (λ r. r.0 ≡ with_events (take r.1 (map arc_value others.now)) self) }
+        ensures list { IfOk result (λ r. r.0 ≡ with_events (take (length r.1.items) (map arc_value others.now)) self) }
+        ensures fresh { IfOk result (λ r. r.1.items ≡ freshness (take (length r.1.items) (map arc_value others.now)) self) }
+        ensures few { IfOk result (λ r. length r.1.items ≤ length others.now) }
         ensures room { IfOk result (λ r. length r.0 ≤ most) }
-        ensures ends { IfOk result (λ r. EndsRightly most (map arc_value others.now) r.1 r.0) }
+        ensures ends { IfOk result (λ r. EndsRightly most (map arc_value others.now) (length r.1.items) r.0) }
     {
         let mut all = self;
+        let mut fresh = Vec::with_capacity(alloc, others.len())?;
         for at in 0..others.len() {
             let other = &others[at];
             if all.has(&other.id()) {
+                fresh.push_reserved(false);
                 continue;
             }
             if all.events().len() >= most {
-                return Ok((all, at));
+                return Ok((all, fresh));
             }
             all = all.with(alloc, other)?;
+            fresh.push_reserved(true);
         }
-        Ok((all, others.len()))
+        Ok((all, fresh))
     }
 }

@@ -3,7 +3,7 @@ ghost use Rattle.std.specs.Prelude.{◌≡◌, ◌<◌, ◌≤◌, false, [], �
 ghost use mathlib.Core.List.{IsPrefix};
 ghost use Rattle.nostr_event.specs.EventView.{item_of};
 ghost use Rattle.std.specs.Arc.{arc_value};
-ghost use Rattle.event_store.specs.Events.{has_id, place_in, Distinct, with_events};
+ghost use Rattle.event_store.specs.Events.{has_id, place_in, Distinct, freshness, with_events};
 ghost use Rattle.event_store.specs.Faults.{EndsRightly};
 ghost use Rattle.newest.specs.Newest.{AreOf};
 ghost use Rattle.event_store.specs.States.{IsRolled, IsIndexed};
@@ -131,21 +131,23 @@ impl State {
     }
 
     /// These events, and behind them the others in their order, except those whose ids are there by then. It ends before the
-    /// first new one that would be more than so many, and says how many of the others it took.
+    /// first new one that would be more than so many, and says of each that it took whether it is new.
     pub fn with_all(
         &self,
         alloc: Global,
         others: &[Arc<Event>],
         most: usize,
-    ) -> Result<(State, usize), AllocError>
+    ) -> Result<(State, Vec<bool>), AllocError>
         requires few { most ≤ 1000000 }
         requires room { length self.now ≤ most }
-        ensures list { IfOk result (λ r. r.0 ≡ with_events (take r.1 (map arc_value others.now)) self.now) }
+        ensures list { IfOk result (λ r. r.0 ≡ with_events (take (length r.1.items) (map arc_value others.now)) self.now) }
+        ensures fresh { IfOk result (λ r. r.1.items ≡ freshness (take (length r.1.items) (map arc_value others.now)) self.now) }
+        ensures few { IfOk result (λ r. length r.1.items ≤ length others.now) }
         ensures room { IfOk result (λ r. length r.0 ≤ most) }
-        ensures ends { IfOk result (λ r. EndsRightly most (map arc_value others.now) r.1 r.0) }
+        ensures ends { IfOk result (λ r. EndsRightly most (map arc_value others.now) (length r.1.items) r.0) }
     {
         let listing = self.listing.share()?;
-        let (listing, taken) = listing.with_all(alloc, others, most)?;
-        Ok((self.grown(alloc, listing)?, taken))
+        let (listing, fresh) = listing.with_all(alloc, others, most)?;
+        Ok((self.grown(alloc, listing)?, fresh))
     }
 }

@@ -43,6 +43,16 @@ fn insert<J: Naming, D: Wait + Drop, R: Wait>(
     desk.insert(rt, event(alloc, number, time_of(number))?).ok()
 }
 
+// The events of these numbers.
+fn events_of(alloc: Global, numbers: &[u64]) -> Option<Vec<Arc<Event>>> {
+    let mut events = Vec::new(alloc);
+    for number in numbers {
+        let event = event(alloc, *number, time_of(*number))?;
+        events.push(event).ok()?;
+    }
+    Some(events)
+}
+
 // Inserts the events of these numbers at once, and says how many of them were taken.
 fn taken_at_once<J: Naming, D: Wait + Drop, R: Wait>(
     rt: &R,
@@ -50,12 +60,23 @@ fn taken_at_once<J: Naming, D: Wait + Drop, R: Wait>(
     desk: &mut Desk<J, D>,
     numbers: &[u64],
 ) -> Option<usize> {
-    let mut events = Vec::new(alloc);
-    for number in numbers {
-        let event = event(alloc, *number, time_of(*number))?;
-        events.push(event).ok()?;
+    desk.insert_all(rt, &events_of(alloc, numbers)?).ok()
+}
+
+// Inserts the events of these numbers at once, and says of each that was taken whether it was new.
+fn told_at_once<J: Naming, D: Wait + Drop, R: Wait>(
+    rt: &R,
+    alloc: Global,
+    desk: &mut Desk<J, D>,
+    numbers: &[u64],
+) -> Option<Vec<bool>> {
+    let placed = desk.insert_each(rt, &events_of(alloc, numbers)?).ok()?;
+    let mut told = Vec::new(alloc);
+    for (one, number) in placed.iter().zip(numbers) {
+        let is_named = one.id() == event(alloc, *number, time_of(*number))?.id();
+        told.push(is_named && one.is_fresh()).ok()?;
     }
-    desk.insert_all(rt, &events).ok()
+    Some(told)
 }
 
 // The numbers from 0 to 99 have the times from 0 to 99.
@@ -337,30 +358,32 @@ fn fills<J: Naming, D: Wait + Drop, R: Wait>(
 fn many_at_once(rt: HostRuntime) -> Result<(), Fail> {
     assert_eq!(rt;
         fills_at_once::<Brand, _, _>(&rt, &rt, rt.alloc(), Blank::new()),
-        Some((5, 2, true))
+        Some((true, 2, true))
     );
     Ok(())
 }
 
-// A store that takes four events: how many it takes of a list with repeats, and of one that is too long for it, and whether it has
-// the first of the new ones then.
+// A store that takes four events: whether it tells which of a list with repeats are new, and takes no more once it is full; how
+// many it takes of a list that is too long for it, and whether it has the first of the new ones then.
 fn fills_at_once<J: Naming, D: Wait + Drop, R: Wait>(
     rt: &R,
     keep: D,
     alloc: Global,
     blank: Blank,
-) -> Option<(usize, usize, bool)>
+) -> Option<(bool, usize, bool)>
     requires book { blank ≡ J.book }
     requires most { J.most ≡ 4 }
 {
     let (mut desk, mut readers) = open_small::<J, D>(keep, alloc, blank, 1, 4).ok()?;
     insert(rt, alloc, &mut desk, 0)?;
-    let repeats = taken_at_once(rt, alloc, &mut desk, &[0, 1, 1, 2, 0])?;
+    let repeats = told_at_once(rt, alloc, &mut desk, &[0, 1, 1, 2, 0])?;
     let more = taken_at_once(rt, alloc, &mut desk, &[3, 2, 4, 5])?;
+    let full = told_at_once(rt, alloc, &mut desk, &[1, 6, 2])?;
     let all = readers.pop()?.all().ok()?;
     let times = times_of(alloc, all.events())?;
     Some((
-        repeats,
+        repeats.as_slice() == [false, true, false, true, false].as_slice()
+            && full.as_slice() == [false].as_slice(),
         more,
         times.as_slice() == [0, 37, 74, 11].as_slice(),
     ))

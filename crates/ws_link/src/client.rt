@@ -18,13 +18,13 @@ use tungstenite::{
 /// answered has to be read first.
 const MOST_BYTES: usize = 4_194_304;
 
-/// How many bytes one read of a stream asks for. Each connection keeps twice as many.
-const READ_BYTES: usize = 4_096;
+/// How many bytes one read of a stream asks for, where much is to come. Each connection keeps twice as many.
+pub const MANY_BYTES: usize = 16_384;
 
-/// Longer messages are refused before they are read.
-pub fn config() -> WebSocketConfig {
+/// Longer messages are refused before they are read. One read asks for so many bytes.
+pub fn config(read_bytes: usize) -> WebSocketConfig {
     WebSocketConfig::default()
-        .read_buffer_size(READ_BYTES)
+        .read_buffer_size(read_bytes)
         .max_message_size(Some(MOST_BYTES))
         .max_frame_size(Some(MOST_BYTES))
 }
@@ -42,7 +42,7 @@ pub fn connected<S: Read + Write + Drop, R: RandomSource + Drop>(
     let request = request_of(alloc, uri.as_str())?;
     match client(alloc, source, request, stream) {
         Ok((mut socket, _response)) => {
-            socket.set_config(config());
+            socket.set_config(config(MANY_BYTES));
             Ok(socket)
         }
         Err(HandshakeError::Failure(error)) => Err(error.into()),

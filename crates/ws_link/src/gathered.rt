@@ -12,10 +12,12 @@ const MANY: usize = 32_768;
 
 /// A stream whose writes wait until it is read, until many bytes wait or come at once, or for `send`. A flush sends nothing. So
 /// the short answers to messages that came together leave together. Once a call of `send` has failed, the stream is of no use.
+/// While it is held, its reads answer `WouldBlock`, and the stream isn't read.
 #[derive(Drop)]
 pub struct Gathered<S> {
     stream: S,
     waiting: Vec<u8>,
+    is_held: bool,
 }
 
 impl<S> Gathered<S> {
@@ -23,7 +25,13 @@ impl<S> Gathered<S> {
         Gathered {
             stream,
             waiting: Vec::new(alloc),
+            is_held: false,
         }
+    }
+
+    /// Whether it is held from now on.
+    pub fn hold(&mut self, is_held: bool) {
+        self.is_held = is_held;
     }
 }
 
@@ -57,6 +65,9 @@ fn broken(error: io::Error) -> io::Error {
 
 impl<S: Read + Write> Read for Gathered<S> {
     fn read(&mut self, buf: &mut [u8]) -> io::Result<usize> {
+        if self.is_held {
+            return Err(io::Error::from(ErrorKind::WouldBlock));
+        }
         self.send()?;
         self.stream.read(buf)
     }

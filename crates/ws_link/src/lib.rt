@@ -7,6 +7,7 @@ mod gathered;
 mod peer;
 mod serve;
 mod source;
+mod together;
 
 pub use fault::LinkFault;
 pub use peer::WsPeer;

@@ -3,9 +3,10 @@ ghost use Rattle.std.specs.Prelude.{◌≡◌, ◌≤◌, IfOk, IfErr};
 ghost use mathlib.Core.List.{IsPrefix};
 ghost use Rattle.ws_link.specs.Faults.{IsOfStream};
 
-use crate::client::{close, config};
+use crate::client::{MANY_BYTES, close, config};
 use crate::fault::LinkFault;
 use crate::gathered::Gathered;
+use crate::together::{answer_all, take_event};
 use event_store::{Desk, Naming, Reader};
 use nostr_event::{Event, Text};
 use nostr_wire::{FromRelay, write_relay_in};
@@ -18,6 +19,9 @@ use tungstenite::{
     Bytes, Error, HandshakeError, MaskKeys, Message, NoCallback, NoMask, Utf8Bytes, WebSocket,
 };
 
+/// How many bytes one read asks for, until the client has sent an event.
+const FEW_BYTES: usize = 4_096;
+
 /// How often a connection is read.
 const MOST_READS: u64 = 1_000_000;
 
@@ -26,8 +30,9 @@ const MOST_ROUNDS: u32 = 100;
 
 /// Does the server's handshake, and serves the client (NIP-01, NIP-77) until it closes, or until the connection has been read
 /// 1,000,000 times: then it closes the connection itself. It gives the number of texts served. After each message, and where a
-/// read answers `WouldBlock` or `TimedOut`, it sends the client what was published for it. Short answers to messages that
-/// came together are sent together, before more is read. The desk is locked for one insert at a time.
+/// read answers `WouldBlock` or `TimedOut`, it sends the client what was published for it. Events that came together, at most 64,
+/// are put into the store together, and short answers to messages that came together are sent together, before more is read.
+/// The desk is locked for one such insert at a time.
 pub fn serve_conn<W: Wait, S: Read + Write + Drop, J: Naming, D: Wait + Drop>(
     rt: &W,
     alloc: Global,
@@ -55,7 +60,7 @@ pub fn serve_conn<W: Wait, S: Read + Write + Drop, J: Naming, D: Wait + Drop>(
 fn serve<W: Wait, S: Read + Write + Drop, K: MaskKeys + Drop, J: Naming, D: Wait + Drop>(
     rt: &W,
     alloc: Global,
-    socket: &mut WebSocket<S, K>,
+    socket: &mut WebSocket<Gathered<S>, K>,
     reader: &mut Reader<J>,
     desk: &Mutex<Desk<J, D>>,
     limits: RelayLimits,
@@ -65,14 +70,33 @@ fn serve<W: Wait, S: Read + Write + Drop, K: MaskKeys + Drop, J: Naming, D: Wait
     ensures reader { IsPrefix reader.old reader.new }
 {
     let mut conn = Conn::new(alloc, limits);
+    let mut events = Vec::new(alloc);
+    let mut reads = 0;
     let mut texts = 0;
-    for _read in 0..MOST_READS {
-        match go_on(rt, alloc, socket, &mut conn, reader, desk)? {
-            Went::Text => texts += 1,
-            Went::Other => {}
+    // A turn that reads nothing comes behind one that has read an event.
+    for _turn in 0..2 * MOST_READS {
+        if reads == MOST_READS {
+            break;
+        }
+        // While events wait, only what has come with them is read.
+        let is_held = !events.is_empty();
+        socket.get_mut().hold(is_held);
+        if is_held {
+            // Those who send events send many.
+            socket.set_config(config(MANY_BYTES));
+        }
+        match go_on(rt, alloc, socket, &mut conn, reader, desk, &mut events)? {
+            Went::Text => {
+                reads += 1;
+                texts += 1;
+            }
+            Went::Nothing if is_held => {}
+            Went::Nothing | Went::Other => reads += 1,
             Went::Closed => return Ok(texts),
         }
     }
+    answer_all(rt, alloc, socket, &mut conn, reader, desk, &mut events)?;
+    socket.get_mut().hold(false);
     close(socket)?;
     Ok(texts)
 }
@@ -84,7 +108,7 @@ fn accepted<S: Read + Write + Drop>(
 ) -> Result<WebSocket<S, NoMask>, LinkFault>
     ensures { IfErr result IsOfStream }
 {
-    let mut next = start(alloc, stream, NoCallback, Some(config()));
+    let mut next = start(alloc, stream, NoCallback, Some(config(FEW_BYTES)));
     for _round in 0..MOST_ROUNDS {
         match next.handshake() {
             Ok(socket) => return Ok(socket),
@@ -99,8 +123,10 @@ fn accepted<S: Read + Write + Drop>(
 #[derive(Clone, Copy, Debug, PartialEq, Eq)]
 enum Went {
     Text,
-    /// Another message, or none.
+    /// Another message.
     Other,
+    /// A ping, a pong, or nothing.
+    Nothing,
     /// The client has closed.
     Closed,
 }
@@ -151,7 +177,8 @@ fn unheard(error: Error) -> Result<Heard, LinkFault>
     }
 }
 
-/// Reads once, and puts what that brings about and what was published for the client behind what waits to be sent.
+/// Reads once, and puts what that brings about and what was published for the client behind what waits to be sent. An event
+/// waits for those that came with it, and whatever else comes for the events that wait.
 fn go_on<W: Wait, S: Read + Write + Drop, K: MaskKeys + Drop, J: Naming, D: Wait + Drop>(
     rt: &W,
     alloc: Global,
@@ -159,11 +186,20 @@ fn go_on<W: Wait, S: Read + Write + Drop, K: MaskKeys + Drop, J: Naming, D: Wait
     conn: &mut Conn,
     reader: &mut Reader<J>,
     desk: &Mutex<Desk<J, D>>,
+    events: &mut Vec<Arc<Event>>,
 ) -> Result<Went, LinkFault>
     ensures fault { IfErr result IsOfStream }
     ensures reader { IsPrefix reader.old reader.new }
 {
-    let went = heed(rt, alloc, socket, conn, reader, desk)?;
+    let heard = hear(socket);
+    if let Ok(Heard::Text(text)) = &heard {
+        if is_event(text.as_str()) {
+            take_event(rt, alloc, socket, conn, reader, desk, events, text.as_str())?;
+            return Ok(Went::Text);
+        }
+    }
+    answer_all(rt, alloc, socket, conn, reader, desk, events)?;
+    let went = heed(rt, alloc, socket, conn, reader, desk, heard?)?;
     if went == Went::Closed {
         // The reply to the close goes out.
         socket.flush()?;
@@ -173,7 +209,12 @@ fn go_on<W: Wait, S: Read + Write + Drop, K: MaskKeys + Drop, J: Naming, D: Wait
     Ok(went)
 }
 
-/// Reads once, and answers.
+/// Whether the text begins as those of events do. One that begins in another way waits for no other.
+fn is_event(text: &str) -> bool {
+    text.as_bytes().starts_with(b"[\"EVENT\",")
+}
+
+/// Answers what was read.
 fn heed<W: Wait, S: Read + Write + Drop, K: MaskKeys + Drop, J: Naming, D: Wait + Drop>(
     rt: &W,
     alloc: Global,
@@ -181,11 +222,12 @@ fn heed<W: Wait, S: Read + Write + Drop, K: MaskKeys + Drop, J: Naming, D: Wait 
     conn: &mut Conn,
     reader: &mut Reader<J>,
     desk: &Mutex<Desk<J, D>>,
+    heard: Heard,
 ) -> Result<Went, LinkFault>
     ensures fault { IfErr result IsOfStream }
     ensures reader { IsPrefix reader.old reader.new }
 {
-    match hear(socket)? {
+    match heard {
         Heard::Text(text) => {
             let out = answered(rt, conn, reader, desk, text.as_str())?;
             say_all(alloc, socket, out)?;
@@ -196,13 +238,13 @@ fn heed<W: Wait, S: Read + Write + Drop, K: MaskKeys + Drop, J: Naming, D: Wait 
             say(alloc, socket, Vec::new(alloc), &FromRelay::Notice { text })?;
             Ok(Went::Other)
         }
-        Heard::Nothing => Ok(Went::Other),
+        Heard::Nothing => Ok(Went::Nothing),
         Heard::Close => Ok(Went::Closed),
     }
 }
 
 /// Puts what was published for the client behind what waits to be sent.
-fn catch_up<S: Read + Write + Drop, K: MaskKeys + Drop, J: Naming>(
+pub fn catch_up<S: Read + Write + Drop, K: MaskKeys + Drop, J: Naming>(
     alloc: Global,
     socket: &mut WebSocket<S, K>,
     conn: &mut Conn,
@@ -237,7 +279,7 @@ fn answered<W: Wait, J: Naming, D: Wait + Drop>(
 }
 
 /// Puts the event into the store, and tells whether it is there.
-fn stored<W: Wait, J: Naming, D: Wait + Drop>(
+pub fn stored<W: Wait, J: Naming, D: Wait + Drop>(
     rt: &W,
     conn: &mut Conn,
     reader: &mut Reader<J>,
@@ -256,7 +298,7 @@ fn stored<W: Wait, J: Naming, D: Wait + Drop>(
 }
 
 /// Puts the messages behind what waits to be sent. Each is dropped once it is written, and its memory is at hand for the next.
-fn say_all<S: Read + Write + Drop, K: MaskKeys + Drop>(
+pub fn say_all<S: Read + Write + Drop, K: MaskKeys + Drop>(
     alloc: Global,
     socket: &mut WebSocket<S, K>,
     messages: Vec<FromRelay>,

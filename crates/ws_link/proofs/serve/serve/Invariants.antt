@@ -2,5 +2,5 @@ use Rattle.std.proofs.Common.{◌≤◌}
 use mathlib.Core.List.{IsPrefix}
 use Rattle.ws_link.proofs.serve.serve.Given as goal
 
-abbrev pub invariant-loop-read : goal.invariant-loop-read
-invariant-loop-read g l = record { few : l.texts ≤ l._read; reader : IsPrefix l.initial.reader l.reader }
+abbrev pub invariant-loop-turn : goal.invariant-loop-turn
+invariant-loop-turn g l = record { few : l.texts ≤ l.reads; most : l.reads ≤ 1000000; reader : IsPrefix l.initial.reader l.reader }

@@ -1,0 +1,112 @@
+//! Events that came together.
+
+ghost use Rattle.std.specs.Prelude.{IfErr};
+ghost use mathlib.Core.List.{IsPrefix};
+ghost use Rattle.ws_link.specs.Faults.{IsOfStream};
+
+use crate::fault::LinkFault;
+use crate::serve::{catch_up, say_all, stored};
+use event_store::{Desk, InsertFault, Naming, Placed, Reader};
+use nostr_event::Event;
+use nostr_wire::FromRelay;
+use relay_core::{Conn, Step};
+use std::alloc::Global;
+use std::io::{Read, Write};
+use std::sync::{Arc, Mutex, Wait};
+use tungstenite::{MaskKeys, WebSocket};
+
+/// So many events wait for no more.
+const MOST_TOGETHER: usize = 64;
+
+/// Hears the text of an event, which then waits for those that came with it. A text that has none is answered behind those
+/// that wait.
+pub fn take_event<W: Wait, S: Read + Write + Drop, K: MaskKeys + Drop, J: Naming, D: Wait + Drop>(
+    rt: &W,
+    alloc: Global,
+    socket: &mut WebSocket<S, K>,
+    conn: &mut Conn,
+    reader: &mut Reader<J>,
+    desk: &Mutex<Desk<J, D>>,
+    events: &mut Vec<Arc<Event>>,
+    text: &str,
+) -> Result<(), LinkFault>
+    ensures fault { IfErr result IsOfStream }
+    ensures reader { IsPrefix reader.old reader.new }
+{
+    let Step { out, store } = conn.serve(reader, text)?;
+    if let Some(event) = store {
+        events.push(event)?;
+        if events.len() < MOST_TOGETHER {
+            return Ok(());
+        }
+    }
+    answer_all(rt, alloc, socket, conn, reader, desk, events)?;
+    say_all(alloc, socket, out)?;
+    catch_up(alloc, socket, conn, reader)
+}
+
+/// Puts the events that wait into the store, and the answers to them and what was published for the client behind what waits
+/// to be sent.
+pub fn answer_all<W: Wait, S: Read + Write + Drop, K: MaskKeys + Drop, J: Naming, D: Wait + Drop>(
+    rt: &W,
+    alloc: Global,
+    socket: &mut WebSocket<S, K>,
+    conn: &mut Conn,
+    reader: &mut Reader<J>,
+    desk: &Mutex<Desk<J, D>>,
+    events: &mut Vec<Arc<Event>>,
+) -> Result<(), LinkFault>
+    ensures fault { IfErr result IsOfStream }
+    ensures reader { IsPrefix reader.old reader.new }
+{
+    if events.is_empty() {
+        return Ok(());
+    }
+    let mut placed = placed_together(rt, alloc, desk, events).into_iter();
+    let mut out = Vec::new(alloc);
+    for event in events.iter() {
+        out.push(told(rt, conn, reader, desk, placed.next(), event)?)?;
+    }
+    events.clear();
+    say_all(alloc, socket, out)?;
+    catch_up(alloc, socket, conn, reader)
+}
+
+/// Puts several events into the store at once, as many as it takes; none where no memory was found. Each that is left is put in by
+/// itself, which tells why it can't be.
+fn placed_together<W: Wait, J: Naming, D: Wait + Drop>(
+    rt: &W,
+    alloc: Global,
+    desk: &Mutex<Desk<J, D>>,
+    events: &[Arc<Event>],
+) -> Vec<Placed<J>> {
+    if events.len() < 2 {
+        return Vec::new(alloc);
+    }
+    match desk.lock(rt).insert_each(rt, events) {
+        Ok(placed) => placed,
+        Err(_) => Vec::new(alloc),
+    }
+}
+
+/// Tells whether the event is in the store, into which it is put unless it was placed.
+fn told<W: Wait, J: Naming, D: Wait + Drop>(
+    rt: &W,
+    conn: &mut Conn,
+    reader: &mut Reader<J>,
+    desk: &Mutex<Desk<J, D>>,
+    placed: Option<Placed<J>>,
+    event: &Arc<Event>,
+) -> Result<FromRelay, LinkFault>
+    ensures fault { IfErr result IsOfStream }
+    ensures reader { IsPrefix reader.old reader.new }
+{
+    match placed {
+        Some(placed) => {
+            let id = placed.id();
+            let placed: Result<Placed<J>, InsertFault<J>> = Ok(placed);
+            Ok(conn.stored(reader, id, placed.as_ref())?)
+        }
+        None => stored(rt, conn, reader, desk, Arc::try_clone(event)?),
+    }
+}
