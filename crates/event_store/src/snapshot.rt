@@ -94,5 +94,5 @@ fn roll_of(alloc: Global, events: &EventList) -> Result<Roll, AllocError>
     for place in 0..events.len() {
         items.push(events.get(place).item())?;
     }
-    Roll::from_items(alloc, items.as_slice()).map_err(|_| AllocError)
+    Roll::from_vec(alloc, items).map_err(|_| AllocError)
 }
