@@ -10,12 +10,13 @@ answers".
 import hashlib
 import json
 import os
+import struct
 import subprocess
 import tempfile
 import time
 
 from told import program, read, same, settings, start
-from wire import Client
+from wire import Client, Gone
 
 # The limits of a connection.
 SUBS, FILTERS, TEXT, SESSIONS = 32, 16, 2_200_000, 16
@@ -67,11 +68,20 @@ class Talker(Client):
         return texts
 
     def answers(self, text):
-        """What comes for a text. An event's answer is read before the ping goes out, which would overtake it: events wait for
-        those that came with them."""
         self.send(text.encode())
-        told = [shown(self.read())] if text.startswith('["EVENT",') else []
-        return told + self.sent_until_pong()
+        return self.sent_until_pong()
+
+    def sent_for(self, text, opcode, payload):
+        """The texts that come for a text and a control frame in one write, before the answer to the latter."""
+        self.socket.sendall(self.frame(text.encode()) + self.frame(payload, opcode))
+        texts = []
+        try:
+            while (found := self.next())[0] == 1:
+                texts.append(shown(found[1]))
+            same(found, (10, payload))
+        except Gone:
+            same(opcode, 8)
+        return texts
 
     def pushed(self, count):
         """The texts that come by themselves, where there are to be so many."""
@@ -202,10 +212,11 @@ def events_that_come_together(path):
             # What was published comes behind some of the answers.
             same([text for text in told if text not in ("a 4", "a 5")], wanted)
             same([text for text in told if text in ("a 4", "a 5")], ["a 4", "a 5"])
-            same(client.sent_until_pong(), [])
-            client.close()
-            same(relay.communicate(timeout=60), ("served 1\nevents 5\n", ""))
-            same(read(os.path.join(folder, "relay.jsonl")), [EVENTS[str(number)] for number in range(1, 6)])
+            # Events wait no longer than for a ping or a close, and their answers leave before the pong and the other close.
+            same(client.sent_for(gives(6), 9, b"beat"), ["6 true ", "a 6"])
+            same(client.sent_for(gives(7), 8, struct.pack("!H", 1000)), ["7 true ", "a 7"])
+            same(relay.communicate(timeout=60), ("served 1\nevents 7\n", ""))
+            same(read(os.path.join(folder, "relay.jsonl")), [EVENTS[str(number)] for number in range(1, 8)])
         finally:
             relay.kill()
             relay.communicate()

@@ -3,6 +3,8 @@
 use std::alloc::Global;
 use std::io;
 use std::io::{ErrorKind, Read, Write};
+use websocket::protocol::frame::FrameHeader;
+use websocket::protocol::frame::coding::{Data, OpCode};
 
 /// Once so many bytes wait, they leave.
 const MOST_WAITING: usize = 131_072;
@@ -44,6 +46,18 @@ impl<S: Write> Gathered<S> {
         let sent = send_all(&mut self.stream, self.waiting.as_slice());
         self.waiting.clear();
         sent
+    }
+
+    /// Puts a text, as one frame of a server (RFC 6455, section 5.2), behind what waits. It goes past the socket over the stream, and
+    /// so leaves before the replies that the socket has made to pings and a close since its last read began.
+    pub fn put_text(&mut self, text: &[u8]) -> io::Result<()> {
+        let header = FrameHeader::new(OpCode::Data(Data::Text), None);
+        let size = text.len() as u64;
+        // Room for a text that waits too, so that no header is left alone.
+        self.waiting
+            .reserve(header.len(size).saturating_add(text.len().min(MANY)))?;
+        header.format(size, &mut self.waiting)?;
+        self.write_all(text)
     }
 }
 

@@ -16,7 +16,7 @@ use std::io::{ErrorKind, Read, Write};
 use std::sync::{Arc, Mutex, Wait};
 use tungstenite::handshake::server::start;
 use tungstenite::{
-    Bytes, Error, HandshakeError, MaskKeys, Message, NoCallback, NoMask, Utf8Bytes, WebSocket,
+    Error, HandshakeError, MaskKeys, Message, NoCallback, NoMask, Utf8Bytes, WebSocket,
 };
 
 /// How many bytes one read asks for, until the client has sent an event.
@@ -95,7 +95,15 @@ fn serve<W: Wait, S: Read + Write + Drop, K: MaskKeys + Drop, J: Naming, D: Wait
             Went::Closed => return Ok(texts),
         }
     }
-    answer_all(rt, alloc, socket, &mut conn, reader, desk, &mut events)?;
+    answer_all(
+        rt,
+        alloc,
+        socket.get_mut(),
+        &mut conn,
+        reader,
+        desk,
+        &mut events,
+    )?;
     socket.get_mut().hold(false);
     close(socket)?;
     Ok(texts)
@@ -182,7 +190,7 @@ fn unheard(error: Error) -> Result<Heard, LinkFault>
 fn go_on<W: Wait, S: Read + Write + Drop, K: MaskKeys + Drop, J: Naming, D: Wait + Drop>(
     rt: &W,
     alloc: Global,
-    socket: &mut WebSocket<S, K>,
+    socket: &mut WebSocket<Gathered<S>, K>,
     conn: &mut Conn,
     reader: &mut Reader<J>,
     desk: &Mutex<Desk<J, D>>,
@@ -192,20 +200,21 @@ fn go_on<W: Wait, S: Read + Write + Drop, K: MaskKeys + Drop, J: Naming, D: Wait
     ensures reader { IsPrefix reader.old reader.new }
 {
     let heard = hear(socket);
+    let stream = socket.get_mut();
     if let Ok(Heard::Text(text)) = &heard {
         if is_event(text.as_str()) {
-            take_event(rt, alloc, socket, conn, reader, desk, events, text.as_str())?;
+            take_event(rt, alloc, stream, conn, reader, desk, events, text.as_str())?;
             return Ok(Went::Text);
         }
     }
-    answer_all(rt, alloc, socket, conn, reader, desk, events)?;
-    let went = heed(rt, alloc, socket, conn, reader, desk, heard?)?;
+    answer_all(rt, alloc, stream, conn, reader, desk, events)?;
+    let went = heed(rt, alloc, stream, conn, reader, desk, heard?)?;
     if went == Went::Closed {
         // The reply to the close goes out.
         socket.flush()?;
         return Ok(went);
     }
-    catch_up(alloc, socket, conn, reader)?;
+    catch_up(alloc, stream, conn, reader)?;
     Ok(went)
 }
 
@@ -215,10 +224,10 @@ fn is_event(text: &str) -> bool {
 }
 
 /// Answers what was read.
-fn heed<W: Wait, S: Read + Write + Drop, K: MaskKeys + Drop, J: Naming, D: Wait + Drop>(
+fn heed<W: Wait, S: Write, J: Naming, D: Wait + Drop>(
     rt: &W,
     alloc: Global,
-    socket: &mut WebSocket<S, K>,
+    stream: &mut Gathered<S>,
     conn: &mut Conn,
     reader: &mut Reader<J>,
     desk: &Mutex<Desk<J, D>>,
@@ -230,12 +239,12 @@ fn heed<W: Wait, S: Read + Write + Drop, K: MaskKeys + Drop, J: Naming, D: Wait 
     match heard {
         Heard::Text(text) => {
             let out = answered(rt, conn, reader, desk, text.as_str())?;
-            say_all(alloc, socket, out)?;
+            say_all(alloc, stream, out)?;
             Ok(Went::Text)
         }
         Heard::Binary => {
             let text = Text::new(String::from_str(alloc, "invalid: bad message")?);
-            say(alloc, socket, Vec::new(alloc), &FromRelay::Notice { text })?;
+            say(alloc, stream, Vec::new(alloc), &FromRelay::Notice { text })?;
             Ok(Went::Other)
         }
         Heard::Nothing => Ok(Went::Nothing),
@@ -244,9 +253,9 @@ fn heed<W: Wait, S: Read + Write + Drop, K: MaskKeys + Drop, J: Naming, D: Wait 
 }
 
 /// Puts what was published for the client behind what waits to be sent.
-pub fn catch_up<S: Read + Write + Drop, K: MaskKeys + Drop, J: Naming>(
+pub fn catch_up<S: Write, J: Naming>(
     alloc: Global,
-    socket: &mut WebSocket<S, K>,
+    stream: &mut Gathered<S>,
     conn: &mut Conn,
     reader: &mut Reader<J>,
 ) -> Result<(), LinkFault>
@@ -254,7 +263,7 @@ pub fn catch_up<S: Read + Write + Drop, K: MaskKeys + Drop, J: Naming>(
     ensures reader { IsPrefix reader.old reader.new }
 {
     let due = conn.catch_up(reader)?;
-    say_all(alloc, socket, due)
+    say_all(alloc, stream, due)
 }
 
 /// What is sent for a text, whose event is put into the store if it is one.
@@ -298,44 +307,32 @@ pub fn stored<W: Wait, J: Naming, D: Wait + Drop>(
 }
 
 /// Puts the messages behind what waits to be sent. Each is dropped once it is written, and its memory is at hand for the next.
-pub fn say_all<S: Read + Write + Drop, K: MaskKeys + Drop>(
+pub fn say_all<S: Write>(
     alloc: Global,
-    socket: &mut WebSocket<S, K>,
+    stream: &mut Gathered<S>,
     messages: Vec<FromRelay>,
 ) -> Result<(), LinkFault>
     ensures { IfErr result IsOfStream }
 {
     let mut room = Vec::new(alloc);
     for message in messages {
-        room = say(alloc, socket, room, &message)?;
+        room = say(alloc, stream, room, &message)?;
     }
     Ok(())
 }
 
 /// Puts the message behind what waits to be sent. Its text is made where room is, which is given back.
-fn say<S: Read + Write + Drop, K: MaskKeys + Drop>(
+fn say<S: Write>(
     alloc: Global,
-    socket: &mut WebSocket<S, K>,
+    stream: &mut Gathered<S>,
     room: Vec<u8>,
     message: &FromRelay,
 ) -> Result<Vec<u8>, LinkFault>
     ensures { IfErr result IsOfStream }
 {
-    let text = Utf8Bytes::from_string(write_relay_in(alloc, room, message)?)?;
-    let bytes = text.as_bytes().clone()?;
-    socket.write(Message::Text(text))?;
-    Ok(room_of(alloc, bytes))
-}
-
-/// The memory of a text that was written.
-fn room_of(alloc: Global, bytes: Bytes) -> Vec<u8> {
-    let Some(mut bytes) = bytes.reclaim() else {
-        return Vec::new(alloc);
-    };
-    // Bytes that are left would be copied.
-    bytes.clear();
-    match bytes.into_vec() {
-        Ok(room) => room,
-        Err(_) => Vec::new(alloc),
+    let text = write_relay_in(alloc, room, message)?;
+    match stream.put_text(text.as_bytes()) {
+        Ok(()) => Ok(text.into_bytes()),
+        Err(error) => Err(Error::Io(error).into()),
     }
 }

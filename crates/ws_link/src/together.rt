@@ -5,25 +5,25 @@ ghost use mathlib.Core.List.{IsPrefix};
 ghost use Rattle.ws_link.specs.Faults.{IsOfStream};
 
 use crate::fault::LinkFault;
+use crate::gathered::Gathered;
 use crate::serve::{catch_up, say_all, stored};
 use event_store::{Desk, InsertFault, Naming, Placed, Reader};
 use nostr_event::Event;
 use nostr_wire::FromRelay;
 use relay_core::{Conn, Step};
 use std::alloc::Global;
-use std::io::{Read, Write};
+use std::io::Write;
 use std::sync::{Arc, Mutex, Wait};
-use tungstenite::{MaskKeys, WebSocket};
 
 /// So many events wait for no more.
 const MOST_TOGETHER: usize = 64;
 
 /// Hears the text of an event, which then waits for those that came with it. A text that has none is answered behind those
 /// that wait.
-pub fn take_event<W: Wait, S: Read + Write + Drop, K: MaskKeys + Drop, J: Naming, D: Wait + Drop>(
+pub fn take_event<W: Wait, S: Write, J: Naming, D: Wait + Drop>(
     rt: &W,
     alloc: Global,
-    socket: &mut WebSocket<S, K>,
+    stream: &mut Gathered<S>,
     conn: &mut Conn,
     reader: &mut Reader<J>,
     desk: &Mutex<Desk<J, D>>,
@@ -40,17 +40,17 @@ pub fn take_event<W: Wait, S: Read + Write + Drop, K: MaskKeys + Drop, J: Naming
             return Ok(());
         }
     }
-    answer_all(rt, alloc, socket, conn, reader, desk, events)?;
-    say_all(alloc, socket, out)?;
-    catch_up(alloc, socket, conn, reader)
+    answer_all(rt, alloc, stream, conn, reader, desk, events)?;
+    say_all(alloc, stream, out)?;
+    catch_up(alloc, stream, conn, reader)
 }
 
 /// Puts the events that wait into the store, and the answers to them and what was published for the client behind what waits
 /// to be sent.
-pub fn answer_all<W: Wait, S: Read + Write + Drop, K: MaskKeys + Drop, J: Naming, D: Wait + Drop>(
+pub fn answer_all<W: Wait, S: Write, J: Naming, D: Wait + Drop>(
     rt: &W,
     alloc: Global,
-    socket: &mut WebSocket<S, K>,
+    stream: &mut Gathered<S>,
     conn: &mut Conn,
     reader: &mut Reader<J>,
     desk: &Mutex<Desk<J, D>>,
@@ -68,8 +68,8 @@ pub fn answer_all<W: Wait, S: Read + Write + Drop, K: MaskKeys + Drop, J: Naming
         out.push(told(rt, conn, reader, desk, placed.next(), event)?)?;
     }
     events.clear();
-    say_all(alloc, socket, out)?;
-    catch_up(alloc, socket, conn, reader)
+    say_all(alloc, stream, out)?;
+    catch_up(alloc, stream, conn, reader)
 }
 
 /// Puts several events into the store at once, as many as it takes; none where no memory was found. Each that is left is put in by
