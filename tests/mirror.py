@@ -198,7 +198,7 @@ def tells_progress(path, folder):
     out = mirror.stdout.read()
     same(out, "relay 0 need 30\nrelay 1 need 20\nleast 30\ngroup 0\ngiven 50\nmissed 0\nleft 0\n")
     same(lines[-1], "50 ids given, 0 missed, 0 left")
-    same([bool(re.fullmatch("[0-9]+ of 50 ids answered, [0-9]+ events came", line)) for line in lines[:-1]],
+    same([bool(re.fullmatch("[0-9]+ ids given, [0-9]+ missed, [0-9]+ left so far", line)) for line in lines[:-1]],
          [True] * max(1, len(lines) - 1))
     same(mirror.wait(), 0)
     for relay, _port in relays:

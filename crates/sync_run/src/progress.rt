@@ -116,7 +116,9 @@ impl<P: Write> Telling<P> {
                 answered,
                 came,
             } = self.round;
-            self.line(format_args!("{answered} of {planned} ids answered, {came} events came"));
+            let missed = answered.saturating_sub(came);
+            let left = planned.saturating_sub(answered);
+            self.line(format_args!("{came} ids given, {missed} missed, {left} left so far"));
         }
     }
 }

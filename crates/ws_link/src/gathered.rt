@@ -53,11 +53,15 @@ impl<S: Write> Gathered<S> {
     pub fn put_text(&mut self, text: &[u8]) -> io::Result<()> {
         let header = FrameHeader::new(OpCode::Data(Data::Text), None);
         let size = text.len() as u64;
-        // Room for a text that waits too, so that no header is left alone.
+        // Room for all of it, so that no part is left alone.
         self.waiting
-            .reserve(header.len(size).saturating_add(text.len().min(MANY)))?;
+            .reserve(header.len(size).saturating_add(text.len()))?;
         header.format(size, &mut self.waiting)?;
-        self.write_all(text)
+        self.waiting.extend_from_slice(text)?;
+        if text.len() >= MANY || self.waiting.len() >= MOST_WAITING {
+            self.send()?;
+        }
+        Ok(())
     }
 }
 

@@ -5,6 +5,7 @@ mod client;
 mod fault;
 mod gathered;
 mod peer;
+mod sending;
 mod serve;
 mod source;
 mod together;

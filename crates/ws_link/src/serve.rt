@@ -6,10 +6,11 @@ ghost use Rattle.ws_link.specs.Faults.{IsOfStream};
 use crate::client::{MANY_BYTES, close, config};
 use crate::fault::LinkFault;
 use crate::gathered::Gathered;
-use crate::together::{answer_all, take_event};
+use crate::sending::{catch_up, say, say_all};
+use crate::together::{MOST_TOGETHER, answer_all, stored, take_event};
 use event_store::{Desk, Naming, Reader};
 use nostr_event::{Event, Text};
-use nostr_wire::{FromRelay, write_relay_in};
+use nostr_wire::FromRelay;
 use relay_core::{Conn, RelayLimits, Step};
 use std::alloc::Global;
 use std::io::{ErrorKind, Read, Write};
@@ -29,10 +30,10 @@ const MOST_READS: u64 = 1_000_000;
 const MOST_ROUNDS: u32 = 100;
 
 /// Does the server's handshake, and serves the client (NIP-01, NIP-77) until it closes, or until the connection has been read
-/// 1,000,000 times: then it closes the connection itself. It gives the number of texts served. After each message, and where a
-/// read answers `WouldBlock` or `TimedOut`, it sends the client what was published for it. Events that came together, at most 64,
-/// are put into the store together, and short answers to messages that came together are sent together, before more is read.
-/// The desk is locked for one such insert at a time.
+/// 1,000,000 times: then it closes the connection itself. It gives the number of texts served. After each message, or the last of
+/// events that came together, and where a read answers `WouldBlock` or `TimedOut`, it sends the client what was published for it.
+/// Events that came together, at most 32 with no other message between them, are put into the store together, and short answers
+/// to messages that came together are sent together, before more is read. The desk is locked for one such insert at a time.
 pub fn serve_conn<W: Wait, S: Read + Write + Drop, J: Naming, D: Wait + Drop>(
     rt: &W,
     alloc: Global,
@@ -70,7 +71,7 @@ fn serve<W: Wait, S: Read + Write + Drop, K: MaskKeys + Drop, J: Naming, D: Wait
     ensures reader { IsPrefix reader.old reader.new }
 {
     let mut conn = Conn::new(alloc, limits);
-    let mut events = Vec::new(alloc);
+    let mut events = Vec::with_capacity(alloc, MOST_TOGETHER)?;
     let mut reads = 0;
     let mut texts = 0;
     // A turn that reads nothing comes behind one that has read an event.
@@ -133,7 +134,7 @@ enum Went {
     Text,
     /// Another message.
     Other,
-    /// A ping, a pong, or nothing.
+    /// Nothing: the stream would block, or is held.
     Nothing,
     /// The client has closed.
     Closed,
@@ -144,7 +145,9 @@ enum Went {
 enum Heard {
     Text(Utf8Bytes),
     Binary,
-    /// A ping, a pong, or nothing while the stream would block.
+    /// A ping or a pong.
+    Beat,
+    /// Nothing: the stream would block, or is held.
     Nothing,
     /// The client has closed.
     Close,
@@ -166,7 +169,7 @@ fn heard_of(message: Message) -> Heard {
     match message {
         Message::Text(text) => Heard::Text(text),
         Message::Binary(_bytes) => Heard::Binary,
-        Message::Ping(_bytes) | Message::Pong(_bytes) => Heard::Nothing,
+        Message::Ping(_bytes) | Message::Pong(_bytes) => Heard::Beat,
         Message::Close(_frame) => Heard::Close,
     }
 }
@@ -247,23 +250,10 @@ fn heed<W: Wait, S: Write, J: Naming, D: Wait + Drop>(
             say(alloc, stream, Vec::new(alloc), &FromRelay::Notice { text })?;
             Ok(Went::Other)
         }
+        Heard::Beat => Ok(Went::Other),
         Heard::Nothing => Ok(Went::Nothing),
         Heard::Close => Ok(Went::Closed),
     }
-}
-
-/// Puts what was published for the client behind what waits to be sent.
-pub fn catch_up<S: Write, J: Naming>(
-    alloc: Global,
-    stream: &mut Gathered<S>,
-    conn: &mut Conn,
-    reader: &mut Reader<J>,
-) -> Result<(), LinkFault>
-    ensures fault { IfErr result IsOfStream }
-    ensures reader { IsPrefix reader.old reader.new }
-{
-    let due = conn.catch_up(reader)?;
-    say_all(alloc, stream, due)
 }
 
 /// What is sent for a text, whose event is put into the store if it is one.
@@ -284,55 +274,5 @@ fn answered<W: Wait, J: Naming, D: Wait + Drop>(
             Ok(out)
         }
         None => Ok(out),
-    }
-}
-
-/// Puts the event into the store, and tells whether it is there.
-pub fn stored<W: Wait, J: Naming, D: Wait + Drop>(
-    rt: &W,
-    conn: &mut Conn,
-    reader: &mut Reader<J>,
-    desk: &Mutex<Desk<J, D>>,
-    event: Arc<Event>,
-) -> Result<FromRelay, LinkFault>
-    ensures fault { IfErr result IsOfStream }
-    ensures reader { IsPrefix reader.old reader.new }
-{
-    let id = event.id();
-    let placed = match desk.lock(rt).insert(rt, event) {
-        Ok(placed) => Ok(placed),
-        Err((fault, _event)) => Err(fault),
-    };
-    Ok(conn.stored(reader, id, placed.as_ref())?)
-}
-
-/// Puts the messages behind what waits to be sent. Each is dropped once it is written, and its memory is at hand for the next.
-pub fn say_all<S: Write>(
-    alloc: Global,
-    stream: &mut Gathered<S>,
-    messages: Vec<FromRelay>,
-) -> Result<(), LinkFault>
-    ensures { IfErr result IsOfStream }
-{
-    let mut room = Vec::new(alloc);
-    for message in messages {
-        room = say(alloc, stream, room, &message)?;
-    }
-    Ok(())
-}
-
-/// Puts the message behind what waits to be sent. Its text is made where room is, which is given back.
-fn say<S: Write>(
-    alloc: Global,
-    stream: &mut Gathered<S>,
-    room: Vec<u8>,
-    message: &FromRelay,
-) -> Result<Vec<u8>, LinkFault>
-    ensures { IfErr result IsOfStream }
-{
-    let text = write_relay_in(alloc, room, message)?;
-    match stream.put_text(text.as_bytes()) {
-        Ok(()) => Ok(text.into_bytes()),
-        Err(error) => Err(Error::Io(error).into()),
     }
 }

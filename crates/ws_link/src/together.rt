@@ -6,7 +6,7 @@ ghost use Rattle.ws_link.specs.Faults.{IsOfStream};
 
 use crate::fault::LinkFault;
 use crate::gathered::Gathered;
-use crate::serve::{catch_up, say_all, stored};
+use crate::sending::{catch_up, say, say_all};
 use event_store::{Desk, InsertFault, Naming, Placed, Reader};
 use nostr_event::Event;
 use nostr_wire::FromRelay;
@@ -16,7 +16,7 @@ use std::io::Write;
 use std::sync::{Arc, Mutex, Wait};
 
 /// So many events wait for no more.
-const MOST_TOGETHER: usize = 64;
+pub const MOST_TOGETHER: usize = 32;
 
 /// Hears the text of an event, which then waits for those that came with it. A text that has none is answered behind those
 /// that wait.
@@ -33,7 +33,14 @@ pub fn take_event<W: Wait, S: Write, J: Naming, D: Wait + Drop>(
     ensures fault { IfErr result IsOfStream }
     ensures reader { IsPrefix reader.old reader.new }
 {
-    let Step { out, store } = conn.serve(reader, text)?;
+    let Step { out, store } = match conn.serve(reader, text) {
+        Ok(step) => step,
+        Err(fault) => {
+            // Those that wait came before: they are stored at least.
+            let _ = desk.lock(rt).insert_each(rt, events);
+            return Err(fault.into());
+        }
+    };
     if let Some(event) = store {
         events.push(event)?;
         if events.len() < MOST_TOGETHER {
@@ -63,12 +70,12 @@ pub fn answer_all<W: Wait, S: Write, J: Naming, D: Wait + Drop>(
         return Ok(());
     }
     let mut placed = placed_together(rt, alloc, desk, events).into_iter();
-    let mut out = Vec::new(alloc);
+    let mut room = Vec::new(alloc);
     for event in events.iter() {
-        out.push(told(rt, conn, reader, desk, placed.next(), event)?)?;
+        let message = told(rt, conn, reader, desk, placed.next(), event)?;
+        room = say(alloc, stream, room, &message)?;
     }
     events.clear();
-    say_all(alloc, stream, out)?;
     catch_up(alloc, stream, conn, reader)
 }
 
@@ -109,4 +116,23 @@ fn told<W: Wait, J: Naming, D: Wait + Drop>(
         }
         None => stored(rt, conn, reader, desk, Arc::try_clone(event)?),
     }
+}
+
+/// Puts the event into the store, and tells whether it is there.
+pub fn stored<W: Wait, J: Naming, D: Wait + Drop>(
+    rt: &W,
+    conn: &mut Conn,
+    reader: &mut Reader<J>,
+    desk: &Mutex<Desk<J, D>>,
+    event: Arc<Event>,
+) -> Result<FromRelay, LinkFault>
+    ensures fault { IfErr result IsOfStream }
+    ensures reader { IsPrefix reader.old reader.new }
+{
+    let id = event.id();
+    let placed = match desk.lock(rt).insert(rt, event) {
+        Ok(placed) => Ok(placed),
+        Err((fault, _event)) => Err(fault),
+    };
+    Ok(conn.stored(reader, id, placed.as_ref())?)
 }
