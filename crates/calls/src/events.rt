@@ -1,6 +1,7 @@
-//! Events, filters, and the texts that clients and relays send each other.
+//! Bytes in hex, events, filters, and the texts that clients and relays send each other.
 
 use crate::said::Said;
+use id_text::parse_bytes;
 use neg_codec::Id;
 use nostr_event::{Event, EventFault, Spelling, bytes32_of, id_of, id_text};
 use nostr_filter::{Filter, FilterFault, choose};
@@ -11,6 +12,7 @@ use std::sync::Arc;
 
 /// The names of the calls.
 pub const NAMES: &[&str] = &[
+    "parse_bytes",
     "id_text plain",
     "id_text escaped",
     "id_of",
@@ -34,6 +36,7 @@ pub const NAMES: &[&str] = &[
 /// What the call of that name came to.
 pub fn said_of(alloc: Global, name: &str) -> Option<Said> {
     match name {
+        "parse_bytes" => bytes_of_text(alloc),
         "id_text plain" => text_of_id(alloc, Spelling::Plain),
         "id_text escaped" => text_of_id(alloc, Spelling::Escaped),
         "id_of" => digest(alloc),
@@ -129,6 +132,13 @@ pub fn event_line(alloc: Global, at: usize) -> Option<String> {
 /// The filter of a text.
 pub fn filter(alloc: Global, text: &str) -> Option<Filter> {
     Filter::from_json(alloc, &parsed(alloc, text)?).ok()
+}
+
+fn bytes_of_text(alloc: Global) -> Option<Said> {
+    match parse_bytes(alloc, b"0010ff") {
+        Ok(bytes) => Said::ample(bytes?.as_slice() == [0, 16, 255].as_slice()),
+        Err(_) => Said::memory(true),
+    }
 }
 
 fn text_of_id(alloc: Global, spelling: Spelling) -> Option<Said> {

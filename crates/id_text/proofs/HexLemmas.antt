@@ -1,8 +1,10 @@
 -- Bytes and their digits, one after another.
-use Rattle.std.proofs.Common.{◌≡◌, ◌≢◌, ℕ, zero, suc, ◌+◌, ◌*◌, ◌/◌, ◌%◌, ◌<◌, ◌≤◌, ◌⊎◌, inl, inr, All, List, [], ◌∷◌, ◌++◌, length, map, take, get_or, slice_index, set, length-set, refl, ap, sym, ◌∙◌, append_assoc, arith}
-use Rattle.std.proofs.lemmas.List.{take_more, take_more_set, map-append}
+use Rattle.std.proofs.Common.{◌≡◌, ◌≢◌, ℕ, zero, suc, ◌+◌, ◌*◌, ◌/◌, ◌%◌, ◌<◌, ◌≤◌, ◌⊎◌, inl, inr, All, List, [], ◌∷◌, ◌++◌, length, map, take, drop, get_or, slice_index, set, length-set, refl, ap, sym, ◌∙◌, append_assoc, arith}
+use Rattle.std.proofs.lemmas.List.{take_more, take_more_set, map-append, take-append-drop}
+use Rattle.std.proofs.Math.Seq.{drop-append_seam}
 use Rattle.std.proofs.lemmas.List.Elements.{All-head, All-tail}
 use Rattle.hex.specs.Hex.{encode_lower, encode_with, lower_digits}
+use Rattle.hex.proofs.HexLemmas.{length-encode_with}
 use Rattle.neg_codec.specs.declared.Id.{Id}
 use Rattle.neg_codec.specs.Keys.{IsId}
 
@@ -100,3 +102,55 @@ pub no_stray : (text : List ℕ) (id : Id) → IsId id → text ≡ encode_lower
 no_stray text id is same n s le =
     let d = is_digit id.0 s.at is.bytes (omega (arith, s.before, is.len, le)) in
     s.stray d.0 d.1 (ap (λ t. get_or t s.at 0) same ∙ d.2)
+
+-- two digits, of one byte
+pub two_digits : (pair : List ℕ) (b : ℕ) → length pair ≡ 2 → get_or pair 0 0 ≡ high_digit b → get_or pair 1 0 ≡ low_digit b → pair ≡ encode_lower (b ∷ [])
+two_digits [] b len high low = absurd (omega (arith, len))
+two_digits (x ∷ []) b len high low = absurd (omega (arith, len))
+two_digits (x ∷ y ∷ []) b len high low = rw (encode-one b, high, low) refl
+two_digits (x ∷ y ∷ z ∷ rest) b len high low = absurd (omega (arith, len))
+
+pub one_high : (pair : List ℕ) (b : ℕ) → pair ≡ encode_lower (b ∷ []) → get_or pair 0 0 ≡ high_digit b
+one_high pair b same = ap (λ t. get_or t 0 0) (same ∙ encode-one b)
+
+pub one_low : (pair : List ℕ) (b : ℕ) → pair ≡ encode_lower (b ∷ []) → get_or pair 1 0 ≡ low_digit b
+one_low pair b same = ap (λ t. get_or t 1 0) (same ∙ encode-one b)
+
+-- some bytes more
+pub block_more : (text done rest block : List ℕ) (n : ℕ) → text ≡ encode_lower done ++ rest → take n rest ≡ encode_lower block → text ≡ encode_lower (done ++ block) ++ drop n rest
+block_more text done rest block n so_far front =
+    so_far ∙ ap (λ t. encode_lower done ++ t) (sym (take-append-drop n rest) ∙ ap (λ t. t ++ drop n rest) front)
+    ∙ sym (append_assoc (encode_lower done) (encode_lower block) (drop n rest)) ∙ ap (λ t. t ++ drop n rest) (sym (encode-append done block))
+
+encode-drop : (n : ℕ) (xs : List ℕ) → drop (2 * n) (encode_lower xs) ≡ encode_lower (drop n xs)
+unfolding encode_with
+encode-drop zero xs = refl
+encode-drop (suc n) [] = let e : 2 * suc n ≡ suc (suc (2 * n)) = omega arith in rw e refl
+encode-drop (suc n) (x ∷ xs) = let e : 2 * suc n ≡ suc (suc (2 * n)) = omega arith in rw e (encode-drop n xs)
+
+encode-take : (n : ℕ) (xs : List ℕ) → take (2 * n) (encode_lower xs) ≡ encode_lower (take n xs)
+unfolding encode_with
+encode-take zero xs = refl
+encode-take (suc n) [] = let e : 2 * suc n ≡ suc (suc (2 * n)) = omega arith in rw e refl
+encode-take (suc n) (x ∷ xs) = let e : 2 * suc n ≡ suc (suc (2 * n)) = omega arith in rw e (ap (λ t. high_digit x ∷ low_digit x ∷ t) (encode-take n xs))
+
+-- where a text is that of bytes, what is left is that of the others
+pub left_told : (text done rest bytes : List ℕ) → text ≡ encode_lower done ++ rest → text ≡ encode_lower bytes → rest ≡ encode_lower (drop (length done) bytes)
+left_told text done rest bytes so_far same =
+    let start = length (encode_lower done) in
+    sym (ap (drop start) so_far ∙ drop-append_seam (encode_lower done) rest) ∙ ap (drop start) same
+    ∙ ap (λ k. drop k (encode_lower bytes)) (length-encode_with lower_digits done) ∙ encode-drop (length done) bytes
+
+-- and its front that of the next ones
+pub front_told : (rest bytes : List ℕ) (n : ℕ) → rest ≡ encode_lower bytes → take (2 * n) rest ≡ encode_lower (take n bytes)
+front_told rest bytes n same = ap (take (2 * n)) same ∙ encode-take n bytes
+
+-- bytes are half as many as their digits
+pub half_as_many : (digits bytes : List ℕ) → digits ≡ encode_lower bytes → length digits ≡ 2 * length bytes
+half_as_many digits bytes same = ap length same ∙ length-encode_with lower_digits bytes
+
+-- a list of one byte
+pub one_byte : (bytes : List ℕ) → length bytes ≡ 1 → All (λ b. b < 256) bytes → (b : ℕ) × (b < 256) × (bytes ≡ b ∷ [])
+one_byte [] len small = absurd (omega (arith, len))
+one_byte (b ∷ []) len small = (b, All-head (λ b. b < 256) b [] small, refl)
+one_byte (b ∷ x ∷ rest) len small = absurd (omega (arith, len))

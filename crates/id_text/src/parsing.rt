@@ -8,7 +8,7 @@ ghost use Rattle.neg_codec.specs.Keys.{IsId};
 use neg_codec::Id;
 
 /// The value of a lower-case hex digit, and 16 for another byte.
-fn hex_digit(byte: u8) -> u8
+pub(crate) fn hex_digit(byte: u8) -> u8
     ensures digit { result < 16 → byte ≡ slice_index lower_digits result }
     ensures other { 16 ≤ result → (d : ℕ) → d < 16 → byte ≢ slice_index lower_digits d }
     ensures small { result ≤ 16 }
@@ -25,7 +25,7 @@ fn hex_digit(byte: u8) -> u8
 }
 
 /// The greater of two.
-fn greater(a: u8, b: u8) -> u8
+pub(crate) fn greater(a: u8, b: u8) -> u8
     ensures above { (a ≤ result) × (b ≤ result) }
     ensures one { (result ≡ a) ⊎ (result ≡ b) }
 {
@@ -51,7 +51,7 @@ fn values_of(text: &[u8]) -> ([u8; 64], u8)
 }
 
 /// The byte of two digits.
-fn byte_of(high: u8, low: u8) -> u8
+pub(crate) fn byte_of(high: u8, low: u8) -> u8
     ensures high { high < 16 → low < 16 → result / 16 ≡ high }
     ensures low { high < 16 → low < 16 → result % 16 ≡ low }
 {

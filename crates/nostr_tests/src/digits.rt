@@ -1,7 +1,8 @@
-//! Ids and their digits.
+//! Ids, bytes and their digits.
 
-use id_text::{digits_of, parse_id};
+use id_text::{digits_of, parse_bytes, parse_id};
 use neg_codec::Id;
+use std::alloc::{AllocError, Global};
 use std::test::*;
 
 const TEXT: &[u8] = b"00010f101a9fa0aff0ff0123456789abcdef00000000000000000000deadbeef";
@@ -32,6 +33,37 @@ fn other_texts_are_refused(rt: HostRuntime) -> Result<(), Fail> {
             let mut text = [b'0'; 64];
             text[at] = stray;
             assert_eq!(rt; parse_id(&text), None);
+        }
+    }
+    Ok(())
+}
+
+/// Whether a text is read as those bytes.
+fn is_text_of(alloc: Global, text: &[u8], bytes: &[u8]) -> Result<bool, AllocError> {
+    Ok(parse_bytes(alloc, text)?.is_some_and(|read| read.as_slice() == bytes))
+}
+
+#[test]
+fn bytes_are_read(rt: HostRuntime) -> Result<(), Fail> {
+    let alloc = rt.alloc();
+    // A text of twice the id's digits, of which some are left out at either end: no, one, two and three blocks, and what is behind.
+    let mut text = [b'0'; 256];
+    let mut bytes = [0; 128];
+    for i in 0..128 {
+        text[2 * i] = TEXT[2 * i % 64];
+        text[2 * i + 1] = TEXT[(2 * i + 1) % 64];
+        bytes[i] = id().0[i % 32];
+    }
+    for len in [0, 1, 2, 31, 32, 33, 63, 64, 65, 96, 127, 128] {
+        assert!(rt; is_text_of(alloc, &text[..2 * len], &bytes[..len])?);
+        if len > 0 {
+            assert_eq!(rt; parse_bytes(alloc, &text[..2 * len - 1])?, None);
+            for stray in [b'g', b'A', b'/', 255] {
+                let was = text[2 * len - 1];
+                text[2 * len - 1] = stray;
+                assert_eq!(rt; parse_bytes(alloc, &text[..2 * len])?, None);
+                text[2 * len - 1] = was;
+            }
         }
     }
     Ok(())

@@ -10,7 +10,7 @@ ghost use Rattle.nostr_wire.specs.declared.fault.WireFault.{WireFault};
 use crate::fault::WireFault;
 use crate::lists::{Bytes, Sub, is_name};
 use hex::FromHexError;
-use id_text::{digits_of, parse_id};
+use id_text::{digits_of, parse_bytes, parse_id};
 use neg_codec::Id;
 use nostr_event::{Event, EventFault, Text};
 use nostr_filter::{Filter, FilterFault};
@@ -157,7 +157,13 @@ impl Element for Bytes {
     }
 
     fn read(alloc: Global, value: &Value) -> Result<Bytes, WireFault> {
-        match hex::decode(alloc, text_in(value).as_bytes()) {
+        let text = text_in(value).as_bytes();
+        // Most write lower-case digits, which are read by vector code.
+        if let Some(bytes) = parse_bytes(alloc, text)? {
+            read_each(bytes.as_slice());
+            return Ok(Bytes::new(bytes));
+        }
+        match hex::decode(alloc, text) {
             Ok(bytes) => Ok(Bytes::new(bytes)),
             Err(FromHexError::OutOfMemory) => Err(WireFault::Memory),
             Err(_) => Err(WireFault::HexText),
