@@ -176,10 +176,7 @@ impl<J: Naming, R: Wait + Drop> Desk<J, R> {
         ensures ends { IfOk result (λ n. EndsRightly J.most (map arc_value events.now) n self.new) }
         ensures err { OnErr result (self.new ≡ self.old) }
     {
-        let state = self.pen.published().state();
-        let (state, fresh) = state.with_all(self.alloc, events, self.most)?;
-        self.show(rt, state)?;
-        Ok(fresh.len())
+        Ok(self.insert_each(rt, events)?.len())
     }
 
     /// Publishes as `insert_all` does, and tells of each event that it took that it is published, and whether it is new: it isn't
@@ -191,6 +188,7 @@ impl<J: Naming, R: Wait + Drop> Desk<J, R> {
     ) -> Result<Vec<Placed<J>>, AllocError>
         ensures placed { IfOk result (λ v. v.items ≡ placings (take (length v.items) (map arc_value events.now)) self.old self.new) }
         ensures list { IfOk result (λ v. self.new ≡ with_events (take (length v.items) (map arc_value events.now)) self.old) }
+        ensures room { IfOk result (λ _. length self.new ≤ J.most) }
         ensures ends { IfOk result (λ v. EndsRightly J.most (map arc_value events.now) (length v.items) self.new) }
         ensures err { OnErr result (self.new ≡ self.old) }
     {
