@@ -7,6 +7,6 @@ mod reading;
 mod writing;
 
 pub use fault::FileFault;
-pub use path::{NewFile, read_file};
+pub use path::NewFile;
 pub use reading::insert_lines;
 pub use writing::write_lines;

@@ -16,14 +16,6 @@ const BESIDE: &str = ".new";
 /// What stands behind the name of a file that is to take another's place at once.
 const AT_ONCE: &str = ".tmp";
 
-/// The bytes of a file, none where there is no file.
-pub fn read_file<R: Files + AllocGlobal>(rt: &R, path: &str) -> io::Result<Vec<u8>> {
-    match fs::read(rt, path) {
-        Err(error) if error.kind() == ErrorKind::NotFound => Ok(Vec::new(rt.alloc())),
-        read => read,
-    }
-}
-
 /// A file that is to take another's place, under that one's name with `.new` behind it. The other one stays whole until it does.
 /// No other run begins one for the same place meanwhile.
 #[derive(Drop)]

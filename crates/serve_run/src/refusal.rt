@@ -3,7 +3,6 @@
 ghost use Rattle.std.specs.Prelude.{◌≡◌};
 ghost use Rattle.serve_run.specs.declared.refusal.Refusal.TheVariants.{Memory as memory};
 
-use event_file::FileFault;
 use event_store::{PinFault, StoreFault};
 use mirror_settings::{SettingsFault, SettingsKey};
 use std::alloc::{AllocError, AllocFailed};
@@ -73,15 +72,6 @@ impl From<SettingsFault> for Refusal {
             SettingsFault::Text => Refusal::Settings,
             SettingsFault::Key(key) => Refusal::Key(key),
             SettingsFault::Memory => Refusal::Memory,
-        }
-    }
-}
-
-impl From<FileFault> for Refusal {
-    fn from(fault: FileFault) -> Refusal {
-        match fault {
-            FileFault::Line(number) => Refusal::File(number),
-            FileFault::Memory => Refusal::Memory,
         }
     }
 }

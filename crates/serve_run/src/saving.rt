@@ -1,32 +1,81 @@
 //! The events file: what it has at the start, and what it gets once all is done.
 
 use crate::refusal::{Refusal, read_refusal, write_refusal};
-use event_file::{NewFile, insert_lines, read_file};
+use event_file::{FileFault, NewFile, insert_lines};
 use event_store::{Desk, Naming, Reader};
 use std::alloc::Global;
+use std::fs;
 use std::fs::File;
-use std::io::ErrorKind;
+use std::io::{BufRead, BufReader, ErrorKind};
 use std::rt::Files;
 use std::sync::Wait;
 
+/// The events file is read piece by piece: a piece ends with the line that brings it to so many bytes.
+const PIECE: usize = 1 << 21;
+
+/// So many bytes of the file are read at once.
+const READ: usize = 1 << 16;
+
+/// Reads the lines of a piece behind what the text has, and gives how many they are: none at the end.
+fn read_piece<B: BufRead>(lines: &mut B, text: &mut Vec<u8>) -> Result<usize, Refusal> {
+    for count in 0..PIECE {
+        if text.len() >= PIECE {
+            return Ok(count);
+        }
+        match lines.read_until(b'\n', text) {
+            Ok(0) => return Ok(count),
+            Ok(_) => {}
+            Err(error) => return Err(read_refusal(&error)),
+        }
+    }
+    Ok(PIECE)
+}
+
+/// Puts the events of lines into a store, piece by piece, so that no more of them is held than a piece and a line.
+fn fill_from<J: Naming, D: Wait + Drop, R: Wait, B: BufRead>(
+    rt: &R,
+    alloc: Global,
+    desk: &mut Desk<J, D>,
+    lines: &mut B,
+) -> Result<(), Refusal> {
+    let mut text = Vec::new(alloc);
+    let mut before: usize = 0;
+    for _ in 0..u64::MAX {
+        text.clear();
+        let count = read_piece(lines, &mut text)?;
+        if count == 0 {
+            break;
+        }
+        match insert_lines(rt, alloc, desk, text.as_slice()) {
+            Ok(()) => before = before.saturating_add(count),
+            Err(FileFault::Line(line)) => return Err(Refusal::File(before.saturating_add(line))),
+            Err(FileFault::Memory) => return Err(Refusal::Memory),
+        }
+    }
+    Ok(())
+}
+
 /// Puts the events of the file at a path into a store. A file that isn't there has none.
-fn fill<J: Naming, D: Wait + Drop, R: Wait + Files + AllocGlobal>(
+fn fill<J: Naming, D: Wait + Drop, R: Wait + Files<File = File>>(
     rt: &R,
     alloc: Global,
     desk: &mut Desk<J, D>,
     path: &str,
 ) -> Result<(), Refusal> {
-    let bytes = match read_file(rt, path) {
-        Ok(bytes) => bytes,
+    let file = match fs::open(rt, path) {
+        Ok(file) => file,
+        Err(error) if error.kind() == ErrorKind::NotFound => return Ok(()),
         Err(error) => return Err(read_refusal(&error)),
     };
-    insert_lines(rt, alloc, desk, bytes.as_slice())?;
-    Ok(())
+    match BufReader::with_capacity(alloc, READ, file) {
+        Ok(mut lines) => fill_from(rt, alloc, desk, &mut lines),
+        Err(error) => Err(read_refusal(&error)),
+    }
 }
 
 /// Begins the file that is to take the place of the events file, and puts the events of that one into a store. Another run that
 /// has begun one is told first, and a fault of reading before one of writing.
-pub fn begin<J: Naming, D: Wait + Drop, R: Wait + Files<File = File> + AllocGlobal>(
+pub fn begin<J: Naming, D: Wait + Drop, R: Wait + Files<File = File>>(
     rt: &R,
     alloc: Global,
     desk: &mut Desk<J, D>,
