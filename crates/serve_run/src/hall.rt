@@ -1,7 +1,7 @@
 //! Where connections come in, and what they are served from.
 
 use crate::client::Client;
-use crate::workers::{Duty, run_beside};
+use crate::crew::{Shift, run_beside};
 use event_store::{Desk, Naming, Reader};
 use relay_core::RelayLimits;
 use std::alloc::Global;
@@ -29,13 +29,15 @@ pub struct Hall<K> {
     conns: u64,
     // How many connections workers went for.
     begun: AtomicU64,
+    // How many workers wait for one.
+    waiting: AtomicU64,
     // Whether no further connections are taken.
     closed: AtomicBool,
     push: Option<Duration>,
     timeout: Duration,
     desk: Mutex<K>,
-    // How many workers have ended, and what is told where one does.
-    ended: Mutex<usize>,
+    // Whether serving is over, and what is told then.
+    over: Mutex<bool>,
     ending: Condvar,
 }
 
@@ -53,11 +55,12 @@ impl<K> Hall<K> {
             listener,
             conns,
             begun: AtomicU64::new(0),
+            waiting: AtomicU64::new(0),
             closed: AtomicBool::new(false),
             push,
             timeout,
             desk: Mutex::new(desk),
-            ended: Mutex::new(0),
+            over: Mutex::new(false),
             ending: Condvar::new(),
         }
     }
@@ -72,26 +75,26 @@ impl<K> Hall<K> {
         self.begun.fetch_add(1, Ordering::SeqCst) < self.conns
     }
 
-    // A worker has ended.
-    fn end_one<R: Wait>(&self, rt: &R) {
-        let mut ended = self.ended.lock(rt);
-        *ended = ended.saturating_add(1);
-        drop(ended);
-        self.ending.notify_all();
-    }
-
     /// Whether a worker has gone for a connection.
     pub fn has_begun(&self) -> bool {
         self.begun.load(Ordering::SeqCst) > 0
     }
 
-    /// Whether so many workers have ended, which is waited for as long as `patience`.
-    pub fn is_over<R: Wait + Clock>(&self, rt: &R, workers: usize, patience: Duration) -> bool {
-        let ended = self.ended.lock(rt);
-        let (ended, waited) = self
+    // Serving is over.
+    fn end<R: Wait>(&self, rt: &R) {
+        let mut over = self.over.lock(rt);
+        *over = true;
+        drop(over);
+        self.ending.notify_all();
+    }
+
+    /// Whether serving is over, which is waited for as long as `patience`.
+    pub fn is_over<R: Wait + Clock>(&self, rt: &R, patience: Duration) -> bool {
+        let over = self.over.lock(rt);
+        let (over, waited) = self
             .ending
-            .wait_timeout_while(rt, ended, patience, |count| *count < workers);
-        drop(ended);
+            .wait_timeout_while(rt, over, patience, |over| !*over);
+        drop(over);
         !waited.timed_out()
     }
 
@@ -109,65 +112,120 @@ impl<K> Hall<K> {
         None
     }
 
-    /// Takes no further connections. Workers that wait for one, at most so many, are woken by connections that end at once.
-    pub fn close<R: Net>(&self, rt: &R, waiting: usize) {
+    // Waits for one connection after another, until one is accepted or none is left.
+    fn next<C: Clock>(&self, clock: &C) -> Option<Client> {
+        for _ in 0..self.conns {
+            if !self.is_next() {
+                return None;
+            }
+            let client = self.accepted(clock);
+            if client.is_some() {
+                return client;
+            }
+        }
+        None
+    }
+
+    // The next connection, unless none is left, and whether a further worker is wanted: no other waits, though a connection is
+    // left. A worker is counted before it goes for a connection, so that `close` finds each that has gone for one.
+    fn awaited<C: Clock>(&self, clock: &C) -> Option<(Client, bool)> {
+        self.waiting.fetch_add(1, Ordering::SeqCst);
+        let client = self.next(clock);
+        let is_last = self.waiting.fetch_sub(1, Ordering::SeqCst) == 1;
+        let is_wanted = is_last && self.begun.load(Ordering::SeqCst) < self.conns;
+        Some((client?, is_wanted))
+    }
+
+    /// Takes no further connections. Workers that wait for one are woken by connections that end at once.
+    pub fn close<R: Net>(&self, rt: &R) {
         self.closed.store(true, Ordering::SeqCst);
         self.begun.store(self.conns, Ordering::SeqCst);
         let Ok(address) = self.listener.local_addr() else {
             return;
         };
         let while_waking = Duration::from_millis(WAKING);
-        for _ in 0..waiting {
+        for _ in 0..self.waiting.load(Ordering::SeqCst) {
             let _ = TcpStream::connect_timeout(rt, &address, while_waking);
         }
     }
 }
 
-/// Serves one connection after another, until none is left.
+/// Serves a connection with a reader.
+fn serve_one<J: Naming, D: Wait + Drop, R: Wait>(
+    rt: &R,
+    alloc: Global,
+    hall: &Hall<Desk<J, D>>,
+    client: Client,
+    reader: &mut Reader<J>,
+) {
+    let limits = RelayLimits::default();
+    let _ = serve_conn(rt, alloc, client, reader, &hall.desk, limits);
+}
+
+/// Serves one connection after another with a reader, until none is left, or until one came in, a further worker is wanted and
+/// a reader isn't lent: then gives these two.
 fn serve_each<J: Naming, D: Wait + Drop, R: Wait, C: Clock>(
     rt: &R,
     alloc: Global,
     clock: &C,
     hall: &Hall<Desk<J, D>>,
+    spares: &Mutex<Vec<Reader<J>>>,
     reader: &mut Reader<J>,
-) {
+) -> Option<(Client, Reader<J>)> {
     for _ in 0..hall.conns {
-        if !hall.is_next() {
-            return;
+        let (client, is_wanted) = hall.awaited(clock)?;
+        let spare = if is_wanted {
+            spares.lock(rt).pop()
+        } else {
+            None
+        };
+        if let Some(spare) = spare {
+            return Some((client, spare));
         }
-        if let Some(client) = hall.accepted(clock) {
-            let limits = RelayLimits::default();
-            let _ = serve_conn(rt, alloc, client, reader, &hall.desk, limits);
-        }
+        serve_one(rt, alloc, hall, client, reader);
     }
+    None
 }
 
-/// Serves a hall's connections, until none is left.
+/// Serves a hall's connections.
 #[derive(Clone, Copy)]
 struct Serving<'c, 'h, C, K> {
     clock: &'c C,
     hall: &'h Hall<K>,
 }
 
-impl<'c, 'h, C: Clock, J: Naming, D: Wait + Drop> Duty<Reader<J>>
+impl<'c, 'h, C: Clock, J: Naming, D: Wait + Drop> Shift<Reader<J>>
     for Serving<'c, 'h, C, Desk<J, D>> {
-    fn work<R: Wait>(&self, rt: &R, alloc: Global, reader: &mut Reader<J>) {
-        serve_each(rt, alloc, self.clock, self.hall, reader);
-        self.hall.end_one(rt);
+    fn work<R: Wait>(
+        &self,
+        rt: &R,
+        alloc: Global,
+        spares: &Mutex<Vec<Reader<J>>>,
+        reader: &mut Reader<J>,
+    ) -> Option<(Client, Reader<J>)> {
+        serve_each(rt, alloc, self.clock, self.hall, spares, reader)
+    }
+
+    fn serve<R: Wait>(&self, rt: &R, alloc: Global, client: Client, reader: &mut Reader<J>) {
+        serve_one(rt, alloc, self.hall, client, reader);
+    }
+
+    fn end<R: Wait>(&self, rt: &R) {
+        self.hall.end(rt);
     }
 }
 
-/// Serves the hall's connections, with a reader for each at a time: where all are lent none is accepted. One that ends by a
-/// fault counts and touches no other. Where none can be accepted, it is tried again after a pause. That is done beside other
-/// work in this thread, and gives what the work answers once both have ended. Where no thread can be made, connections are
-/// served after the work.
+/// Serves the hall's connections, with a reader for each at a time: where all are lent none is accepted. A further worker begins
+/// where one has accepted a connection and none waits for the next. A connection that ends by a fault counts and touches no
+/// other. Where none can be accepted, it is tried again after a pause. That is done beside other work in this thread, and gives
+/// what the work answers once both have ended. Where no thread can be made, connections are served after the work.
 pub fn serve_beside<
     R: Threads + Wait + Clock + Sync,
     J: Naming + Send + Sync,
     D: Wait + Drop + Send,
     G: FnOnce() -> B,
     B,
->(rt: &R, alloc: Global, hall: &Hall<Desk<J, D>>, readers: &mut [Reader<J>], work: G) -> B
+>(rt: &R, alloc: Global, hall: &Hall<Desk<J, D>>, readers: Vec<Reader<J>>, work: G) -> B
     requires { G.pre work }
     ensures { G.post work result }
 {

@@ -2,6 +2,7 @@
 #![tactic(auto)]
 
 mod client;
+mod crew;
 mod hall;
 mod meanwhile;
 mod refusal;

@@ -52,10 +52,10 @@ fn renewed<J: Naming, R: Files<File = File>>(
     }
 }
 
-/// Whether a worker has begun, which is waited for, and not all of them have ended.
-fn is_begun<K, R: Wait + Clock>(rt: &R, hall: &Hall<K>, workers: usize) -> bool {
+/// Whether a worker has begun, which is waited for, and serving isn't over.
+fn is_begun<K, R: Wait + Clock>(rt: &R, hall: &Hall<K>) -> bool {
     for _ in 0..STARTING {
-        if hall.is_over(rt, workers, Duration::from_secs(1)) {
+        if hall.is_over(rt, Duration::from_secs(1)) {
             return false;
         }
         if hall.has_begun() {
@@ -73,19 +73,18 @@ fn since<R: Clock>(rt: &R, began: Instant) -> Duration {
     }
 }
 
-/// Writes the events file anew by the schedule, until so many workers have ended. After each time it is left alone for at least
-/// twenty times as long as that took. What can't be written is passed over until the next time. Where the clock tells no time,
-/// nothing is waited for, and the file is left to who writes it in the end.
+/// Writes the events file anew by the schedule, until serving is over. After each time it is left alone for at least twenty times
+/// as long as that took. What can't be written is passed over until the next time. Where the clock tells no time, nothing is
+/// waited for, and the file is left to who writes it in the end.
 pub fn save_meanwhile<J: Naming, K, R: Wait + Clock + Files<File = File>>(
     rt: &R,
     alloc: Global,
     hall: &Hall<K>,
-    workers: usize,
     schedule: Schedule,
     reader: &mut Reader<J>,
     file: &NewFile,
 ) {
-    if !is_begun(rt, hall, workers) {
+    if !is_begun(rt, hall) {
         return;
     }
     let Schedule {
@@ -95,7 +94,7 @@ pub fn save_meanwhile<J: Naming, K, R: Wait + Clock + Files<File = File>>(
     } = schedule;
     let mut patience = first;
     for _ in 0..u64::MAX {
-        if hall.is_over(rt, workers, patience) {
+        if hall.is_over(rt, patience) {
             return;
         }
         let Ok(began) = Instant::now(rt) else {

@@ -140,15 +140,14 @@ fn run_named<
             return Err(refusal);
         }
     };
-    let workers = readers.len();
     let every = settings.save_every();
     let schedule = Schedule {
         first: every,
         every,
         has: published(alloc, &mut reader),
     };
-    serve_beside(rt, alloc, &hall, readers.as_mut_slice(), || {
-        save_meanwhile(rt, alloc, &hall, workers, schedule, &mut reader, &file)
+    serve_beside(rt, alloc, &hall, readers, || {
+        save_meanwhile(rt, alloc, &hall, schedule, &mut reader, &file)
     });
     // The store's desk, in the hall, is there until the file is written.
     let done = end(rt, alloc, conns, &mut reader, file, writer);

@@ -4,7 +4,7 @@ ghost use Rattle.std.specs.Thread.{IsSend, IsSync};
 
 use std::alloc::Global;
 use std::sync::Wait;
-use std::thread::{Threads, join, join_mut};
+use std::thread::{Threads, join_mut};
 
 /// What a worker does.
 pub trait Duty<T> {
@@ -37,26 +37,4 @@ pub fn run_workers<R: Threads + Wait + Sync, T: Send, H: Duty<T> + Sync>(
             requires { IsSync R.row × IsSend T.row × IsSync H.row }
         { run_workers(rt, alloc, duty, back) },
     );
-}
-
-/// Does it with each item, each in a thread of its own, beside other work in this one, and waits for all. Where no thread can
-/// be made, it is done after the work.
-pub fn run_beside<R: Threads + Wait + Sync, T: Send, H: Duty<T> + Sync, G: FnOnce() -> B, B>(
-    rt: &R,
-    alloc: Global,
-    duty: &H,
-    items: &mut [T],
-    work: G,
-) -> B
-    requires { G.pre work }
-    ensures { G.post work result }
-{
-    let (_, done) = join(
-        rt,
-        ||
-            requires { IsSync R.row × IsSend T.row × IsSync H.row }
-        { run_workers(rt, alloc, duty, items) },
-        work,
-    );
-    done
 }

@@ -301,14 +301,13 @@ fn run_in_hall<
     alloc: Global,
     settings: &Settings,
     hall: &Hall<Desk<J, D>>,
-    waiting: usize,
     reader: &mut Reader<J>,
     writer: &mut W,
     progress: &Progress<P>,
 ) -> Result<(), Refusal> {
     let done = run_all(rt, alloc, settings, reader, hall.desk(), writer, progress);
     if done.is_err() {
-        hall.close(rt, waiting);
+        hall.close(rt);
     }
     done
 }
@@ -333,7 +332,7 @@ fn run_serving<
     alloc: Global,
     settings: &Settings,
     desk: Desk<J, D>,
-    readers: &mut [Reader<J>],
+    readers: Vec<Reader<J>>,
     reader: &mut Reader<J>,
     file: NewFile,
     writer: &mut W,
@@ -346,7 +345,6 @@ fn run_serving<
             return Err(refusal);
         }
     };
-    let workers = readers.len();
     let schedule = Schedule {
         first: Duration::ZERO,
         every: settings.save_every(),
@@ -360,10 +358,8 @@ fn run_serving<
         ||
             requires { IsSend J.row × IsSend D.row × IsSend P.row }
         {
-            let ran = run_in_hall(
-                rt, alloc, settings, &hall, workers, reader, writer, progress,
-            );
-            save_meanwhile(rt, alloc, &hall, workers, schedule, reader, &file);
+            let ran = run_in_hall(rt, alloc, settings, &hall, reader, writer, progress);
+            save_meanwhile(rt, alloc, &hall, schedule, reader, &file);
             ran
         },
     );
@@ -427,7 +423,6 @@ fn run_named<
             progress,
         );
     }
-    let readers = readers.as_mut_slice();
     run_serving(
         rt,
         alloc,
