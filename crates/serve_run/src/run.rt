@@ -6,7 +6,7 @@ ghost use Rattle.std.specs.Io.KnownBytes.{Appends};
 use crate::hall::{Hall, serve_beside};
 use crate::meanwhile::{Schedule, published, save_meanwhile};
 use crate::refusal::{Refusal, write_refusal};
-use crate::saving::{begin, save};
+use crate::saving::{begin, room_for_piece, save};
 use event_file::NewFile;
 use event_store::{Blank, Naming, Reader, open_store};
 use mirror_settings::{Address, Settings, SettingsKey, read_settings};
@@ -110,7 +110,6 @@ fn run_named<
         + Wait
         + Files<File = File>
         + Clock
-        + AllocGlobal
         + Sync,
     W: Write,
 >(
@@ -132,7 +131,8 @@ fn run_named<
         return Err(Refusal::Store);
     };
     let path = settings.events.as_str();
-    let file = begin(rt, alloc, &mut desk, path)?;
+    let mut text = room_for_piece(alloc)?;
+    let file = begin(rt, alloc, &mut desk, path, &mut text)?;
     let hall = match open_hall(rt, alloc, settings, desk, writer) {
         Ok(hall) => hall,
         Err(refusal) => {
@@ -163,7 +163,6 @@ pub fn run_serve<
         + Wait
         + Files<File = File>
         + Clock
-        + AllocGlobal
         + Sync,
     W: Write,
 >(rt: &R, alloc: Global, text: &str, writer: &mut W) -> Result<(), Refusal> {

@@ -3,7 +3,7 @@
 use crate::refusal::{Refusal, read_refusal, write_refusal};
 use event_file::{FileFault, NewFile, insert_lines};
 use event_store::{Desk, Naming, Reader};
-use std::alloc::Global;
+use std::alloc::{AllocError, Global};
 use std::fs;
 use std::fs::File;
 use std::io::{BufRead, BufReader, ErrorKind};
@@ -15,6 +15,12 @@ const PIECE: usize = 1 << 21;
 
 /// So many bytes of the file are read at once.
 const READ: usize = 1 << 16;
+
+/// Room for a piece of the events file. It is kept until the job is done: once a block of such a size was given back, the system's
+/// allocator (glibc's) keeps blocks of that size to itself, and a long `sync` has some tenth more memory.
+pub fn room_for_piece(alloc: Global) -> Result<Vec<u8>, AllocError> {
+    Vec::with_capacity(alloc, PIECE + READ)
+}
 
 /// Reads the lines of a piece behind what the text has, and gives how many they are: none at the end.
 fn read_piece<B: BufRead>(lines: &mut B, text: &mut Vec<u8>) -> Result<usize, Refusal> {
@@ -31,18 +37,18 @@ fn read_piece<B: BufRead>(lines: &mut B, text: &mut Vec<u8>) -> Result<usize, Re
     Ok(PIECE)
 }
 
-/// Puts the events of lines into a store, piece by piece, so that no more of them is held than a piece and a line.
+/// Puts the events of lines into a store, piece by piece, of which the text gets one at a time.
 fn fill_from<J: Naming, D: Wait + Drop, R: Wait, B: BufRead>(
     rt: &R,
     alloc: Global,
     desk: &mut Desk<J, D>,
     lines: &mut B,
+    text: &mut Vec<u8>,
 ) -> Result<(), Refusal> {
-    let mut text = Vec::new(alloc);
     let mut before: usize = 0;
     for _ in 0..u64::MAX {
         text.clear();
-        let count = read_piece(lines, &mut text)?;
+        let count = read_piece(lines, text)?;
         if count == 0 {
             break;
         }
@@ -55,12 +61,13 @@ fn fill_from<J: Naming, D: Wait + Drop, R: Wait, B: BufRead>(
     Ok(())
 }
 
-/// Puts the events of the file at a path into a store. A file that isn't there has none.
+/// Puts the events of the file at a path into a store, by way of the text. A file that isn't there has none.
 fn fill<J: Naming, D: Wait + Drop, R: Wait + Files<File = File>>(
     rt: &R,
     alloc: Global,
     desk: &mut Desk<J, D>,
     path: &str,
+    text: &mut Vec<u8>,
 ) -> Result<(), Refusal> {
     let file = match fs::open(rt, path) {
         Ok(file) => file,
@@ -68,21 +75,22 @@ fn fill<J: Naming, D: Wait + Drop, R: Wait + Files<File = File>>(
         Err(error) => return Err(read_refusal(&error)),
     };
     match BufReader::with_capacity(alloc, READ, file) {
-        Ok(mut lines) => fill_from(rt, alloc, desk, &mut lines),
+        Ok(mut lines) => fill_from(rt, alloc, desk, &mut lines, text),
         Err(error) => Err(read_refusal(&error)),
     }
 }
 
 /// Begins the file that is to take the place of the events file, and puts the events of that one into a store. Another run that
-/// has begun one is told first, and a fault of reading before one of writing.
+/// has begun one is told first, and a fault of reading before one of writing. `text` has room for a piece of that file.
 pub fn begin<J: Naming, D: Wait + Drop, R: Wait + Files<File = File>>(
     rt: &R,
     alloc: Global,
     desk: &mut Desk<J, D>,
     path: &str,
+    text: &mut Vec<u8>,
 ) -> Result<NewFile, Refusal> {
     match NewFile::create(rt, alloc, path) {
-        Ok(file) => match fill(rt, alloc, desk, path) {
+        Ok(file) => match fill(rt, alloc, desk, path, text) {
             Ok(()) => Ok(file),
             Err(refusal) => {
                 let _ = file.discard(rt);
@@ -91,7 +99,7 @@ pub fn begin<J: Naming, D: Wait + Drop, R: Wait + Files<File = File>>(
         },
         Err(error) if error.kind() == ErrorKind::WouldBlock => Err(Refusal::Busy),
         Err(error) => {
-            fill(rt, alloc, desk, path)?;
+            fill(rt, alloc, desk, path, text)?;
             Err(write_refusal(&error))
         }
     }
