@@ -133,8 +133,7 @@ impl Element for Id {
     }
 
     fn write(&self, alloc: Global) -> Result<Value, AllocError> {
-        let text = hex::encode(alloc, self.as_bytes().as_slice())?;
-        Value::try_from_str(alloc, text.as_str())
+        Ok(Value::from(hex::encode(alloc, self.as_bytes().as_slice())?))
     }
 }
 
@@ -172,8 +171,7 @@ impl Element for Bytes {
 
     fn write(&self, alloc: Global) -> Result<Value, AllocError> {
         read_each(self.as_slice());
-        let text = hex::encode(alloc, self.as_slice())?;
-        Value::try_from_str(alloc, text.as_str())
+        Ok(Value::from(hex::encode(alloc, self.as_slice())?))
     }
 }
 
