@@ -315,6 +315,25 @@ def refusals_say_what_and_where(path, folder):
     same(done(path, "sync", os.path.join(folder, "none.toml")), (1, "", "refused: read\n"))
 
 
+def long_files_are_read_piece_by_piece(path, folder):
+    """Some 2 MiB of lines at a time: of these events the first 40 are two pieces and a part of a third, which ends with the last
+    line, longer than a piece by itself. An empty line stands among them, and no line feed at the end."""
+    many = [event(1700000000 + n, "%d " % n * (40_000 if n < 40 else 800_000)) for n in range(41)]
+    lines = [json.dumps(it) for it in many]
+    kept = os.path.join(folder, "it.jsonl")
+    with open(kept, "w") as file:
+        file.write("\n".join(lines[:20] + [""] + lines[20:]))
+    conf = settings(folder, "it", listen="127.0.0.1:0", conns=1)
+    relay, port = start(path, "serve", conf)
+    socket.create_connection(("127.0.0.1", port)).close()
+    same(relay.communicate(timeout=60), ("served 1\nevents 41\n", ""))
+    same(ids_of(read(kept)), ids_of(many))
+    with open(kept, "a") as file:
+        file.write("\n\n{}\n")
+    # The file was written anew, without the empty line.
+    same(done(path, "serve", conf), (1, "", "refused: file line 44\n"))
+
+
 def one_run_has_an_events_file(path, folder):
     """A second run is refused and leaves no trace; the first is kept from nothing, also where the file is a link."""
     kept = os.path.join(folder, "kept.jsonl")
@@ -376,7 +395,7 @@ def main():
                  a_filter_and_bases_are_kept, what_was_missed_is_planned_anew, what_was_left_is_asked_for_again,
                  two_workers_fetch_side_by_side, what_is_no_event_asked_for_is_missed, a_client_learns_what_it_lacks,
                  connections_wait_for_descriptors, hosts_have_names, refusals_say_what_and_where,
-                 one_run_has_an_events_file, no_other_file_is_written, a_missing_folder_is_told_first,
+                 long_files_are_read_piece_by_piece, one_run_has_an_events_file, no_other_file_is_written, a_missing_folder_is_told_first,
                  wrong_settings_are_told):
         with tempfile.TemporaryDirectory() as folder:
             part(path, folder)
