@@ -14,5 +14,5 @@ pub use hall::{Hall, serve_beside};
 pub use meanwhile::{Schedule, published, save_meanwhile};
 pub use refusal::{Refusal, read_refusal, write_refusal};
 pub use run::{open_hall, readers_for, run_serve, say};
-pub use saving::{begin, room_for_piece, save};
+pub use saving::{begin, save};
 pub use workers::{Duty, run_workers};

@@ -6,7 +6,7 @@ ghost use Rattle.std.specs.Io.KnownBytes.{Appends};
 use crate::hall::{Hall, serve_beside};
 use crate::meanwhile::{Schedule, published, save_meanwhile};
 use crate::refusal::{Refusal, write_refusal};
-use crate::saving::{begin, room_for_piece, save};
+use crate::saving::{begin, save};
 use event_file::NewFile;
 use event_store::{Blank, Naming, Reader, open_store};
 use mirror_settings::{Address, Settings, SettingsKey, read_settings};
@@ -131,8 +131,7 @@ fn run_named<
         return Err(Refusal::Store);
     };
     let path = settings.events.as_str();
-    let mut text = room_for_piece(alloc)?;
-    let file = begin(rt, alloc, &mut desk, path, &mut text)?;
+    let file = begin(rt, alloc, &mut desk, path)?;
     let hall = match open_hall(rt, alloc, settings, desk, writer) {
         Ok(hall) => hall,
         Err(refusal) => {

@@ -3,7 +3,7 @@
 use crate::refusal::{Refusal, read_refusal, write_refusal};
 use event_file::{FileFault, NewFile, insert_lines};
 use event_store::{Desk, Naming, Reader};
-use std::alloc::{AllocError, Global};
+use std::alloc::Global;
 use std::fs;
 use std::fs::File;
 use std::io::{BufRead, BufReader, ErrorKind};
@@ -16,11 +16,10 @@ const PIECE: usize = 1 << 21;
 /// So many bytes of the file are read at once.
 const READ: usize = 1 << 16;
 
-/// Room for a piece of the events file. It is kept until the job is done: once a block of such a size was given back, the system's
-/// allocator (glibc's) keeps blocks of that size to itself, and a long `sync` has some tenth more memory.
-pub fn room_for_piece(alloc: Global) -> Result<Vec<u8>, AllocError> {
-    Vec::with_capacity(alloc, PIECE + READ)
-}
+/// So much room is asked for to read pieces, of which only what they take is ever touched. It is above 32 MiB, so that the system's
+/// allocator (glibc's) maps it by itself and gives it back whole. Once a block of a piece's size was given back, it would keep blocks
+/// of up to that size to itself, and a long `sync` would have some tenth more memory.
+const ROOM: usize = 1 << 26;
 
 /// Reads the lines of a piece behind what the text has, and gives how many they are: none at the end.
 fn read_piece<B: BufRead>(lines: &mut B, text: &mut Vec<u8>) -> Result<usize, Refusal> {
@@ -37,18 +36,21 @@ fn read_piece<B: BufRead>(lines: &mut B, text: &mut Vec<u8>) -> Result<usize, Re
     Ok(PIECE)
 }
 
-/// Puts the events of lines into a store, piece by piece, of which the text gets one at a time.
+/// Puts the events of lines into a store, piece by piece, so that no more of them is held than a piece and a line.
 fn fill_from<J: Naming, D: Wait + Drop, R: Wait, B: BufRead>(
     rt: &R,
     alloc: Global,
     desk: &mut Desk<J, D>,
     lines: &mut B,
-    text: &mut Vec<u8>,
 ) -> Result<(), Refusal> {
+    let mut text = match Vec::with_capacity(alloc, ROOM) {
+        Ok(text) => text,
+        Err(_) => Vec::new(alloc),
+    };
     let mut before: usize = 0;
     for _ in 0..u64::MAX {
         text.clear();
-        let count = read_piece(lines, text)?;
+        let count = read_piece(lines, &mut text)?;
         if count == 0 {
             break;
         }
@@ -61,13 +63,12 @@ fn fill_from<J: Naming, D: Wait + Drop, R: Wait, B: BufRead>(
     Ok(())
 }
 
-/// Puts the events of the file at a path into a store, by way of the text. A file that isn't there has none.
+/// Puts the events of the file at a path into a store. A file that isn't there has none.
 fn fill<J: Naming, D: Wait + Drop, R: Wait + Files<File = File>>(
     rt: &R,
     alloc: Global,
     desk: &mut Desk<J, D>,
     path: &str,
-    text: &mut Vec<u8>,
 ) -> Result<(), Refusal> {
     let file = match fs::open(rt, path) {
         Ok(file) => file,
@@ -75,22 +76,21 @@ fn fill<J: Naming, D: Wait + Drop, R: Wait + Files<File = File>>(
         Err(error) => return Err(read_refusal(&error)),
     };
     match BufReader::with_capacity(alloc, READ, file) {
-        Ok(mut lines) => fill_from(rt, alloc, desk, &mut lines, text),
+        Ok(mut lines) => fill_from(rt, alloc, desk, &mut lines),
         Err(error) => Err(read_refusal(&error)),
     }
 }
 
 /// Begins the file that is to take the place of the events file, and puts the events of that one into a store. Another run that
-/// has begun one is told first, and a fault of reading before one of writing. `text` has room for a piece of that file.
+/// has begun one is told first, and a fault of reading before one of writing.
 pub fn begin<J: Naming, D: Wait + Drop, R: Wait + Files<File = File>>(
     rt: &R,
     alloc: Global,
     desk: &mut Desk<J, D>,
     path: &str,
-    text: &mut Vec<u8>,
 ) -> Result<NewFile, Refusal> {
     match NewFile::create(rt, alloc, path) {
-        Ok(file) => match fill(rt, alloc, desk, path, text) {
+        Ok(file) => match fill(rt, alloc, desk, path) {
             Ok(()) => Ok(file),
             Err(refusal) => {
                 let _ = file.discard(rt);
@@ -99,7 +99,7 @@ pub fn begin<J: Naming, D: Wait + Drop, R: Wait + Files<File = File>>(
         },
         Err(error) if error.kind() == ErrorKind::WouldBlock => Err(Refusal::Busy),
         Err(error) => {
-            fill(rt, alloc, desk, path, text)?;
+            fill(rt, alloc, desk, path)?;
             Err(write_refusal(&error))
         }
     }

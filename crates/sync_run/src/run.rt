@@ -20,8 +20,8 @@ use mirror_settings::{Settings, SettingsKey, read_settings};
 use neg_session::SessionLimits;
 use offer_table::Bases;
 use serve_run::{
-    Hall, Refusal, Schedule, begin, open_hall, published, readers_for, room_for_piece, save,
-    save_meanwhile, say, serve_beside,
+    Hall, Refusal, Schedule, begin, open_hall, published, readers_for, save, save_meanwhile, say,
+    serve_beside,
 };
 use std::alloc::Global;
 use std::fs::File;
@@ -409,8 +409,7 @@ fn run_named<
         return Err(Refusal::Store);
     };
     let path = settings.events.as_str();
-    let mut text = room_for_piece(alloc)?;
-    let file = begin(rt, alloc, &mut desk, path, &mut text)?;
+    let file = begin(rt, alloc, &mut desk, path)?;
     if settings.listen.is_none() {
         return run_alone(
             rt,
