@@ -58,7 +58,9 @@ pub(crate) fn byte_of(high: u8, low: u8) -> u8
     high.wrapping_mul(16).wrapping_add(low)
 }
 
-/// The id whose digits have these values.
+/// The id whose digits have these values. It stays a function of its own: where this loop and that of `values_of` stand in one, the
+/// compiler makes of this one code that takes three times as long.
+#[inline(never)]
 fn id_of(values: &[u8; 64]) -> Id
     requires { All (λ v. v < 16) values.now }
     ensures digits { map (slice_index lower_digits) values.now ≡ encode_lower result.0 }
