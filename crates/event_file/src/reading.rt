@@ -17,7 +17,7 @@ use std::sync::{Arc, Wait};
 
 // As many events as are put into the store at once. Each time copies what it changes of the store's roll and maps, which is
 // most of them where the events come in no order.
-const BATCH: usize = 4096;
+const BATCH: usize = 2048;
 
 /// The event of a line.
 fn event_of(alloc: Global, line: &[u8]) -> Result<Arc<Event>, LineFault>
@@ -51,7 +51,7 @@ fn next_event(alloc: Global, text: &[u8]) -> Option<(Arc<Event>, &[u8])>
     }
 }
 
-/// An event and those of the lines behind it, as far as each has one that can be read, and the text behind these. It reads 4,096
+/// An event and those of the lines behind it, as far as each has one that can be read, and the text behind these. It reads 2,048
 /// at most.
 fn next_events(
     alloc: Global,
