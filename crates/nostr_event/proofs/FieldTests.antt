@@ -6,7 +6,6 @@ use Rattle.serde_json.specs.Find.{get, as_object}
 use Rattle.nostr_event.specs.declared.fields.Shapes.{Shapes}
 use Rattle.nostr_event.specs.EventView.{IsBytesOf}
 use Rattle.nostr_event.specs.EventJson.{HasShapes, IsHexAt, first_failing, shape_tests}
-use Rattle.nostr_event.proofs.Find.{tags_are}
 
 pub object_from_get : (k : List ℕ) (d e : Data) → get k d ≡ Some e → is_some (as_object d) ≡ true
 object_from_get k null e h = cc
@@ -17,7 +16,7 @@ object_from_get k (array ds) e h = cc
 object_from_get k (object ms) e h = refl
 
 pub shapes_pass : (d : Data) (s : Shapes) → HasShapes d s → first_failing (shape_tests d) ≡ None
-shapes_pass d s h = rw (object_from_get (codes "id") d _ h.id, h.id, h.pubkey, h.created_at, h.kind, h.tags, tags_are s.tags, h.content, h.sig) refl
+shapes_pass d s h = rw (object_from_get (codes "id") d _ h.id, h.id, h.pubkey, h.created_at, h.kind, h.tags, h.content, h.sig) refl
 
 pub not_hex_at : (name : List ℕ) (n : ℕ) (d : Data) (text : List ℕ) → get name d ≡ Some (string text) → ((b : List ℕ) → IsBytesOf n b → ¬ (text ≡ encode_lower b)) → ¬ IsHexAt name n d
 not_hex_at name n d text here none = λ h.

@@ -75,13 +75,13 @@ shape_tests d =
 
 -- ---- what each refusal says
 
--- the fields with their JSON types
+-- the fields with their JSON types, and tags of theirs
 pub record HasShapes (d : Data) (s : Shapes) : Type 0 where
   pub id : get (codes "id") d ≡ Some (string s.id.now)
   pub pubkey : get (codes "pubkey") d ≡ Some (string s.pubkey.now)
   pub created_at : get (codes "created_at") d ≡ Some (number (number_view s.created_at.now))
   pub kind : get (codes "kind") d ≡ Some (number (number_view s.kind.now))
-  pub tags : get (codes "tags") d ≡ Some (array (tags_items s.tags))
+  pub tags : is_tags_at (codes "tags") d ≡ true
   pub content : get (codes "content") d ≡ Some (string s.content.now)
   pub sig : get (codes "sig") d ≡ Some (string s.sig.now)
 

@@ -1,14 +1,15 @@
 // The fields of an event's object.
-ghost use Rattle.std.specs.Prelude.{◌≡◌, ◌⊎◌, List, ℕ, IfOk, IfErr, OnOk, unwrap_or, option_map, nat_lt, ◌<◌, Some, true, false, is_ok, codes};
+ghost use Rattle.std.specs.Prelude.{◌≡◌, ◌⊎◌, List, ℕ, IfOk, IfErr, OnOk, unwrap_or, option_map, nat_lt, ◌<◌, Some, is_some, true, false, is_ok, codes};
+ghost use Rattle.std.specs.List.{list_all};
 ghost use Rattle.serde_json.specs.Data.{string, number, array, unsigned};
-ghost use Rattle.serde_json.specs.Find.{get, as_u64};
+ghost use Rattle.serde_json.specs.Find.{get, as_str, as_array, as_u64};
 ghost use Rattle.serde_json.specs.View.{view, number_view, items_view};
-ghost use Rattle.nostr_event.specs.EventJson.{is_text_at, is_number_at, is_tags_at, are_texts, are_tags, tag_items, tags_items, HasShapes, Refuses};
+ghost use Rattle.nostr_event.specs.EventJson.{is_text_at, is_number_at, is_tags_at, is_tag, are_texts, are_tags, tag_items, tags_items, HasShapes, Refuses};
 
 use crate::fault::{EventFault, EventField};
 use crate::texts::{Tag, Tags, Text};
 use serde_json::{Number, Value};
-use std::alloc::Global;
+use std::alloc::{AllocError, Global};
 
 // The text of the field.
 pub fn text_at<'v>(value: &'v Value, field: EventField, name: &str) -> Result<&'v str, EventFault>
@@ -38,64 +39,119 @@ pub fn number_at<'v>(
     }
 }
 
-// The tag of an array of strings.
-fn tag_of(alloc: Global, values: &[Value]) -> Result<Tag, EventFault>
-    ensures ok { IfOk result (λ t. items_view values.now ≡ tag_items t) }
-    ensures err { IfErr result (λ e. (e ≡ EventFault.Memory) ⊎ ((e ≡ EventFault.Shape EventField.Tags) × (are_texts (items_view values.now) ≡ false))) }
+// Whether each value is a string.
+fn are_strings(values: &[Value]) -> bool
+    ensures { result ≡ list_all (λ v. is_some (as_str (view v))) values.now }
+{
+    values.iter().all(|value| value.is_string())
+}
+
+// Whether the value is an array of strings.
+#[tactic(auto, using(crate::proofs::Find::texts_all))]
+fn is_array_of_strings(value: &Value) -> bool
+    ensures { result ≡ is_tag (view value.now) }
+{
+    match value.as_array() {
+        Some(list) => are_strings(list.as_slice()),
+        None => false,
+    }
+}
+
+// Whether each value is an array of strings.
+fn are_arrays_of_strings(values: &[Value]) -> bool
+    ensures { result ≡ list_all (λ v. is_tag (view v)) values.now }
+{
+    values.iter().all(|value| is_array_of_strings(value))
+}
+
+// Whether the field `tags` is an array of arrays of strings.
+#[tactic(auto, using(crate::proofs::Find::tags_all))]
+fn has_tags(value: &Value) -> bool
+    ensures { result ≡ is_tags_at (codes "tags") (view value.now) }
+{
+    match value.get("tags").and_then(Value::as_array) {
+        Some(list) => are_arrays_of_strings(list.as_slice()),
+        None => false,
+    }
+}
+
+// The text of a string.
+fn text_of(value: Value) -> Option<Text>
+    ensures { result ≡ as_str (view value) }
+{
+    match value {
+        Value::String(text) => Some(Text::new(text)),
+        _ => None,
+    }
+}
+
+// The values of an array.
+fn values_of(value: Value) -> Option<Vec<Value>>
+    ensures { option_map (λ values. items_view values.items) result ≡ as_array (view value) }
+{
+    match value {
+        Value::Array(values) => Some(values),
+        _ => None,
+    }
+}
+
+// The tag of an array of strings, whose texts it takes.
+fn tag_of(alloc: Global, values: Vec<Value>) -> Result<Tag, AllocError>
+    requires { are_texts (items_view values.items) ≡ true }
+    ensures { IfOk result (λ t. items_view values.items ≡ tag_items t) }
 {
     let mut texts = Vec::with_capacity(alloc, values.len())?;
     for value in values {
-        let Some(text) = value.as_str() else {
-            return Err(EventFault::Shape(EventField::Tags));
+        let Some(text) = text_of(value) else {
+            unreachable!();
         };
-        texts.push(Text::new(String::from_str(alloc, text)?))?;
+        texts.push(text)?;
     }
     Ok(Tag::new(texts))
 }
 
-// The tags of the field `tags`.
-pub fn tags_at(alloc: Global, value: &Value) -> Result<Tags, EventFault>
-    ensures ok { IfOk result (λ t. get (codes "tags") (view value.now) ≡ Some (array (tags_items t))) }
-    ensures tested { OnOk result (is_tags_at (codes "tags") (view value.now) ≡ true) }
-    ensures err { IfErr result (λ e. (e ≡ EventFault.Memory)
-        ⊎ ((e ≡ EventFault.Shape EventField.Tags) × (is_tags_at (codes "tags") (view value.now) ≡ false))) }
-{
-    match value.get("tags").and_then(Value::as_array) {
-        Some(list) => tags_of(alloc, list.as_slice()),
-        None => Err(EventFault::Shape(EventField::Tags)),
-    }
-}
-
-// The tags of an array of arrays of strings.
-fn tags_of(alloc: Global, values: &[Value]) -> Result<Tags, EventFault>
-    ensures ok { IfOk result (λ t. items_view values.now ≡ tags_items t) }
-    ensures tested { OnOk result (are_tags (items_view values.now) ≡ true) }
-    ensures err { IfErr result (λ e. (e ≡ EventFault.Memory) ⊎ ((e ≡ EventFault.Shape EventField.Tags) × (are_tags (items_view values.now) ≡ false))) }
+// The tags of an array of arrays of strings, whose texts they take.
+fn tags_of(alloc: Global, values: Vec<Value>) -> Result<Tags, AllocError>
+    requires { are_tags (items_view values.items) ≡ true }
+    ensures { IfOk result (λ t. items_view values.items ≡ tags_items t) }
 {
     let mut tags = Vec::with_capacity(alloc, values.len())?;
     for value in values {
-        let Some(list) = value.as_array() else {
-            return Err(EventFault::Shape(EventField::Tags));
+        let Some(texts) = values_of(value) else {
+            unreachable!();
         };
-        tags.push(tag_of(alloc, list.as_slice())?)?;
+        tags.push(tag_of(alloc, texts)?)?;
     }
     Ok(Tags::new(tags))
 }
 
-// The fields of an event's object, with their JSON types.
+// The tags of the field `tags`, whose texts they take.
+pub fn take_tags(alloc: Global, value: &mut Value) -> Result<Tags, AllocError>
+    requires { is_tags_at (codes "tags") (view value.old) ≡ true }
+    ensures { IfOk result (λ t. get (codes "tags") (view value.old) ≡ Some (array (tags_items t))) }
+{
+    match value.get_mut("tags") {
+        Some(tags) => match values_of(tags.take()) {
+            Some(values) => tags_of(alloc, values),
+            None => unreachable!(),
+        },
+        None => unreachable!(),
+    }
+}
+
+// The fields of an event's object but its tags, with their JSON types.
 #[derive(Drop)]
 pub struct Shapes<'v> {
     pub id: &'v str,
     pub pubkey: &'v str,
     pub created_at: &'v Number,
     pub kind: &'v Number,
-    pub tags: Tags,
     pub content: &'v str,
     pub sig: &'v str,
 }
 
 // The fields, or the first that is missing or of another type.
-pub fn shapes_of<'v>(alloc: Global, value: &'v Value) -> Result<Shapes<'v>, EventFault>
+pub fn shapes_of<'v>(value: &'v Value) -> Result<Shapes<'v>, EventFault>
     ensures ok { IfOk result (λ s. HasShapes (view value.now) s) }
     ensures err { IfErr result (λ e. Refuses (view value.now) e) }
 {
@@ -106,7 +162,9 @@ pub fn shapes_of<'v>(alloc: Global, value: &'v Value) -> Result<Shapes<'v>, Even
     let pubkey = text_at(value, EventField::Pubkey, "pubkey")?;
     let created_at = number_at(value, EventField::CreatedAt, "created_at")?;
     let kind = number_at(value, EventField::Kind, "kind")?;
-    let tags = tags_at(alloc, value)?;
+    if !has_tags(value) {
+        return Err(EventFault::Shape(EventField::Tags));
+    }
     let content = text_at(value, EventField::Content, "content")?;
     let sig = text_at(value, EventField::Sig, "sig")?;
     Ok(Shapes {
@@ -114,7 +172,6 @@ pub fn shapes_of<'v>(alloc: Global, value: &'v Value) -> Result<Shapes<'v>, Even
         pubkey,
         created_at,
         kind,
-        tags,
         content,
         sig,
     })

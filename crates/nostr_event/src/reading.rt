@@ -7,7 +7,7 @@ ghost use Rattle.nostr_event.specs.EventJson.{HasFields, Reads, Refuses};
 use crate::draft::Draft;
 use crate::event::{Event, checked};
 use crate::fault::{EventFault, EventField};
-use crate::fields::{below, shapes_of};
+use crate::fields::{below, shapes_of, take_tags};
 use crate::hexes::{hex32_at, hex64_at};
 use crate::texts::Text;
 use neg_codec::Id;
@@ -22,23 +22,24 @@ struct Parts {
     sig: [u8; 64],
 }
 
-fn parts_of(alloc: Global, value: &Value) -> Result<Parts, EventFault>
-    ensures ok { IfOk result (λ p. HasFields (view value.now)
+fn parts_of(alloc: Global, value: &mut Value) -> Result<Parts, EventFault>
+    ensures ok { IfOk result (λ p. HasFields (view value.old)
         (record { id = p.id; draft = p.draft; sig = p.sig })) }
-    ensures err { IfErr result (λ f. Refuses (view value.now) f) }
+    ensures err { IfErr result (λ f. Refuses (view value.old) f) }
 {
-    let shapes = shapes_of(alloc, value)?;
+    let shapes = shapes_of(value)?;
     let id = hex32_at(shapes.id, EventField::Id)?;
     let pubkey = hex32_at(shapes.pubkey, EventField::Pubkey)?;
     let sig = hex64_at(shapes.sig, EventField::Sig)?;
     let created_at = below(shapes.created_at, u64::MAX, EventField::CreatedAt)?;
     let kind = below(shapes.kind, 65536, EventField::Kind)?;
     let content = Text::new(String::from_str(alloc, shapes.content)?);
+    let tags = take_tags(alloc, value)?;
     let draft = Draft {
         pubkey,
         created_at,
         kind: kind as u16,
-        tags: shapes.tags,
+        tags,
         content,
     };
     Ok(Parts {
@@ -48,9 +49,9 @@ fn parts_of(alloc: Global, value: &Value) -> Result<Parts, EventFault>
     })
 }
 
-fn read_event(alloc: Global, value: &Value) -> Result<Event, EventFault>
-    ensures ok { IfOk result (λ e. Reads (view value.now) e) }
-    ensures err { IfErr result (λ f. Refuses (view value.now) f) }
+fn read_event(alloc: Global, value: &mut Value) -> Result<Event, EventFault>
+    ensures ok { IfOk result (λ e. Reads (view value.old) e) }
+    ensures err { IfErr result (λ f. Refuses (view value.old) f) }
 {
     let Parts { id, draft, sig } = parts_of(alloc, value)?;
     match checked(alloc, id, draft, sig)? {
@@ -66,6 +67,20 @@ impl Event {
         ensures no_other { IfOk result (λ e. (other : EventView) → Reads (view value.now) other → other ≡ e) }
         ensures fault { IfErr result (λ f. Refuses (view value.now) f) }
         ensures no_event { IfErr result (λ f. f ≢ EventFault.Memory → (e : EventView) → ¬ Reads (view value.now) e) }
+    {
+        // Only what has the fields is copied, so that want of memory is told of nothing else.
+        let _shapes = shapes_of(value)?;
+        let mut copy = value.clone()?;
+        let read = Event::take_json(alloc, &mut copy);
+        read
+    }
+
+    /// The same, of which the texts of the tags are taken from the value rather than copied.
+    pub fn take_json(alloc: Global, value: &mut Value) -> Result<Event, EventFault>
+        ensures event { IfOk result (λ e. Reads (view value.old) e) }
+        ensures no_other { IfOk result (λ e. (other : EventView) → Reads (view value.old) other → other ≡ e) }
+        ensures fault { IfErr result (λ f. Refuses (view value.old) f) }
+        ensures no_event { IfErr result (λ f. f ≢ EventFault.Memory → (e : EventView) → ¬ Reads (view value.old) e) }
     {
         let read = read_event(alloc, value);
         read
