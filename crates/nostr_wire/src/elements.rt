@@ -28,11 +28,11 @@ pub trait Element {
     fn fits(value: &Value) -> bool
         ensures { result ≡ has_type part (view value.now) };
 
-    /// What the value says.
-    fn read(alloc: Global, value: &Value) -> Result<Self, WireFault>
-        requires { has_type part (view value.now) ≡ true }
-        ensures ok { IfOk result (λ x. (part_of (said x) ≡ part) × Says (view value.now) (said x)) }
-        ensures err { IfErr result (λ f. (f ≡ WireFault.Memory) ⊎ (SaysNo part (view value.now) × IsFaultOf part (view value.now) f)) };
+    /// What the value says, parts of which may be taken from it.
+    fn read(alloc: Global, value: &mut Value) -> Result<Self, WireFault>
+        requires { has_type part (view value.old) ≡ true }
+        ensures ok { IfOk result (λ x. (part_of (said x) ≡ part) × Says (view value.old) (said x)) }
+        ensures err { IfErr result (λ f. (f ≡ WireFault.Memory) ⊎ (SaysNo part (view value.old) × IsFaultOf part (view value.old) f)) };
 
     /// The value that says this.
     fn write(&self, alloc: Global) -> Result<Value, AllocError>
@@ -60,13 +60,29 @@ impl Element for Text {
         value.is_string()
     }
 
-    fn read(alloc: Global, value: &Value) -> Result<Text, WireFault> {
+    fn read(alloc: Global, value: &mut Value) -> Result<Text, WireFault> {
         let text = text_in(value);
         Ok(Text::new(String::from_str(alloc, text)?))
     }
 
     fn write(&self, alloc: Global) -> Result<Value, AllocError> {
         Value::try_from_str(alloc, self.as_str())
+    }
+}
+
+// The name that the string is.
+pub fn sub_of(alloc: Global, value: &Value) -> Result<Sub, WireFault>
+    requires { has_type a_sub (view value.now) ≡ true }
+    ensures ok { IfOk result (λ s. Says (view value.now) (sub s)) }
+    ensures err { IfErr result (λ f. (f ≡ WireFault.Memory) ⊎ (SaysNo a_sub (view value.now) × IsFaultOf a_sub (view value.now) f)) }
+{
+    let text = text_in(value);
+    if !is_name(text) {
+        return Err(WireFault::Sub);
+    }
+    match Sub::new(Text::new(String::from_str(alloc, text)?)) {
+        Ok(sub) => Ok(sub),
+        Err(_) => unreachable!(),
     }
 }
 
@@ -79,15 +95,8 @@ impl Element for Sub {
         value.is_string()
     }
 
-    fn read(alloc: Global, value: &Value) -> Result<Sub, WireFault> {
-        let text = text_in(value);
-        if !is_name(text) {
-            return Err(WireFault::Sub);
-        }
-        match Sub::new(Text::new(String::from_str(alloc, text)?)) {
-            Ok(sub) => Ok(sub),
-            Err(_) => unreachable!(),
-        }
+    fn read(alloc: Global, value: &mut Value) -> Result<Sub, WireFault> {
+        sub_of(alloc, value)
     }
 
     fn write(&self, alloc: Global) -> Result<Value, AllocError> {
@@ -104,7 +113,7 @@ impl Element for bool {
         value.is_boolean()
     }
 
-    fn read(_alloc: Global, value: &Value) -> Result<bool, WireFault> {
+    fn read(_alloc: Global, value: &mut Value) -> Result<bool, WireFault> {
         match value.as_bool() {
             Some(flag) => Ok(flag),
             None => unreachable!(),
@@ -125,7 +134,7 @@ impl Element for Id {
         value.is_string()
     }
 
-    fn read(_alloc: Global, value: &Value) -> Result<Id, WireFault> {
+    fn read(_alloc: Global, value: &mut Value) -> Result<Id, WireFault> {
         match parse_id(text_in(value).as_bytes()) {
             Some(id) => Ok(id),
             None => Err(WireFault::HexText),
@@ -155,7 +164,7 @@ impl Element for Bytes {
         value.is_string()
     }
 
-    fn read(alloc: Global, value: &Value) -> Result<Bytes, WireFault> {
+    fn read(alloc: Global, value: &mut Value) -> Result<Bytes, WireFault> {
         let text = text_in(value).as_bytes();
         // Most write lower-case digits, which are read by vector code.
         if let Some(bytes) = parse_bytes(alloc, text)? {
@@ -197,17 +206,30 @@ impl Element for Arc<Event> {
         value.is_object()
     }
 
-    fn read(alloc: Global, value: &Value) -> Result<Arc<Event>, WireFault> {
-        match Event::from_json(alloc, value) {
+    fn read(alloc: Global, value: &mut Value) -> Result<Arc<Event>, WireFault> {
+        let id = id_in(value);
+        match Event::take_json(alloc, value) {
             Ok(event) => Ok(Arc::new(alloc, event)?),
             Err(EventFault::Memory) => Err(WireFault::Memory),
-            Err(fault) => Err(WireFault::Event(fault, id_in(value))),
+            Err(fault) => Err(WireFault::Event(fault, id)),
         }
     }
 
     fn write(&self, alloc: Global) -> Result<Value, AllocError> {
         let event: &Event = self;
         event.to_json(alloc)
+    }
+}
+
+// The filter that the value is.
+pub fn filter_of(alloc: Global, value: &Value) -> Result<Filter, WireFault>
+    ensures ok { IfOk result (λ f. Says (view value.now) (filter f)) }
+    ensures err { IfErr result (λ f. (f ≡ WireFault.Memory) ⊎ (SaysNo a_filter (view value.now) × IsFaultOf a_filter (view value.now) f)) }
+{
+    match Filter::from_json(alloc, value) {
+        Ok(filter) => Ok(filter),
+        Err(FilterFault::Memory) => Err(WireFault::Memory),
+        Err(_) => Err(WireFault::Filter),
     }
 }
 
@@ -220,12 +242,8 @@ impl Element for Filter {
         value.is_object()
     }
 
-    fn read(alloc: Global, value: &Value) -> Result<Filter, WireFault> {
-        match Filter::from_json(alloc, value) {
-            Ok(filter) => Ok(filter),
-            Err(FilterFault::Memory) => Err(WireFault::Memory),
-            Err(_) => Err(WireFault::Filter),
-        }
+    fn read(alloc: Global, value: &mut Value) -> Result<Filter, WireFault> {
+        filter_of(alloc, value)
     }
 
     fn write(&self, alloc: Global) -> Result<Value, AllocError> {

@@ -8,7 +8,7 @@ ghost use Rattle.nostr_wire.specs.Elements.{a_filter, has_type, sub, filter};
 ghost use Rattle.nostr_wire.specs.Forms.{Form, client_form, relay_form, client_table, relay_table, request_parts};
 ghost use Rattle.nostr_wire.specs.Reading.{name_in, behind_name, AreRead, IsMessage, Reads, AreRefused, IsRefused, Refuses};
 
-use crate::elements::Element;
+use crate::elements::{Element, filter_of, sub_of};
 use crate::fault::WireFault;
 use crate::lists::{Filters, Sub};
 use crate::messages::{FromClient, FromRelay};
@@ -17,14 +17,14 @@ use serde_json::Value;
 use std::alloc::Global;
 
 // The first element, if it is a string, and those behind it.
-fn name_and_rest(value: &Value) -> Option<(&str, &[Value])>
-    ensures found { IfSome result (λ p. (name_in (view value.now) ≡ Some p.0.now) × (behind_name (view value.now) ≡ map view p.1.now)) }
-    ensures none { result ≡ None → name_in (view value.now) ≡ None }
+fn name_and_rest(value: &mut Value) -> Option<(&str, &mut [Value])>
+    ensures found { IfSome result (λ p. (name_in (view value.old) ≡ Some p.0.now) × (behind_name (view value.old) ≡ map view p.1.now)) }
+    ensures none { result ≡ None → name_in (view value.old) ≡ None }
 {
-    let Some(list) = value.as_array() else {
+    let Some(list) = value.as_array_mut() else {
         return None;
     };
-    let [first, rest @ ..] = list.as_slice() else {
+    let [first, rest @ ..] = list.as_mut_slice() else {
         return None;
     };
     match first.as_str() {
@@ -34,9 +34,9 @@ fn name_and_rest(value: &Value) -> Option<(&str, &[Value])>
 }
 
 // What the only element says.
-fn one<A: Element + Drop>(alloc: Global, rest: &[Value]) -> Result<A, WireFault>
-    ensures ok { IfOk result (λ a. AreRead (A.part ∷ []) (A.said a ∷ []) (map view rest.now)) }
-    ensures err { IfErr result (λ f. (f ≡ WireFault.Memory) ⊎ AreRefused (A.part ∷ []) (map view rest.now) f) }
+fn one<A: Element + Drop>(alloc: Global, rest: &mut [Value]) -> Result<A, WireFault>
+    ensures ok { IfOk result (λ a. AreRead (A.part ∷ []) (A.said a ∷ []) (map view rest.old)) }
+    ensures err { IfErr result (λ f. (f ≡ WireFault.Memory) ⊎ AreRefused (A.part ∷ []) (map view rest.old) f) }
 {
     let [first, ..] = rest else {
         return Err(WireFault::Arity);
@@ -51,10 +51,10 @@ fn one<A: Element + Drop>(alloc: Global, rest: &[Value]) -> Result<A, WireFault>
 // What the two elements say.
 fn two<A: Element + Drop, B: Element + Drop>(
     alloc: Global,
-    rest: &[Value],
+    rest: &mut [Value],
 ) -> Result<(A, B), WireFault>
-    ensures ok { IfOk result (λ p. AreRead (A.part ∷ B.part ∷ []) (A.said p.0 ∷ B.said p.1 ∷ []) (map view rest.now)) }
-    ensures err { IfErr result (λ f. (f ≡ WireFault.Memory) ⊎ AreRefused (A.part ∷ B.part ∷ []) (map view rest.now) f) }
+    ensures ok { IfOk result (λ p. AreRead (A.part ∷ B.part ∷ []) (A.said p.0 ∷ B.said p.1 ∷ []) (map view rest.old)) }
+    ensures err { IfErr result (λ f. (f ≡ WireFault.Memory) ⊎ AreRefused (A.part ∷ B.part ∷ []) (map view rest.old) f) }
 {
     let [first, second, ..] = rest else {
         return Err(WireFault::Arity);
@@ -70,10 +70,10 @@ fn two<A: Element + Drop, B: Element + Drop>(
 // What the three elements say.
 fn three<A: Element + Drop, B: Element + Drop, C: Element + Drop>(
     alloc: Global,
-    rest: &[Value],
+    rest: &mut [Value],
 ) -> Result<(A, B, C), WireFault>
-    ensures ok { IfOk result (λ p. AreRead (A.part ∷ B.part ∷ C.part ∷ []) (A.said p.0 ∷ B.said p.1 ∷ C.said p.2 ∷ []) (map view rest.now)) }
-    ensures err { IfErr result (λ f. (f ≡ WireFault.Memory) ⊎ AreRefused (A.part ∷ B.part ∷ C.part ∷ []) (map view rest.now) f) }
+    ensures ok { IfOk result (λ p. AreRead (A.part ∷ B.part ∷ C.part ∷ []) (A.said p.0 ∷ B.said p.1 ∷ C.said p.2 ∷ []) (map view rest.old)) }
+    ensures err { IfErr result (λ f. (f ≡ WireFault.Memory) ⊎ AreRefused (A.part ∷ B.part ∷ C.part ∷ []) (map view rest.old) f) }
 {
     let [first, second, third, ..] = rest else {
         return Err(WireFault::Arity);
@@ -102,7 +102,7 @@ fn filters_of(alloc: Global, values: &[Value]) -> Result<Vec<Filter>, WireFault>
 {
     let mut filters = Vec::new(alloc);
     for value in values {
-        filters.push(Filter::read(alloc, value)?)?;
+        filters.push(filter_of(alloc, value)?)?;
     }
     Ok(filters)
 }
@@ -118,16 +118,16 @@ fn request(alloc: Global, rest: &[Value]) -> Result<(Sub, Filters), WireFault>
     if filters.is_empty() || !Sub::fits(first) || !are_objects(filters) {
         return Err(WireFault::Arity);
     }
-    let sub = Sub::read(alloc, first)?;
+    let sub = sub_of(alloc, first)?;
     match Filters::new(filters_of(alloc, filters)?) {
         Ok(filters) => Ok((sub, filters)),
         Err(_) => unreachable!(),
     }
 }
 
-fn client_of(alloc: Global, value: &Value) -> Result<FromClient, WireFault>
-    ensures ok { IfOk result (λ m. IsMessage client_table (view value.now) (client_form m)) }
-    ensures err { IfErr result (λ f. (f ≡ WireFault.Memory) ⊎ IsRefused client_table (view value.now) f) }
+fn client_of(alloc: Global, value: &mut Value) -> Result<FromClient, WireFault>
+    ensures ok { IfOk result (λ m. IsMessage client_table (view value.old) (client_form m)) }
+    ensures err { IfErr result (λ f. (f ≡ WireFault.Memory) ⊎ IsRefused client_table (view value.old) f) }
 {
     let Some((name, rest)) = name_and_rest(value) else {
         return Err(WireFault::Kind);
@@ -160,9 +160,9 @@ fn client_of(alloc: Global, value: &Value) -> Result<FromClient, WireFault>
     }
 }
 
-fn relay_of(alloc: Global, value: &Value) -> Result<FromRelay, WireFault>
-    ensures ok { IfOk result (λ m. IsMessage relay_table (view value.now) (relay_form m)) }
-    ensures err { IfErr result (λ f. (f ≡ WireFault.Memory) ⊎ IsRefused relay_table (view value.now) f) }
+fn relay_of(alloc: Global, value: &mut Value) -> Result<FromRelay, WireFault>
+    ensures ok { IfOk result (λ m. IsMessage relay_table (view value.old) (relay_form m)) }
+    ensures err { IfErr result (λ f. (f ≡ WireFault.Memory) ⊎ IsRefused relay_table (view value.old) f) }
 {
     let Some((name, rest)) = name_and_rest(value) else {
         return Err(WireFault::Kind);
@@ -217,8 +217,8 @@ fn client_text(alloc: Global, text: &str) -> Result<FromClient, WireFault>
     ensures ok { IfOk result (λ m. Reads client_table text.now (client_form m)) }
     ensures err { IfErr result (λ f. Refuses client_table text.now f) }
 {
-    let value = value_of(alloc, text)?;
-    let message = client_of(alloc, &value)?;
+    let mut value = value_of(alloc, text)?;
+    let message = client_of(alloc, &mut value)?;
     Ok(message)
 }
 
@@ -226,8 +226,8 @@ fn relay_text(alloc: Global, text: &str) -> Result<FromRelay, WireFault>
     ensures ok { IfOk result (λ m. Reads relay_table text.now (relay_form m)) }
     ensures err { IfErr result (λ f. Refuses relay_table text.now f) }
 {
-    let value = value_of(alloc, text)?;
-    let message = relay_of(alloc, &value)?;
+    let mut value = value_of(alloc, text)?;
+    let message = relay_of(alloc, &mut value)?;
     Ok(message)
 }
 

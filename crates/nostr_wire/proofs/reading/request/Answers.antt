@@ -61,7 +61,7 @@ returns-in_err-filters_of-clause-err c =
       | inl memory ↦ inl memory
       | inr bad ↦ inr (request_refused vs fs v _ whole some (elim bad [
         | inl arity ↦ absurd (let misfit = arity.1 in cc)
-        | inr first ↦ inr (request_fits v fs named objects, inr ((sub c.in_ok-sub.sub, refl, c.in_ok-sub.ensures.ok.1), first.1))
+        | inr first ↦ inr (request_fits v fs named objects, inr ((sub c.in_ok-sub.sub, refl, c.in_ok-sub.ensures.ok), first.1))
       ]))
     ])
 
@@ -73,4 +73,4 @@ returns-clause-ok c =
     let whole = rest_is vs v c.in-len1-up.len_at_least c.first-item.is in
     let some : 1 ≤ length fs = grind (arith, common_steps, c.is_empty.ensures, c.if-is_empty.false) in
     let read : AreFilters c.in-Ok.filters fs = subst (λ l. AreFilters l fs) (sym c.in-Ok.ensures.made.0) c.in_ok-filters_of.ensures.ok in
-    request_read vs fs v (sub c.in_ok-sub.sub ∷ map filter c.in-Ok.filters) whole some (ap (λ ps. a_sub ∷ ps) read.0, (c.in_ok-sub.ensures.ok.1, read.1))
+    request_read vs fs v (sub c.in_ok-sub.sub ∷ map filter c.in-Ok.filters) whole some (ap (λ ps. a_sub ∷ ps) read.0, (c.in_ok-sub.ensures.ok, read.1))
