@@ -92,6 +92,23 @@ fn keep_first(ranks: &mut Vec<Rank>, filter: &Filter)
     ranks.truncate(cut(filter));
 }
 
+// Whether the event has a time, as each has, which is to read where it stands.
+fn has_time(event: &Event) -> bool {
+    event.draft().created_at < u64::MAX
+}
+
+// How many of the places have an event. Each event is read where its time stands before the first is matched: these reads don't
+// wait for one another, so that the memory of events that lie far apart is fetched side by side, and not event by event.
+fn times_at(events: &EventList, places: &[usize]) -> usize {
+    let mut times: usize = 0;
+    for place in places {
+        if *place < events.len() && has_time(events.get(*place)) {
+            times = times.saturating_add(1);
+        }
+    }
+    times
+}
+
 // What orders the events that the filter matches, of those at the places.
 fn ranks_at(
     alloc: Global,
@@ -102,7 +119,7 @@ fn ranks_at(
     requires { HaveMatching filter.now events.now places.now }
     ensures { IfOk result (λ v. v.items ≡ ranks_from 0 filter.now events.now) }
 {
-    let mut ranks = Vec::new(alloc);
+    let mut ranks = Vec::with_capacity(alloc, times_at(events, places))?;
     for place in places {
         put_rank(&mut ranks, filter, *place, events.get(*place))?;
     }

@@ -18,6 +18,9 @@ use std::marker::Model;
 /// A chunk has no more items.
 pub const CHUNK_ITEMS: usize = 256;
 
+/// For how many more items a copy of a chunk has room.
+const SPARE_ITEMS: usize = 16;
+
 /// How many items of a full chunk go into its first half.
 const HALF: usize = CHUNK_ITEMS / 2;
 
@@ -101,7 +104,12 @@ impl Part for Chunk {
     }
 
     fn copied(&self, alloc: Global) -> Result<Chunk, AllocError> {
-        let mut items = Vec::with_capacity(alloc, CHUNK_ITEMS)?;
+        let room = self
+            .items
+            .len()
+            .saturating_add(SPARE_ITEMS)
+            .min(CHUNK_ITEMS);
+        let mut items = Vec::with_capacity(alloc, room)?;
         items.extend_from_slice(self.items())?;
         Ok(Chunk {
             items,

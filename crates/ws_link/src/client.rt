@@ -19,7 +19,7 @@ use tungstenite::{
 const MOST_BYTES: usize = 4_194_304;
 
 /// How many bytes one read of a stream asks for, where much is to come. Each connection keeps twice as many.
-pub const MANY_BYTES: usize = 16_384;
+pub const MANY_BYTES: usize = 24_576;
 
 /// Longer messages are refused before they are read. One read asks for so many bytes.
 pub fn config(read_bytes: usize) -> WebSocketConfig {

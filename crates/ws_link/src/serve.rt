@@ -32,7 +32,7 @@ const MOST_ROUNDS: u32 = 100;
 /// Does the server's handshake, and serves the client (NIP-01, NIP-77) until it closes, or until the connection has been read
 /// 1,000,000 times: then it closes the connection itself. It gives the number of texts served. After each message, or the last of
 /// events that came together, and where a read answers `WouldBlock` or `TimedOut`, it sends the client what was published for it.
-/// Events that came together, at most 32 with no other message between them, are put into the store together, and short answers
+/// Events that came together, at most 64 with no other message between them, are put into the store together, and short answers
 /// to messages that came together are sent together, before more is read. The desk is locked for one such insert at a time.
 pub fn serve_conn<W: Wait, S: Read + Write + Drop, J: Naming, D: Wait + Drop>(
     rt: &W,

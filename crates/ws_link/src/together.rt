@@ -16,7 +16,7 @@ use std::io::Write;
 use std::sync::{Arc, Mutex, Wait};
 
 /// So many events wait for no more.
-pub const MOST_TOGETHER: usize = 32;
+pub const MOST_TOGETHER: usize = 64;
 
 /// Hears the text of an event, which then waits for those that came with it. A text that has none is answered behind those
 /// that wait.
