@@ -18,11 +18,9 @@ use std::marker::Model;
 /// A chunk has no more items.
 pub const CHUNK_ITEMS: usize = 256;
 
-/// For how many more items a copy of a chunk has room.
-const SPARE_ITEMS: usize = 16;
-
-/// How many items of a full chunk go into its first half.
-const HALF: usize = CHUNK_ITEMS / 2;
+/// A chunk that has so many, or more, is cut into halves before one more is put in: an insert copies a chunk that is shared,
+/// so smaller ones are cheaper to put items in, as larger ones are to read.
+const CUT_ITEMS: usize = 128;
 
 /// Some items, and sums of their ids.
 #[derive(Debug, Drop)]
@@ -104,12 +102,7 @@ impl Part for Chunk {
     }
 
     fn copied(&self, alloc: Global) -> Result<Chunk, AllocError> {
-        let room = self
-            .items
-            .len()
-            .saturating_add(SPARE_ITEMS)
-            .min(CHUNK_ITEMS);
-        let mut items = Vec::with_capacity(alloc, room)?;
+        let mut items = Vec::with_capacity(alloc, CUT_ITEMS)?;
         items.extend_from_slice(self.items())?;
         Ok(Chunk {
             items,
@@ -119,12 +112,13 @@ impl Part for Chunk {
     }
 
     fn halves(&self, alloc: Global) -> Result<Option<(Chunk, Chunk)>, AllocError> {
-        if self.items.len() < CHUNK_ITEMS {
+        let len = self.items.len();
+        if len < CUT_ITEMS {
             return Ok(None);
         }
-        let (first, second) = self.items().split_at(HALF);
-        let left = Chunk::with_room(alloc, first, CHUNK_ITEMS)?;
-        let right = Chunk::with_room(alloc, second, CHUNK_ITEMS)?;
+        let (first, second) = self.items().split_at(len / 2);
+        let left = Chunk::with_room(alloc, first, CUT_ITEMS)?;
+        let right = Chunk::with_room(alloc, second, CUT_ITEMS)?;
         Ok(Some((left, right)))
     }
 

@@ -9,11 +9,12 @@ use std::alloc::AllocError;
 use std::marker::Model;
 use std::sync::Arc;
 
-/// A shared event with its place among all events, and beside them what orders it and its kind, so that a search reads no event
-/// but for its author and its tags. Contracts see it as the place with the event.
+/// A shared event with its place among all events, and beside them what orders it and what most filters ask for, so that a
+/// search reads no event but for its tags. Contracts see it as the place with the event.
 #[derive(Drop)]
 pub struct Entry {
     rank: Rank,
+    author: [u8; 32],
     kind: u16,
     event: Arc<Event>,
 }
@@ -29,7 +30,7 @@ impl Model for Entry {
     ghost view = { λ e. (e.rank.place, arc_value e.event) };
 
     ghost invariant = { λ e. (e.rank ≡ rank_of e.rank.place (arc_value e.event))
-        × (e.kind ≡ (arc_value e.event).draft.kind) };
+        × (e.author ≡ (arc_value e.event).draft.pubkey) × (e.kind ≡ (arc_value e.event).draft.kind) };
 }
 
 impl Entry {
@@ -37,8 +38,15 @@ impl Entry {
         ensures { result ≡ (place, event.value) }
     {
         let rank = rank_at(place, &event);
-        let kind = event.draft().kind;
-        Entry { rank, kind, event }
+        let draft = event.draft();
+        let author = draft.pubkey;
+        let kind = draft.kind;
+        Entry {
+            rank,
+            author,
+            kind,
+            event,
+        }
     }
 
     /// What orders it.
@@ -62,17 +70,17 @@ impl Entry {
         let event = Arc::try_clone(&self.event)?;
         Ok(Entry {
             rank: self.rank,
+            author: self.author,
             kind: self.kind,
             event,
         })
     }
 
-    /// Whether the filter matches the event. The event is read only where the filter asks for authors or tags.
+    /// Whether the filter matches the event. The event is read only where the filter asks for tags.
     pub fn matches(&self, filter: &Filter) -> bool
         ensures { result ≡ matches_of filter.now self.now.1 }
     {
         let Rank { time, id, .. } = self.rank;
-        let author = &self.event.draft().pubkey;
-        filter.meets(&id, author, self.kind, time.0) && filter.meets_tags(&self.event)
+        filter.meets(&id, &self.author, self.kind, time.0) && filter.meets_tags(&self.event)
     }
 }

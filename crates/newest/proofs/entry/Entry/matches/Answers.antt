@@ -20,9 +20,9 @@ pub returns-then-meets : goal.returns-then-meets
 returns-then-meets c =
     let e : EventView = arc_value c.self.inside.event in
     c.meets_tags.ensures.value
-    ∙ ap (λ (x : EventView). list_all (tags_meet x.draft.tags) c.args.filter.now.tags) c.deref-then-meets.ensures
+    ∙ ap (λ (x : EventView). list_all (tags_meet x.draft.tags) c.args.filter.now.tags) c.deref.ensures
     ∙ ap (λ b. b && list_all (tags_meet e.draft.tags) c.args.filter.now.tags)
-    (c.if-meets.ensures ∙ kept_same c.args.filter.now c.self.inside.rank.place e c.self.inside.rank c.draft.result.now.pubkey c.self.inside.kind c.self.invariant.0 (ap (λ d. d.pubkey) c.draft.ensures ∙ ap (λ x. x.draft.pubkey) c.deref.ensures) c.self.invariant.1)
+    (c.if-meets.ensures ∙ kept_same c.args.filter.now c.self.inside.rank.place e c.self.inside.rank c.self.inside.author c.self.inside.kind c.self.invariant.0 c.self.invariant.1 c.self.invariant.2)
     ∙ ap (λ p. matches_of c.args.filter.now p.1) c.self.view_is
 
 pub returns-else-meets : goal.returns-else-meets
@@ -30,5 +30,5 @@ returns-else-meets c =
     let e : EventView = arc_value c.self.inside.event in
     c.if-meets.false
     ∙ ap (λ b. b && list_all (tags_meet e.draft.tags) c.args.filter.now.tags)
-    (c.if-meets.ensures ∙ kept_same c.args.filter.now c.self.inside.rank.place e c.self.inside.rank c.draft.result.now.pubkey c.self.inside.kind c.self.invariant.0 (ap (λ d. d.pubkey) c.draft.ensures ∙ ap (λ x. x.draft.pubkey) c.deref.ensures) c.self.invariant.1)
+    (c.if-meets.ensures ∙ kept_same c.args.filter.now c.self.inside.rank.place e c.self.inside.rank c.self.inside.author c.self.inside.kind c.self.invariant.0 c.self.invariant.1 c.self.invariant.2)
     ∙ ap (λ p. matches_of c.args.filter.now p.1) c.self.view_is

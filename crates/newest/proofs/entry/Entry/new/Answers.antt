@@ -12,7 +12,8 @@ pub invariant_of-result : goal.invariant_of-result
 invariant_of-result c = (
   c.rank_at-rank.ensures
       ∙ ap₂ rank_of (sym (ap (λ r. r.place) c.rank_at-rank.ensures ∙ place_of c.args.place c.deref.result.now)) c.deref.ensures,
-  ap (λ d. d.kind) c.draft.ensures ∙ ap (λ e. e.draft.kind) c.deref-2.ensures,
+  ap (λ d. d.pubkey) c.draft-draft.ensures ∙ ap (λ e. e.draft.pubkey) c.deref-2.ensures,
+  ap (λ d. d.kind) c.draft-draft.ensures ∙ ap (λ e. e.draft.kind) c.deref-2.ensures,
 )
 
 pub returns : goal.returns
