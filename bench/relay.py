@@ -5,9 +5,9 @@
 
 Each row starts the program anew. `serve` reads a file of events with right ids (`inputs.py`), and is then asked by clients of
 this script (`wire.py`): it takes all events from one client, from eight, and in the order of their times, answers 1,000
-requests, is connected to 200 times. `sync` brings a store that has a part of the events level with four relays that
-have half of them each. The relays are the same program's. Shown are the processor time that the work took, without the
-reading and writing of the file, and the greatest peak of resident memory.
+requests, ten times over, and is connected to 200 times. `sync` brings a store that has a part of the events level with four
+relays that have half of them each. The relays are the same program's. Shown are the processor time that the work took, of
+requests what one time took, without the reading and writing of the file, and the greatest peak of resident memory.
 
 With `--baseline`, a plain program with the same commands, both run in turn, R times each; the least times are shown, and
 the ratio of ours to its.
@@ -159,14 +159,15 @@ def row_of_putting(program, folder, lines, clients):
     return found, len(lines)
 
 
-def row_of_asking(program, folder, lines, filters):
+def row_of_asking(program, folder, lines, filters, times=10):
+    """Asks for the same several times over, since the system tells times in steps of 10 ms, and shows what one time took."""
     relay = Serving(program, folder, "ask", 2, lines)
     holder = Client(relay.port)
-    came = ask(relay.port, filters)
-    found = relay.cost()
+    came = ask(relay.port, filters * times)
+    seconds, peak = relay.cost()
     holder.close()
     relay.end()
-    return found, came
+    return (seconds / times, peak), came
 
 
 def row_of_connecting(program, folder, times):
@@ -253,10 +254,10 @@ def main():
             for program in programs:
                 runs = [rows[name](program) for _ in range(options.runs)]
                 best.append((min(cost[0] for cost, _ in runs), max(cost[1] for cost, _ in runs), runs[0][1]))
-            line = "%-8s %8.2f s %7.0f MiB" % (name, best[0][0], best[0][1])
+            line = "%-8s %8.3f s %7.0f MiB" % (name, best[0][0], best[0][1])
             if len(best) == 2:
-                line += "   plain %8.2f s (%5.2f) %7.0f MiB (%5.2f)%s" % (
-                    best[1][0], best[0][0] / max(best[1][0], 0.01), best[1][1], best[0][1] / best[1][1],
+                line += "   plain %8.3f s (%5.2f) %7.0f MiB (%5.2f)%s" % (
+                    best[1][0], best[0][0] / max(best[1][0], 0.001), best[1][1], best[0][1] / best[1][1],
                     "" if best[0][2] == best[1][2] else "   THE ANSWERS DIFFER: %s, %s" % (best[0][2], best[1][2]))
             print(line, flush=True)
 
