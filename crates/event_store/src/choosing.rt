@@ -40,16 +40,34 @@ fn pick_ranks(alloc: Global, state: &State, filter: &Filter) -> Result<Vec<Rank>
     }
 }
 
+// How many conditions on authors, kinds and tags the filter has.
+fn count_of_conditions(filter: &Filter) -> usize {
+    let mut count = filter.tags.as_slice().len();
+    if filter.authors.is_some() {
+        count = count.saturating_add(1);
+    }
+    if filter.kinds.is_some() {
+        count = count.saturating_add(1);
+    }
+    count
+}
+
 // As many events as are worth being looked up one by one, where the newest few of so many are chosen. A walk from the newest on passes
-// as many as all for each that has what is asked for, and one that is looked up takes twice the time of one that is passed.
-fn worth_reading(events: usize, few: usize) -> usize {
-    events.saturating_mul(few).isqrt() / 2
+// as many as all for each that has what is asked for, and one that is looked up takes twice the time of one that is passed. Where
+// several conditions are to hold together, a walk passes more.
+fn worth_reading(events: usize, few: usize, filter: &Filter) -> usize {
+    let most = events.saturating_mul(few).isqrt();
+    if count_of_conditions(filter) > 1 {
+        most
+    } else {
+        most / 2
+    }
 }
 
 fn pick_by_marks(alloc: Global, state: &State, filter: &Filter) -> Result<Vec<Rank>, AllocError>
     ensures { (events : List (AnArc EventView AGlobal)) → map arc_value events ≡ state.now → IfOk result (λ v. v.items ≡ picked events filter.now) }
 {
-    let most = worth_reading(state.events().len(), cut(filter));
+    let most = worth_reading(state.events().len(), cut(filter), filter);
     match places_marked(alloc, state, filter, most)? {
         Some(places) => pick_at(alloc, state.events(), filter, places.as_slice()),
         None => state.newest().pick(alloc, filter),

@@ -34,7 +34,7 @@ pub trait Part: Drop + Sized {
     fn copied(&self, alloc: Global) -> Result<Self, AllocError>
         ensures { IfOk result (λ p. items p ≡ items self.now) };
 
-    /// The items of a full part in two parts; none if it has room for one more.
+    /// The items in two parts, where the part is to be cut before one more is put in; none if it has room for one more.
     fn halves(&self, alloc: Global) -> Result<Option<(Self, Self)>, AllocError>
         requires few { length (items self.now) < 1000000 }
         requires part { IsPart most (items self.now) }

@@ -18,6 +18,10 @@ use Rattle.newest.specs.Newest.{rank, comes_before, NoneBefore, IsNewestFirst, h
 use Rattle.newest.proofs.Ranks.{sorted_drop, all_head}
 use Rattle.newest.proofs.Lists.{hits_append, count_append}
 
+pub time_of : (p : ℕ × EventView) → (rank p).time.0 ≡ p.1.draft.created_at
+unfolding rank_of
+time_of p = refl
+
 -- ---- what lies outside a filter's times isn't matched
 
 and_last : (a b : Bool) → b ≡ false → (a && b) ≡ false

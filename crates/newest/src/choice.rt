@@ -5,7 +5,7 @@ ghost use Rattle.std.specs.declared.alloc.Global.{Global as AGlobal};
 ghost use Rattle.std.specs.declared.sync.Arc.{Arc as AnArc};
 ghost use Rattle.nostr_event.specs.EventView.{EventView};
 ghost use Rattle.nostr_filter.specs.Choice.{newest_first, in_order, picked, chosen};
-ghost use Rattle.newest.specs.Newest.{AreOf, AreApart, IsNewestFirst, IsRest, BeginsMatched, joined, hits, placed_at};
+ghost use Rattle.newest.specs.Newest.{rank, AreOf, AreApart, IsNewestFirst, IsRest, BeginsMatched, joined, hits, placed_at};
 
 use crate::entry::Entry;
 use crate::heads::head_of;
@@ -44,16 +44,16 @@ fn matching<'a>(
     Ok(rests)
 }
 
-// What orders the entries that the filter matches, in order, as many as are to be had. Each list begins with one of them.
-fn take_hits(
+// The entries that the filter matches, in order, as many as are to be had. Each list begins with one of them.
+fn take_hits<'a>(
     alloc: Global,
-    lists: Vec<&[Entry]>,
+    lists: Vec<&'a [Entry]>,
     filter: &Filter,
     most: usize,
-) -> Result<Vec<Rank>, AllocError>
+) -> Result<Vec<&'a Entry>, AllocError>
     requires sorted { All IsNewestFirst (map (λ r. r.now) lists.items) }
     requires begins { All (BeginsMatched filter.now) (map (λ r. r.now) lists.items) }
-    ensures { AreApart (joined (map (λ r. r.now) lists.entry.items)) → IfOk result (λ v. v.items ≡ take most (in_order newest_first (hits filter.now (joined (map (λ r. r.now) lists.entry.items))))) }
+    ensures { AreApart (joined (map (λ r. r.now) lists.entry.items)) → IfOk result (λ v. map (λ e. rank e.now) v.items ≡ take most (in_order newest_first (hits filter.now (joined (map (λ r. r.now) lists.entry.items))))) }
 {
     let mut rests = lists;
     let mut found = Vec::new(alloc);
@@ -61,10 +61,18 @@ fn take_hits(
         let Some(head) = head_of(rests.as_slice()) else {
             return Ok(found);
         };
-        found.push(head.first.rank())?;
+        found.push(head.first)?;
         rests[head.at] = from_match(head.rest, filter);
     }
     Ok(found)
+}
+
+// What orders the entries. Their events are read one behind the other, so that the memory of those that lie far apart is fetched side
+// by side.
+fn ranks_of(alloc: Global, entries: &[&Entry]) -> Result<Vec<Rank>, AllocError>
+    ensures { IfOk result (λ v. v.items ≡ map (λ e. rank e.now) entries.now) }
+{
+    entries.iter().map(|entry| entry.rank()).collect(alloc)
 }
 
 /// What orders the events of these runs that the filter chooses. Of each run it reads what the filter's times leave, up to the
@@ -78,7 +86,8 @@ pub fn pick_from(
     ensures { (events : List (AnArc EventView AGlobal)) → AreOf (map arc_value events) (joined (last.now ∷ map arc_value runs.now)) → IfOk result (λ v. v.items ≡ picked events filter.now) }
 {
     let rests = matching(alloc, last, runs, filter)?;
-    take_hits(alloc, rests, filter, cut(filter))
+    let found = take_hits(alloc, rests, filter, cut(filter))?;
+    ranks_of(alloc, found.as_slice())
 }
 
 /// The places of the events that the filters choose, in the order in which they are sent: each filter chooses the newest

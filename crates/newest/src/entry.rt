@@ -1,19 +1,22 @@
 //! Events with their places.
 ghost use Rattle.std.specs.Prelude.{◌≡◌, IfOk};
-ghost use Rattle.nostr_filter.specs.Matching.{matches_of};
+ghost use Rattle.nostr_filter.specs.Matching.{met, has_text, matches_of};
 ghost use Rattle.newest.specs.Newest.{rank, comes_before};
 
+use neg_codec::Id;
 use nostr_event::Event;
 use nostr_filter::{Filter, Rank, rank_at};
 use std::alloc::AllocError;
+use std::cmp::Ordering;
 use std::marker::Model;
 use std::sync::Arc;
 
-/// A shared event with its place among all events, and beside them what orders it and what most filters ask for, so that a
-/// search reads no event but for its tags. Contracts see it as the place with the event.
+/// A shared event with its place among all events, and beside them what most filters ask for, so that a search reads no event but
+/// for its tags, and for its id where another has the same time. It takes 64 bytes. Contracts see it as the place with the event.
 #[derive(Drop)]
 pub struct Entry {
-    rank: Rank,
+    time: u64,
+    place: usize,
     author: [u8; 32],
     kind: u16,
     event: Arc<Event>,
@@ -23,13 +26,12 @@ impl Model for Entry {
     ghost use Rattle.std.specs.Prelude.{◌≡◌, ℕ};
     ghost use Rattle.std.specs.Arc.{arc_value};
     ghost use Rattle.nostr_event.specs.EventView.{EventView};
-    ghost use Rattle.nostr_filter.specs.Choice.{rank_of};
 
     ghost Value = { ℕ × EventView };
 
-    ghost view = { λ e. (e.rank.place, arc_value e.event) };
+    ghost view = { λ e. (e.place, arc_value e.event) };
 
-    ghost invariant = { λ e. (e.rank ≡ rank_of e.rank.place (arc_value e.event))
+    ghost invariant = { λ e. (e.time ≡ (arc_value e.event).draft.created_at)
         × (e.author ≡ (arc_value e.event).draft.pubkey) × (e.kind ≡ (arc_value e.event).draft.kind) };
 }
 
@@ -37,30 +39,42 @@ impl Entry {
     pub fn new(place: usize, event: Arc<Event>) -> Entry
         ensures { result ≡ (place, event.value) }
     {
-        let rank = rank_at(place, &event);
         let draft = event.draft();
+        let time = draft.created_at;
         let author = draft.pubkey;
         let kind = draft.kind;
         Entry {
-            rank,
+            time,
+            place,
             author,
             kind,
             event,
         }
     }
 
-    /// What orders it.
+    /// The event's time.
+    pub fn time(&self) -> u64
+        ensures { result ≡ self.now.1.draft.created_at }
+    {
+        self.time
+    }
+
+    /// What orders it. The event is read.
     pub fn rank(&self) -> Rank
         ensures { result ≡ rank self.now }
     {
-        self.rank
+        rank_at(self.place, &self.event)
     }
 
-    /// Whether it comes before another.
+    /// Whether it comes before another. The events are read only where they have one time.
     pub fn comes_before(&self, other: &Entry) -> bool
         ensures { result ≡ comes_before (rank self.now) (rank other.now) }
     {
-        self.rank.cmp(&other.rank).is_lt()
+        match other.time.cmp(&self.time) {
+            Ordering::Less => true,
+            Ordering::Equal => self.rank().cmp(&other.rank()).is_lt(),
+            Ordering::Greater => false,
+        }
     }
 
     /// The same, with the event shared.
@@ -69,18 +83,29 @@ impl Entry {
     {
         let event = Arc::try_clone(&self.event)?;
         Ok(Entry {
-            rank: self.rank,
+            time: self.time,
+            place: self.place,
             author: self.author,
             kind: self.kind,
             event,
         })
     }
 
-    /// Whether the filter matches the event. The event is read only where the filter asks for tags.
+    // What stands for the event's id in the filter's condition on ids. The event is read only where there is one.
+    fn id_for(&self, filter: &Filter) -> Id
+        ensures { met (λ ids. has_text ids result.0) filter.now.ids ≡ met (λ ids. has_text ids self.now.1.id.0) filter.now.ids }
+    {
+        match &filter.ids {
+            Some(_) => self.event.id(),
+            None => Id([0; 32]),
+        }
+    }
+
+    /// Whether the filter matches the event. The event is read only where the filter asks for ids or tags.
     pub fn matches(&self, filter: &Filter) -> bool
         ensures { result ≡ matches_of filter.now self.now.1 }
     {
-        let Rank { time, id, .. } = self.rank;
-        filter.meets(&id, &self.author, self.kind, time.0) && filter.meets_tags(&self.event)
+        filter.meets(&self.id_for(filter), &self.author, self.kind, self.time)
+            && filter.meets_tags(&self.event)
     }
 }

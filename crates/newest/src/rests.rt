@@ -16,7 +16,7 @@ fn from_time<'a>(entries: &'a [Entry], filter: &Filter, until: u64) -> &'a [Entr
     let mut high = entries.len();
     while low < high {
         let middle = low + (high - low) / 2;
-        if until < entries[middle].rank().time.0 {
+        if until < entries[middle].time() {
             low = middle + 1;
         } else {
             high = middle;
@@ -41,7 +41,7 @@ fn is_too_early(entry: &Entry, filter: &Filter) -> bool
     ensures { (ps : List (ℕ × EventView)) → IsNewestFirst (entry.now ∷ ps) → IsTrue result → hits filter.now (entry.now ∷ ps) ≡ [] }
 {
     match filter.since {
-        Some(since) => entry.rank().time.0 < since,
+        Some(since) => entry.time() < since,
         None => false,
     }
 }

@@ -3,7 +3,6 @@ ghost use Rattle.std.specs.Prelude.{◌≡◌, ◌++◌, ◌∷◌, ◌≤◌, [
 ghost use Rattle.newest.specs.Newest.{rank, comes_before, NoneBefore, IsNewestFirst};
 
 use crate::entry::Entry;
-use nostr_filter::Rank;
 use std::alloc::{AllocError, Global};
 use std::marker::Model;
 
@@ -35,18 +34,18 @@ fn share_entries(all: &mut Vec<Entry>, entries: &[Entry]) -> Result<(), AllocErr
     Ok(())
 }
 
-// At which place what is ordered so goes among others.
-fn place_for(new: &Rank, entries: &[Entry]) -> usize
+// At which place an entry goes among others.
+fn place_for(new: &Entry, entries: &[Entry]) -> usize
     requires { IsNewestFirst entries.now }
     ensures within { result ≤ length entries.now }
-    ensures front { All (λ p. comes_before new.now (rank p) ≡ false) (take result entries.now) }
-    ensures behind { NoneBefore new.now (drop result entries.now) }
+    ensures front { All (λ p. comes_before (rank new.now) (rank p) ≡ false) (take result entries.now) }
+    ensures behind { NoneBefore (rank new.now) (drop result entries.now) }
 {
     let mut low = 0;
     let mut high = entries.len();
     while low < high {
         let middle = low + (high - low) / 2;
-        if new.cmp(&entries[middle].rank()).is_lt() {
+        if new.comes_before(&entries[middle]) {
             high = middle;
         } else {
             low = middle + 1;
@@ -85,7 +84,7 @@ impl Run {
         ensures { IfOk result (λ r. IsPermutation (entry ∷ self.now) r) }
     {
         let entries = self.entries.as_slice();
-        let at = place_for(&entry.rank(), entries);
+        let at = place_for(&entry, entries);
         let mut all = Vec::with_capacity(alloc, entries.len() + 1)?;
         share_entries(&mut all, &entries[..at])?;
         all.push(entry)?;

@@ -1,7 +1,7 @@
 use Rattle.std.proofs.Common.{◌≡◌, ◌≤◌, ◌-◌, ◌++◌, length, map, take}
 use Rattle.std.specs.Prelude.{All}
 use Rattle.nostr_filter.specs.Choice.{newest_first, in_order}
-use Rattle.newest.specs.Newest.{joined, hits, AreApart, IsNewestFirst, BeginsMatched}
+use Rattle.newest.specs.Newest.{rank, joined, hits, AreApart, IsNewestFirst, BeginsMatched}
 use Rattle.newest.proofs.choice.take_hits.Given as goal
 
 abbrev pub invariant-loop-rests : goal.invariant-loop-rests
@@ -11,7 +11,7 @@ invariant-loop-rests l = record {
   begins : All (BeginsMatched l.filter) (map (λ r. r.now) l.rests.items);
   apart : AreApart (joined (map (λ r. r.now) l.fn.lists.items)) → AreApart (joined (map (λ r. r.now) l.rests.items));
   rest : AreApart (joined (map (λ r. r.now) l.fn.lists.items))
-      → take l.most (l.found.items ++ in_order newest_first (hits l.filter (joined (map (λ r. r.now) l.rests.items))))
+      → take l.most (map (λ e. rank e.now) l.found.items ++ in_order newest_first (hits l.filter (joined (map (λ r. r.now) l.rests.items))))
       ≡ take l.most (in_order newest_first (hits l.filter (joined (map (λ r. r.now) l.fn.lists.items))));
 }
 

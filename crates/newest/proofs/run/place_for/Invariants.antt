@@ -7,8 +7,8 @@ abbrev pub invariant-loop-low : goal.invariant-loop-low
 invariant-loop-low l = record {
   low : l.low ≤ l.high;
   high : l.high ≤ length l.entries;
-  front : All (λ p. comes_before l.new (rank p) ≡ false) (take l.low l.entries);
-  behind : NoneBefore l.new (drop l.high l.entries);
+  front : All (λ p. comes_before (rank l.new) (rank p) ≡ false) (take l.low l.entries);
+  behind : NoneBefore (rank l.new) (drop l.high l.entries);
 }
 
 abbrev pub decreases-loop-low : goal.decreases-loop-low

@@ -1,8 +1,8 @@
 use Rattle.std.proofs.Common.{◌≡◌, ◌∙◌, ◌++◌, ◌∷◌, ◌-◌, [], false, List, length, take, drop, rules, sym, ap, subst, arith, append_assoc}
-use Rattle.std.specs.Prelude.{All, IsPermutation}
+use Rattle.std.specs.Prelude.{IsPermutation}
 use Rattle.std.proofs.lemmas.List.{take-append-drop, take_all, length-drop}
 use Rattle.std.proofs.lemmas.List.Sorted.{IsPermutation-sym, IsPermutation-middle}
-use Rattle.newest.specs.Newest.{rank, comes_before, NoneBefore, IsNewestFirst}
+use Rattle.newest.specs.Newest.{IsNewestFirst}
 use Rattle.newest.proofs.Ranks.{sorted_with, sorted_take, sorted_drop}
 use Rattle.newest.proofs.run.Run.with.Goals as goal
 
@@ -24,9 +24,7 @@ invariant_of-result c =
     let entries = c.as_slice-entries.result.now in
     let up : IsNewestFirst entries = subst IsNewestFirst (sym c.as_slice-entries.ensures.value) c.self.invariant in
     subst IsNewestFirst (sym (whole c))
-    (sorted_with c.args.entry (take at entries) (drop at entries) (sorted_take at entries up) (sorted_drop at entries up)
-    (subst (λ r. All (λ p. comes_before r (rank p) ≡ false) (take at entries)) c.rank.ensures c.place_for-at.ensures.front)
-    (subst (λ r. NoneBefore r (drop at entries)) c.rank.ensures c.place_for-at.ensures.behind))
+    (sorted_with c.args.entry (take at entries) (drop at entries) (sorted_take at entries up) (sorted_drop at entries up) c.place_for-at.ensures.front c.place_for-at.ensures.behind)
 
 pub returns : goal.returns
 returns c =
