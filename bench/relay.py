@@ -5,9 +5,10 @@
 
 Each row starts the program anew. `serve` reads a file of events with right ids (`inputs.py`), and is then asked by clients of
 this script (`wire.py`): it takes all events from one client, from eight, and in the order of their times, answers 1,000
-requests, ten times over, and is connected to 200 times. `sync` brings a store that has a part of the events level with four
-relays that have half of them each. The relays are the same program's. Shown are the processor time that the work took, of
-requests what one time took, without the reading and writing of the file, and the greatest peak of resident memory.
+requests, ten times over, and is connected to 200 times. Of `feed`, which asks what one in twenty authors wrote of a kind, 100
+are asked. `sync` brings a store that has a part of the events level with four relays that have half of them each. The relays
+are the same program's. Shown are the processor time that the work took, of requests what one time took, without the reading
+and writing of the file, and the greatest peak of resident memory.
 
 With `--baseline`, a plain program with the same commands, both run in turn, R times each; the least times are shown, and
 the ratio of ours to its.
@@ -212,6 +213,7 @@ def time_of(line):
 def filters_of(lines, rng):
     events = [json.loads(line) for line in lines]
     pick = lambda: rng.choice(events)
+    authors = sorted({event["pubkey"] for event in events})
     tagged = [(tag[0], tag[1]) for event in events for tag in event["tags"] if len(tag[0]) == 1]
     return {
         "ids": [{"ids": [pick()["id"] for _ in range(100)]} for _ in range(1000)],
@@ -219,6 +221,8 @@ def filters_of(lines, rng):
         "author": [{"authors": [pick()["pubkey"]]} for _ in range(1000)],
         "tag": [{"#" + name: [value], "limit": 100} for name, value in (rng.choice(tagged) for _ in range(1000))],
         "newest": [{"limit": 100}] * 1000,
+        "feed": [{"authors": rng.sample(authors, len(authors) // 20), "kinds": [pick()["kind"]], "limit": 500}
+                 for _ in range(100)],
     }
 
 
@@ -227,7 +231,7 @@ def main():
     parser.add_argument("--baseline", help="a plain program to compare with")
     parser.add_argument("--mirror", default=program_of("mirror_app"))
     parser.add_argument("--events", type=int, default=50000)
-    parser.add_argument("--only", default="put1,put8,rising,ids,kind,author,tag,newest,connect,sync,sync16,cut")
+    parser.add_argument("--only", default="put1,put8,rising,ids,kind,author,tag,newest,feed,connect,sync,sync16,cut")
     parser.add_argument("--runs", type=int, default=2)
     options = parser.parse_args()
     programs = [options.mirror] + ([options.baseline] if options.baseline else [])
@@ -250,10 +254,11 @@ def main():
             rows[name] = lambda it, asked=asked: row_of_asking(it, folder, lines, asked)
         print("%d events, %.0f MB" % (len(lines), os.path.getsize(source) / 1e6))
         for name in options.only.split(","):
-            best = []
-            for program in programs:
-                runs = [rows[name](program) for _ in range(options.runs)]
-                best.append((min(cost[0] for cost, _ in runs), max(cost[1] for cost, _ in runs), runs[0][1]))
+            runs = [[] for _ in programs]
+            for _ in range(options.runs):
+                for program, its in zip(programs, runs):
+                    its.append(rows[name](program))
+            best = [(min(cost[0] for cost, _ in its), max(cost[1] for cost, _ in its), its[0][1]) for its in runs]
             line = "%-8s %8.3f s %7.0f MiB" % (name, best[0][0], best[0][1])
             if len(best) == 2:
                 line += "   plain %8.3f s (%5.2f) %7.0f MiB (%5.2f)%s" % (
