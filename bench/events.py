@@ -1,10 +1,10 @@
 #!/usr/bin/env python3
 """Measures reading, checking and writing events.
 
-    bench/events.py [--baseline PATH] [--calls PATH] [--events N,N,..] [--runs R]
+    bench/events.py [--baseline PATH] [--measures PATH] [--events N,N,..] [--runs R]
 
-The inputs are events as JSON, one a line, with right ids (`inputs.py`). `calls events read` reads each line as JSON, makes
-the event and checks its id; `calls events copy` also writes each as compact JSON, which has to be the line again. Each runs R
+The inputs are events as JSON, one a line, with right ids (`inputs.py`). `measures events read` reads each line as JSON, makes
+the event and checks its id; `measures events copy` also writes each as compact JSON, which has to be the line again. Each runs R
 times; the least times and the greatest peak of resident memory are shown.
 
 With `--baseline`, a plain program whose command `serve` reads a file of events at its start and writes it at its end,
@@ -50,7 +50,7 @@ def lines(path):
 def main():
     parser = argparse.ArgumentParser(description=__doc__.split("\n")[0])
     parser.add_argument("--baseline", help="a plain program to compare with")
-    parser.add_argument("--calls", default=program_of("calls"))
+    parser.add_argument("--measures", default=program_of("measures"))
     parser.add_argument("--events", type=numbers, default=[10000, 100000])
     parser.add_argument("--runs", type=int, default=3)
     options = parser.parse_args()
@@ -67,8 +67,8 @@ def main():
             if options.baseline:
                 runs["plain"] = []
             for _ in range(options.runs):
-                runs["read"].append(once([options.calls, "events", "read"], source, ours))
-                runs["read and write"].append(once([options.calls, "events", "copy"], source, ours))
+                runs["read"].append(once([options.measures, "events", "read"], source, ours))
+                runs["read and write"].append(once([options.measures, "events", "copy"], source, ours))
                 if options.baseline:
                     runs["plain"].append(served(options.baseline, folder, source, theirs))
             equal = same(source, ours) and (not options.baseline or lines(ours) == lines(theirs))

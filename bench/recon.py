@@ -3,7 +3,7 @@
 
     bench/recon.py [--baseline PATH] [--mirror PATH] [--items N,N,..] [--ppm P,P,..] [--limit L,L,..] [--runs R]
     bench/recon.py --shapes [--baseline PATH] ..      lists of which much differs, with the first L alone
-    bench/recon.py --rolls [--calls PATH]             inserts and shares, by `calls rolls`
+    bench/recon.py --rolls [--measures PATH]             inserts and shares, by `measures rolls`
 
 Both sides have N items, of which P in a million differ, and messages have at most L bytes: with no lists given, nine rows
 for 60,000 bytes and nine for 1,048,576. Programs run in turn, R times each; the least wall time, the least processor time
@@ -88,7 +88,7 @@ def rolls(options):
     """Inserts and shares: processor time in all, and for one."""
     shared = None
     for what, times in (("scattered", 440_000), ("ascending", 440_000), ("shares", 0), ("shares", 10_000)):
-        cost = min(once([options.calls, "rolls", what, str(times)], os.devnull, os.devnull)[1] for _ in range(options.runs))
+        cost = min(once([options.measures, "rolls", what, str(times)], os.devnull, os.devnull)[1] for _ in range(options.runs))
         if times == 0:
             shared = cost
             continue
@@ -100,7 +100,7 @@ def main():
     parser = argparse.ArgumentParser(description=__doc__.split("\n")[0])
     parser.add_argument("--baseline", help="the plain program")
     parser.add_argument("--mirror", default=program_of("mirror_app"))
-    parser.add_argument("--calls", default=program_of("calls"))
+    parser.add_argument("--measures", default=program_of("measures"))
     parser.add_argument("--shapes", action="store_true")
     parser.add_argument("--rolls", action="store_true")
     parser.add_argument("--items", type=numbers, default=[10_000, 100_000, 440_000])

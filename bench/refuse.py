@@ -1,5 +1,5 @@
 #!/usr/bin/env python3
-"""Refuses each allocation of `calls store` in turn, over the events of a file.
+"""Refuses each allocation of `measures store` in turn, over the events of a file.
 
     bench/refuse.py EVENTS [EVENTS..]
 
@@ -19,7 +19,7 @@ def run(library, at, events):
     """Status, output and errors with that allocation refused."""
     env = dict(os.environ, LD_PRELOAD=library, FAIL_AT=str(at), COUNT="1")
     with open(events, "rb") as stdin:
-        done = subprocess.run([program_of("calls"), "store"], stdin=stdin, capture_output=True, env=env, check=False)
+        done = subprocess.run([program_of("measures"), "store"], stdin=stdin, capture_output=True, env=env, check=False)
     return done.returncode, done.stdout.decode().strip(), done.stderr.decode()
 
 

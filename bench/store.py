@@ -1,9 +1,9 @@
 #!/usr/bin/env python3
 """Measures the store: inserts, pins and choices.
 
-    bench/store.py [--baseline PATH] [--calls PATH] [--events N,N,..] [--runs R]
+    bench/store.py [--baseline PATH] [--measures PATH] [--events N,N,..] [--runs R]
 
-The inputs are events as JSON, one a line, with right ids (`inputs.py`). `calls store reads` makes the events, inserts them
+The inputs are events as JSON, one a line, with right ids (`inputs.py`). `measures store reads` makes the events, inserts them
 into a store, pins all of them, those of 100 ids, of a day and of a kind, and chooses the newest 100; it tells its
 processor time for each. Each size runs R times; the least times and the greatest peak of resident memory are shown.
 
@@ -44,7 +44,7 @@ def repeated(calls, source):
 def main():
     parser = argparse.ArgumentParser(description=__doc__.split("\n")[0])
     parser.add_argument("--baseline", help="a plain program to compare with")
-    parser.add_argument("--calls", default=program_of("calls"))
+    parser.add_argument("--measures", default=program_of("measures"))
     parser.add_argument("--events", type=numbers, default=[200000, 1000000])
     parser.add_argument("--runs", type=int, default=2)
     options = parser.parse_args()
@@ -52,7 +52,7 @@ def main():
         source, written = (os.path.join(folder, name) for name in ("events", "written"))
         for events in options.events:
             made(write_events, source, events)
-            runs = [repeated(options.calls, source) for _ in range(options.runs)]
+            runs = [repeated(options.measures, source) for _ in range(options.runs)]
             memory = max(cost[2] for cost, _ in runs) / 1024
             print("%d events of %.0f bytes" % (events, os.path.getsize(source) / events))
             print("  %-18s %10.2f us an event, %.0f MiB, %.0f bytes an event" % (

@@ -7,12 +7,14 @@ Each play is one of a client with a relay that has no events yet, beside another
 goes a ping: what comes before its pong was sent for that text. The wanted answers are those of docs/FORMATS.md, "A relay's
 answers".
 """
+import concurrent.futures
 import hashlib
 import json
 import os
 import struct
 import subprocess
 import tempfile
+import threading
 import time
 
 from told import program, read, same, settings, start
@@ -33,7 +35,7 @@ def small(number):
             "content": draft[5], "sig": "5a" * 64}
 
 
-EVENTS = {str(number): small(number) for number in range(1, 10)}
+EVENTS = {str(number): small(number) for number in range(1, 41)}
 NUMBERS = {event["id"]: number for number, event in EVENTS.items()}
 
 
@@ -136,6 +138,48 @@ def play(path, steps, **values):
             same(relay.communicate(timeout=60), ("served 2\nevents %d\n" % len(given), ""))
             if given:
                 same(read(os.path.join(folder, "relay.jsonl")), given)
+        finally:
+            relay.kill()
+            relay.communicate()
+
+
+# How many clients there are at once, of the 64 that a relay serves side by side.
+CROWD = 40
+
+
+def met(client, number, all_here):
+    """The numbers of the events that come to a client which gives its own once all are there."""
+    client.answers(req("s"))
+    all_here.wait(30)
+    client.send(gives(number).encode())
+    come, is_taken = set(), False
+    while len(come) < CROWD or not is_taken:
+        text = shown(client.read())
+        if text.startswith("s "):
+            same([text, text in come], [text, False])
+            come.add(text)
+        else:
+            same(text, "%d true " % number)
+            is_taken = True
+    # Nothing comes twice.
+    same(client.sent_until_pong(), [])
+    client.close()
+    return come
+
+
+def a_crowd_meets(path):
+    """Many clients at once: each gives an event, and gets that of each other once, by itself."""
+    with tempfile.TemporaryDirectory() as folder, concurrent.futures.ThreadPoolExecutor(CROWD) as pool:
+        relay, port = start(path, "serve", settings(folder, "relay", listen="127.0.0.1:0", conns=CROWD, push_ms=PUSH_MS))
+        try:
+            all_here, clients = threading.Barrier(CROWD), [Talker(port) for _ in range(CROWD)]
+            runs = [pool.submit(met, client, number, all_here) for number, client in enumerate(clients, 1)]
+            wanted = {"s %d" % number for number in range(1, CROWD + 1)}
+            for run in runs:
+                same(sorted(run.result()), sorted(wanted))
+            same(relay.communicate(timeout=60), ("served %d\nevents %d\n" % (CROWD, CROWD), ""))
+            same(sorted(it["content"] for it in read(os.path.join(folder, "relay.jsonl"))),
+                 sorted(EVENTS[str(number)]["content"] for number in range(1, CROWD + 1)))
         finally:
             relay.kill()
             relay.communicate()
@@ -466,7 +510,7 @@ def beginnings_of_messages(path):
 def main():
     path = program()
     for part in (the_newest_are_chosen, events_are_sent_once, events_that_come_together, events_come_by_themselves,
-                 names_in_byte_order, subscriptions_end, texts_that_are_no_messages, sessions_keep_what_they_found,
+                 a_crowd_meets, names_in_byte_order, subscriptions_end, texts_that_are_no_messages, sessions_keep_what_they_found,
                  sessions_end, long_texts, beginnings_of_messages):
         part(path)
         print(part.__name__.replace("_", " "))

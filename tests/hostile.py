@@ -156,6 +156,27 @@ def send_long(relay):
         client.socket.close()
 
 
+def crowd(relay):
+    """Requests of very many filters, events of very many tags, and subscriptions with very many values."""
+    closed = lambda name: b'["CLOSED","%s","blocked: too many filters"]' % name
+    bad = b'["NOTICE","invalid: bad message"]'
+    many = 500_000
+    texts = [(b'["REQ","a"' + b",{}" * many + b"]", closed(b"a")), (b'["REQ","a"' + b",{}" * many + b",{]", bad),
+             (b'["REQ","a"' + b",{}" * many + b',{"ids":[1]}]', bad), (b'["REQ","a"' + b",{}" * many + b",1]", bad),
+             (b'["REQ",""' + b",{}" * many + b"]", bad)]
+    values = b",".join(b'"%d"' % (at % 10) for at in range(many))
+    held = [(b'["REQ","%d",{"limit":0,"#t":[%s]}]' % (at, values), b'["EOSE","0"]' if at == 0 else closed(b"%d" % at)) for at in range(4)]
+    clients = [relay.client() for _ in range(2)]
+    for text, wanted in texts + held:
+        for client in clients:
+            client.socket.settimeout(120)
+            client.send(text)
+        for client in clients:
+            same(client.read().decode(), wanted.decode())
+    for client in clients:
+        client.close()
+
+
 def never_end(relay):
     """Fragments without an end: the message that they make passes the limit."""
     client = relay.client()
@@ -211,6 +232,8 @@ def main():
             relay.answers("broken frames and handshakes")
             send_long(relay)
             relay.answers("long texts")
+            crowd(relay)
+            relay.answers("very many filters and values")
             never_end(relay)
             relay.answers("a message without an end")
             never_read(relay, READERS - 1)

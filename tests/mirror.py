@@ -63,7 +63,7 @@ def serves_meanwhile(path, folder):
 def keeps_what_came_in(path, folder):
     """What clients put in is in the file before the relay ends, and a relay that is killed has lost nothing that is."""
     kept, first, second = os.path.join(folder, "kept.jsonl"), event(1, "first"), event(2, "second")
-    relay, port = run(path, folder, "serve", "kept", conns=2, save_ms=1)
+    relay, port = run(path, folder, "serve", "kept", conns=2)
     client = Client(port)
     put(client, first)
     comes_to_have(kept, [first])
@@ -73,17 +73,16 @@ def keeps_what_came_in(path, folder):
     relay.kill()
     relay.communicate()
     same((read(kept), os.stat(kept).st_mode & 0o777), ([first, second], 0o600))
-    # What a kill in the middle of it leaves is in nobody's way.
-    for name in (".new", ".tmp"):
-        written(kept + name, [event(3, "left")])
-    relay, port = run(path, folder, "serve", "kept", conns=1, save_ms=1)
+    # What a kill in the middle of writing it anew leaves is in nobody's way.
+    written(kept + ".new", [event(3, "left")])
+    relay, port = run(path, folder, "serve", "kept", conns=1)
     client = Client(port)
     third = event(4, "third")
     put(client, third)
     comes_to_have(kept, [first, second, third])
     client.close()
     same(relay.communicate(timeout=60), ("served 1\nevents 3\n", ""))
-    same(sorted(os.listdir(folder)), ["kept.jsonl", "kept.toml"])
+    same(sorted(os.listdir(folder)), ["kept.jsonl", "kept.jsonl.new", "kept.toml"])
 
 
 def ends_when_refused(path, folder):

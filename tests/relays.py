@@ -7,8 +7,14 @@ One says something else for ever, one answers each question by a fingerprint tha
 one gives other events and events whose ids are wrong, one closes in the middle of what it gives; one sends a text of 10 MB,
 one a frame and one a message that never ends; one doesn't shake hands. The honest relay's events have to come all the same, and no
 others but those that were asked for with right ids; the mirror's file has to be whole, and its memory within a bound.
+
+Then two relays have the same events, and one of them, the first or the second, refuses to give any: what it was to give comes from
+the other in the next round, and `--progress` says why it failed. An id that only the one that fails has stays with it. Where all
+are down, and where one can't be reached, the reason is told too, and `--strict` ends with status 3. Last, a relay gives 60 events
+of 1 MB that nobody asked for.
 """
 import argparse
+import json
 import os
 import random
 import socket
@@ -17,11 +23,14 @@ import tempfile
 import threading
 import time
 
-from played import accepting, answered, closes, gives_none, lists
+from played import Played, accepting, answered, closes, gives_none, gives_of, lists
 from told import ROOT, begin, by_id, event, read, same, settings, start, written
+from wire import Gone
 
 # No run takes more MiB than this.
 MEMORY = 64
+# Nor this many where a relay gives what nobody asked for.
+UNASKED = 60
 # What each relay comes to, and all of them. The session with the one that answers by fingerprints ends at its 4,096th question.
 TOLD = """relay 0 need 2000
 relay 1 need 1050
@@ -127,6 +136,91 @@ def meet(path, folder, rng):
     return memory
 
 
+def closes_at_once(connection, _sub, _ids):
+    connection.socket.close()
+    raise Gone("closed")
+
+
+def says_closed(connection, sub, _ids):
+    connection.say(["CLOSED", sub, "auth-required: \u001b[31mwho are you?"])
+
+
+def says_notice(connection, sub, ids):
+    connection.say(["NOTICE", "not today"])
+    closes_at_once(connection, sub, ids)
+
+
+def says_nothing(connection, _sub, _ids):
+    connection.read()
+
+
+# How a relay refuses to give, and what is told of it.
+REFUSALS = [(closes_at_once, "closed"), (says_closed, "CLOSED auth-required:  [31mwho are you?"),
+            (says_notice, "closed after NOTICE not today"), (says_nothing, "timed out")]
+
+
+def synced(path, folder, relays, *words, **values):
+    """What a mirror without events of its own tells of a sync with these relays, its reasons, its status and its events."""
+    conf = settings(folder, "mirror", relays=[relay.at for relay in relays], **values)
+    kept = os.path.join(folder, "mirror.jsonl")
+    if os.path.exists(kept):
+        os.remove(kept)
+    child = begin(path, "sync", conf, "--progress", *words)
+    out, told = child.communicate(timeout=120)
+    return out.splitlines(), told.splitlines(), child.returncode, read(kept)
+
+
+def fails_over(path, folder):
+    both = [event(3000 + n, "of both") for n in range(40)]
+    alone = event(4000, "of one alone")
+    for refuses, why in REFUSALS:
+        for place in (0, 1):
+            twins = [Played(lists([it["id"] for it in both], gives_of(both))),
+                     Played(lists([it["id"] for it in both] + [alone["id"]], refuses))]
+            if place == 0:
+                twins.reverse()
+            out, told, status, kept = synced(path, folder, twins, "--strict", rounds=2, timeout_ms=1000)
+            same(out[-3:], ["given 40", "missed 0", "left 1"])
+            same(by_id(kept), by_id(both))
+            same(["relay %d %s: %s" % (place, twins[place].at, why) in told, status], [True, 3])
+            # In the second round it is asked for no more than what it alone has.
+            same(twins[place].fetched()[1:], [[alone["id"]]])
+
+
+def tells_reasons(path, folder):
+    some = [event(5000, "of one that is up")]
+    up = Played(lists([some[0]["id"]], gives_of(some)))
+    nobody = Played(lists([], gives_none))
+    nobody.__exit__()
+    down = "relay 0 %s: connection refused" % nobody.at
+    out, told, status, kept = synced(path, folder, [nobody, up], "--strict")
+    same([out[0], out[-3:], down in told, status, kept], ["relay 0 failed 1", ["given 1", "missed 0", "left 0"], True, 3, some])
+    same(synced(path, folder, [nobody, up])[2], 0)
+    same(synced(path, folder, [up], "--strict")[2], 0)
+    out, told, status, _kept = synced(path, folder, [nobody, nobody], "--strict")
+    same([out[:2], down in told, status], [["relay 0 failed 1", "relay 1 failed 1"], True, 3])
+    refuses = Played(lambda connection, asked: connection.say(["NEG-ERR", asked[1], "blocked: too big"]))
+    out, told, status, _kept = synced(path, folder, [refuses])
+    same([out[0], "relay 0 %s: NEG-ERR blocked: too big" % refuses.at in told, status], ["relay 0 failed 1", True, 0])
+
+
+def gives_unasked(path, folder):
+    wanted = event(6000, "asked for")
+    others = [json.dumps(event(7000 + n, "x" * 1_000_000)).encode() for n in range(60)]
+
+    def gives(connection, sub, _ids):
+        for other in others:
+            connection.send(b'["EVENT","' + sub.encode() + b'",' + other + b"]")
+        connection.say(["EVENT", sub, wanted], ["EOSE", sub])
+    conf = settings(folder, "mirror", relays=[Played(lists([wanted["id"]], gives)).at])
+    out, errors, status, memory = waited(begin(path, "sync", conf))
+    same([out.splitlines()[-3:], errors, status], [["given 1", "missed 0", "left 0"], "", 0])
+    same(read(os.path.join(folder, "mirror.jsonl")), [wanted])
+    if memory > UNASKED:
+        raise SystemExit("sync took %.0f MiB for events that nobody asked for" % memory)
+    return memory
+
+
 def main():
     parser = argparse.ArgumentParser(description=__doc__.split("\n")[0])
     parser.add_argument("program", nargs="?", default=os.path.join(ROOT, "crates/mirror_app/out/mirror_app"))
@@ -136,7 +230,10 @@ def main():
     for _ in range(options.runs):
         with tempfile.TemporaryDirectory() as folder:
             memory = meet(os.path.abspath(options.program), folder, rng)
-        print("as wanted, %.0f MiB" % memory, flush=True)
+        for meets in (fails_over, tells_reasons, gives_unasked):
+            with tempfile.TemporaryDirectory() as folder:
+                took = meets(os.path.abspath(options.program), folder)
+        print("as wanted, %.0f MiB, and %.0f MiB for what nobody asked for" % (memory, took), flush=True)
 
 
 if __name__ == "__main__":

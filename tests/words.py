@@ -3,6 +3,7 @@
 
     tests/words.py [PATH]      (PATH of the program; else the proved build)
 """
+import re
 import subprocess
 
 from told import program, same
@@ -15,7 +16,8 @@ RECON_USAGE = MORE + "\nUsage: nostr-mirror recon [OPTIONS]\n"
 # Words that name no job, and how the text begins and ends that the Rust crate `clap` 4.5 tells of them; behind a
 # fault of the limit stands how `recon` is used.
 REFUSED = [
-    ("", "", ""),
+    ("", "error: 'nostr-mirror' requires a subcommand but one was not provided\n"
+         "  [subcommands: recon, plan, check, serve, sync, help]", USAGE),
     ("--help", ABOUT, ""),
     ("-h", ABOUT, ""),
     ("help", ABOUT, ""),
@@ -40,7 +42,6 @@ REFUSED = [
     ("serve --progress a", "error: unexpected argument '--progress' found", ""),
     ("help nothing", "error: unrecognized subcommand 'nothing'", ""),
     ("Recon", "error: unrecognized subcommand 'Recon'", ""),
-    ("--version", "nostr-mirror 0.1.0\n", "nostr-mirror 0.1.0\n"),
     ("recon --version", "error: unexpected argument '--version' found", ""),
 ]
 
@@ -70,6 +71,12 @@ def words_that_name_none(path):
         same((line, status, out, told.startswith(front), told.endswith(back)), (line, 2, "", True, True))
 
 
+def the_version(path):
+    """And the revision, where the program is built of an archive of the sources."""
+    status, out, told = ran(path, ["--version"])
+    same((status, out, bool(re.fullmatch(r"nostr-mirror 0\.2\.0( [0-9a-f]{7,40})?\n", told))), (2, "", True))
+
+
 def words_that_are_no_text(path):
     told = "error: invalid UTF-8 was detected in one or more arguments" + USAGE
     same(ran(path, [b"pl\xffn"], b"mine\n"), (2, "", told))
@@ -82,7 +89,7 @@ def each_job_through_its_words(path):
 
 def main():
     path = program()
-    for part in (words_that_name_none, words_that_are_no_text, each_job_through_its_words):
+    for part in (words_that_name_none, the_version, words_that_are_no_text, each_job_through_its_words):
         part(path)
         print(part.__name__.replace("_", " "))
 

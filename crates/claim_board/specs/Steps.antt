@@ -50,6 +50,14 @@ ended c st m found m' = (i : ℕ) (e : LaneRecord) (rest : List LaneRecord) → 
 abbrev pub released : Step ℕ → Sat → ℕ → Sat → Type 0
 released st m found m' = (i : ℕ) (e : LaneRecord) (rest : List LaneRecord) → st.word ≡ i + 1 → m.0 ≡ e ∷ rest → (m'.1 ≡ m.1) × (m'.0 ≡ with_released i e ∷ rest)
 
+-- no cell is held by two lanes of a view
+abbrev pub HeldOnce : List LaneRecord → Type 0
+HeldOnce v = (p q : ℕ) (e f : LaneRecord) (i : ℕ) → get_elem? v p ≡ some e → get_elem? v q ≡ some f → Contains e.held i → Contains f.held i → p ≡ q
+
+-- the lanes of a view are compared
+abbrev pub compared : Step ℕ → Sat → ℕ → Sat → Type 0
+compared st m found m' = (m' ≡ m) × HeldOnce m.0
+
 -- how a view is cut: its first lane, and the others
 abbrev pub first_of : List LaneRecord → List LaneRecord
 first_of [] = []

@@ -10,7 +10,7 @@ ghost use Rattle.claim_board.specs.declared.records.LaneRecord.{LaneRecord};
 ghost use Rattle.claim_board.specs.Views.{BoardView, LaneView, Claims, Sees, Settled, Honest, placed_at, joined};
 ghost use Rattle.claim_board.specs.Rules.{fresh, named};
 
-use crate::plays::{Claim, Cut, Finish, Glue, Look, Miss, Release};
+use crate::plays::{Claim, Compare, Cut, Finish, Glue, Look, Miss, Release};
 use crate::records::{BoardFault, Claimed, Layout, Records, Rule};
 use atomic_table::{Seat, Table};
 use event_store::{Naming, Placed};
@@ -265,6 +265,40 @@ impl<J: Naming> Board<J> {
             relay: _,
         } = lane;
         self.table.shared.join_seat::<Glue>(&mut keeper.seat, seat);
+    }
+
+    /// Whatever other lanes did, no cell is held by both of these. They come back as they were; the second stands for no
+    /// lanes that left.
+    pub fn hold_apart(&self, lane: Lane, other: Lane) -> (Lane, Lane)
+        requires board { (lane.board ≡ self.now.board) × (other.board ≡ self.now.board) }
+        requires alone { other.others ≡ [] }
+        ensures same { (result.0 ≡ lane) × (result.1 ≡ other) }
+        ensures apart { (i : ℕ) → Contains lane.own.held i → Contains other.own.held i → ⊥ }
+    {
+        let Lane {
+            seat: first,
+            number,
+            relay,
+        } = lane;
+        let Lane {
+            seat: mut both,
+            number: other_number,
+            relay: other_relay,
+        } = other;
+        self.table.shared.join_seat::<Glue>(&mut both, first);
+        self.table.shared.load::<Compare>(&mut both, 0);
+        let own = self.table.shared.split_seat::<Cut>(&mut both);
+        let lane = Lane {
+            seat: both,
+            number,
+            relay,
+        };
+        let other = Lane {
+            seat: own,
+            number: other_number,
+            relay: other_relay,
+        };
+        (lane, other)
     }
 
     // The first lane of a view goes to a lane of its own.

@@ -44,6 +44,15 @@ impl Play<u8, Records> for Release {
     ghost then = { released };
 }
 
+/// A step that changes nothing, by which the lanes of a view are compared.
+pub(crate) struct Compare;
+
+impl Play<u8, Records> for Compare {
+    ghost use Rattle.claim_board.specs.Steps.{compared};
+
+    ghost then = { compared };
+}
+
 /// The first lane of a view goes to a seat of its own.
 pub(crate) struct Cut;
 

@@ -1,12 +1,13 @@
-//! Files of events: one event as JSON a line. Read into a store, and written from a list.
+//! Files of events: one event as JSON a line. Read into a store, and kept as the log of it.
 #![tactic(auto)]
 
 mod fault;
+mod file;
 mod path;
 mod reading;
 mod writing;
 
 pub use fault::FileFault;
-pub use path::NewFile;
-pub use reading::insert_lines;
-pub use writing::write_lines;
+pub use file::EventsFile;
+pub use reading::{holds_event, insert_lines};
+pub use writing::{is_text_of, write_lines};

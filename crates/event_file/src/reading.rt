@@ -1,5 +1,5 @@
 //! Reading a file of events into a store.
-ghost use Rattle.std.specs.Prelude.{◌≡◌, ℕ, ◌+◌, ◌<◌, ◌≤◌, List, [], ◌∷◌, length, map, take, drop, IfOk, IfSome, OnOk, Err};
+ghost use Rattle.std.specs.Prelude.{◌≡◌, ℕ, ◌+◌, ◌<◌, ◌≤◌, List, [], ◌∷◌, length, map, take, drop, IfOk, IfSome, MatchBool, OnOk, Err};
 ghost use Rattle.std.specs.Arc.{arc_value};
 ghost use Rattle.nostr_event.specs.EventView.{EventView};
 ghost use Rattle.mirror_run.specs.Lines.{lines_of};
@@ -33,6 +33,17 @@ fn event_of(alloc: Global, line: &[u8]) -> Result<Arc<Event>, LineFault>
         Ok(event) => Ok(Arc::new(alloc, event)?),
         Err(EventFault::Memory) => Err(LineFault::Memory),
         Err(_) => Err(LineFault::Wrong),
+    }
+}
+
+/// Whether the line holds an event.
+pub fn holds_event(alloc: Global, line: &[u8]) -> Result<bool, AllocError>
+    ensures { IfOk result (λ b. MatchBool b ((e : EventView) × IsEventOf line.now e) ((e : EventView) → ¬ IsEventOf line.now e)) }
+{
+    match event_of(alloc, line) {
+        Ok(_) => Ok(true),
+        Err(LineFault::Wrong) => Ok(false),
+        Err(LineFault::Memory) => Err(AllocError),
     }
 }
 

@@ -1,9 +1,9 @@
 //! Writing events as lines.
-ghost use Rattle.std.specs.Prelude.{OnOk};
+ghost use Rattle.std.specs.Prelude.{◌≡◌, ◌≤◌, ◌++◌, IsTrue, IfSome, OnOk, drop, length};
 ghost use Rattle.std.specs.Arc.{arc_value};
 ghost use Rattle.std.specs.Io.KnownBytes.{Appends};
 ghost use Rattle.mirror_run.specs.Waiting.{Sends};
-ghost use Rattle.event_file.specs.Text.{line_of, text_of};
+ghost use Rattle.event_log.specs.Text.{line_of, text_of};
 
 use event_store::EventList;
 use mirror_run::waiting::{put, send};
@@ -43,4 +43,27 @@ pub fn write_lines<W: Write>(alloc: Global, out: &mut W, events: &EventList) -> 
     write_all(out, &mut wait, events)?;
     send(out, &mut wait)?;
     out.flush()
+}
+
+/// The bytes behind an event's line, with which the text begins.
+fn behind_line<'a>(text: &'a [u8], event: &Arc<Event>) -> Option<&'a [u8]>
+    ensures { IfSome result (λ rest. text.now ≡ line_of (arc_value event.now) ++ rest.now) }
+{
+    let rest = text.strip_prefix(event.text().as_bytes())?;
+    rest.strip_prefix(b"\n")
+}
+
+/// Whether the text is that of the events from a place on: the line of each, and nothing else.
+pub fn is_text_of(text: &[u8], events: &EventList, start: usize) -> bool
+    requires { start ≤ length events.now }
+    ensures { IsTrue result → text.now ≡ text_of (drop start events.now) }
+{
+    let mut rest = text;
+    for place in start..events.len() {
+        match behind_line(rest, events.get(place)) {
+            Some(after) => rest = after,
+            None => return false,
+        }
+    }
+    rest.is_empty()
 }

@@ -1,7 +1,7 @@
 //! The history of a store, before and after it has its name.
-ghost use Rattle.std.specs.Prelude.{◌≡◌, ◌<◌, ◌≤◌, ◌^◌, [], ◌∷◌, ◌++◌, length, take, IsTrue, MatchBool};
+ghost use Rattle.std.specs.Prelude.{◌≡◌, ◌<◌, ◌≤◌, ◌^◌, [], ◌∷◌, ◌++◌, suc, length, take, IsTrue, MatchBool, Some, None, IfSome, option_map};
 ghost use mathlib.Core.List.{IsPrefix};
-ghost use Rattle.event_store.specs.History.{head_of};
+ghost use Rattle.event_store.specs.History.{head_of, IsLevel};
 
 use crate::event_list::EventList;
 use crate::mark::Mark;
@@ -43,23 +43,57 @@ impl Blank {
     /// The end of the history of that name, and that nothing was seen of it.
     pub(crate) fn named<J: Naming>(self) -> (Head<J>, Front<J>)
         requires { self ≡ J.book }
-        ensures { result.1 ≡ [] }
+        ensures head { result.0 ≡ Some 0 }
+        ensures front { result.1 ≡ [] }
     {
         let Blank { word, seen } = self;
         let head = Head {
             word,
+            len: Some(0),
             of: PhantomData,
         };
         (head, Front::of(Mark::new(seen)))
     }
 }
 
-/// Where the history goes on.
+/// Where the history goes on. Contracts see it as how many events were added, and as none once it may have gone on further
+/// than what is published: then nothing can be added any more.
 #[derive(Drop)]
 pub struct Head<J: Naming> {
     word: Word<Event, u64, Law>,
+    len: Option<u64>,
     of: PhantomData<J>,
-    ghost word_is: { word ≡ head_of J.book },
+}
+
+impl<J: Naming> Model for Head<J> {
+    ghost use Rattle.std.specs.Prelude.{◌≡◌, ℕ, Option};
+    ghost use Rattle.event_store.specs.History.{head_of};
+
+    ghost Value = { Option ℕ };
+
+    ghost view = { λ h. h.len };
+
+    ghost invariant = { λ h. h.word ≡ head_of J.book };
+}
+
+impl<J: Naming> Head<J> {
+    /// The history went on further than what is published.
+    pub fn lose(&mut self)
+        ensures { self.new ≡ None }
+    {
+        self.len = None;
+    }
+
+    // One event was added, or the history had gone on further.
+    fn count(&mut self, added: bool)
+        requires { IfSome self.old (λ n. n < 2 ^ 62) }
+        ensures { MatchBool added (self.new ≡ option_map suc self.old) (self.new ≡ None) }
+    {
+        self.len = match self.len {
+            Some(n) if added => Some(n + 1),
+            _ => None,
+        };
+    }
 }
 
 /// A beginning of the history of that name, which was seen. Contracts see it as its events.
@@ -81,7 +115,7 @@ impl<J: Naming> Model for Front<J> {
 }
 
 impl<J: Naming> Front<J> {
-    pub fn of(mark: Mark) -> Front<J>
+    pub(crate) fn of(mark: Mark) -> Front<J>
         requires { mark.book ≡ J.book }
         ensures { result ≡ mark.list }
     {
@@ -91,13 +125,14 @@ impl<J: Naming> Front<J> {
         }
     }
 
-    pub fn into_mark(self) -> Mark
+    pub(crate) fn into_mark(self) -> Mark
         ensures { (result.book ≡ J.book) × (result.list ≡ self) }
     {
         let Front { mark, of: _ } = self;
         mark
     }
 
+    /// How many events it has.
     pub fn len(&self) -> u64
         ensures { result ≡ length self.now }
     {
@@ -122,19 +157,25 @@ impl<J: Naming> Front<J> {
     }
 
     /// Adds an event to all that was seen, and says whether it did. It did not where the history is longer.
-    pub fn add(&mut self, head: &Head<J>, event: &Event) -> bool
-        requires { length self.old < 2 ^ 62 }
-        ensures { MatchBool result (self.new ≡ self.old ++ event.now ∷ []) (length self.old < length self.new) }
+    pub(crate) fn add(&mut self, head: &mut Head<J>, event: &Event) -> bool
+        requires room { length self.old < 2 ^ 62 }
+        requires level { IsLevel head.old self.old }
+        ensures list { MatchBool result (self.new ≡ self.old ++ event.now ∷ []) (length self.old < length self.new) }
+        ensures head { MatchBool result (head.new ≡ option_map suc head.old) (head.new ≡ None) }
     {
-        self.mark.add(&head.word, event)
+        let added = self.mark.add(&head.word, event);
+        head.count(added);
+        added
     }
 
     /// Adds the events from a place on, where those before it were seen, and says whether it did. It did not where the history is
     /// longer.
-    pub fn add_from(&mut self, head: &Head<J>, events: &EventList, start: usize) -> bool
+    pub(crate) fn add_from(&mut self, head: &mut Head<J>, events: &EventList, start: usize) -> bool
         requires seen { self.old ≡ take start events.now }
         requires room { length events.now < 2 ^ 62 }
-        ensures { IsTrue result → self.new ≡ events.now }
+        requires level { IsLevel head.old self.old }
+        ensures list { IsTrue result → self.new ≡ events.now }
+        ensures head { MatchBool result (head.new ≡ option_map (λ _. length events.now) head.old) (head.new ≡ None) }
     {
         for place in start..events.len() {
             if !self.add(head, events.get(place)) {

@@ -1,5 +1,5 @@
 //! The one who inserts.
-ghost use Rattle.std.specs.Prelude.{◌≡◌, ◌<◌, ◌≤◌, not, false, [], ◌∷◌, ◌++◌, length, map, take, IfOk, IfErr, OnErr, if◌then◌else◌};
+ghost use Rattle.std.specs.Prelude.{◌≡◌, ◌<◌, ◌≤◌, not, false, Some, [], ◌∷◌, ◌++◌, length, map, take, IfOk, IfErr, OnErr, if◌then◌else◌};
 ghost use Rattle.std.specs.Arc.{arc_value};
 ghost use Rattle.event_store.specs.Events.{has_id, Distinct, placings, with_events};
 ghost use Rattle.event_store.specs.Faults.{RefusesRightly, EndsRightly};
@@ -75,12 +75,14 @@ pub struct Desk<J: Naming, R: Wait + Drop> {
 impl<J: Naming, R: Wait + Drop> Model for Desk<J, R> {
     ghost use Rattle.std.specs.Prelude.{◌≡◌, ◌≤◌, List, length};
     ghost use Rattle.nostr_event.specs.EventView.{EventView};
+    ghost use Rattle.event_store.specs.History.{IsLevel};
 
     ghost Value = { List EventView };
 
     ghost view = { λ d. d.pen.desk.shown.value.list };
 
-    ghost invariant = { λ d. (d.pen.desk.shown.value.book ≡ J.book) × (length d.pen.desk.shown.value.list ≤ d.most) × (d.most ≡ J.most) × (d.most ≤ 1000000) };
+    // All that was added to the history is published, so that the next event can be added.
+    ghost invariant = { λ d. (d.pen.desk.shown.value.book ≡ J.book) × (length d.pen.desk.shown.value.list ≤ d.most) × (d.most ≡ J.most) × (d.most ≤ 1000000) × IsLevel d.head d.pen.desk.shown.value.list };
 }
 
 /// Ends the readers, whose pins answer `Gone` from then on.
@@ -108,6 +110,7 @@ impl<J: Naming, R: Wait + Drop> Desk<J, R> {
     ) -> Result<Desk<J, R>, AllocError>
         requires most { (most ≡ J.most) × (most ≤ 1000000) }
         requires readers { (0 < readers) × (readers ≤ 1024) }
+        requires head { head ≡ Some 0 }
         requires front { front.now ≡ [] }
         ensures { IfOk result (λ d. d ≡ []) }
     {
@@ -223,11 +226,17 @@ impl<J: Naming, R: Wait + Drop> Desk<J, R> {
         let state = Arc::new(self.alloc, state)?;
         // From here on nothing takes memory.
         let mut front = Front::of(shown.mark().again());
-        if !front.add_from(&self.head, state.events(), shown.state().events().len()) {
+        let start = shown.state().events().len();
+        if !front.add_from(&mut self.head, state.events(), start) {
             return Err(AllocError);
         }
         let next = Shown::new(state, front.again().into_mark());
-        replace_with(&mut self.pen, next, |pen, next| publish(pen, rt, next))?;
-        Ok(front)
+        match replace_with(&mut self.pen, next, |pen, next| publish(pen, rt, next)) {
+            Ok(()) => Ok(front),
+            Err(refused) => {
+                self.head.lose();
+                Err(refused)
+            }
+        }
     }
 }

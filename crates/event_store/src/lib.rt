@@ -23,7 +23,7 @@ mod state;
 mod steps;
 
 pub use all::AllEvents;
-pub use blank::Blank;
+pub use blank::{Blank, Front};
 pub use desk::{Desk, Filled, InsertFault};
 pub use event_list::EventList;
 pub use name::Naming;

@@ -117,7 +117,8 @@ fn ids_within(alloc: Global, roll: &Roll, filter: &Filter) -> Result<Option<Vec<
     let upper = last_bound(filter);
     let hi = roll.find(&upper);
     if upper.is_below(&lower) {
-        return Ok(None);
+        // No event is from a time on and up to an earlier one.
+        return Ok(Some(Vec::new(alloc)));
     }
     let lo = roll.find(&lower);
     if lo <= hi && hi - lo < roll.len() / FEW {

@@ -57,7 +57,7 @@ impl<J: Naming> Placed<J> {
     }
 
     /// The beginning of the history that it tells of.
-    pub(crate) fn told(&self) -> &Front<J>
+    pub fn told(&self) -> &Front<J>
         ensures { result.now ≡ self.now.list }
     {
         &self.told

@@ -1,5 +1,5 @@
 //! The readers, which never wait.
-ghost use Rattle.std.specs.Prelude.{◌≡◌, ◌⊎◌, map, IfOk, IfErr, IsPermutation};
+ghost use Rattle.std.specs.Prelude.{◌≡◌, ◌⊎◌, ◌<◌, ◌≤◌, None, length, map, IfOk, IfErr, IfSome, IsPermutation};
 ghost use Rattle.std.specs.Arc.{arc_value};
 ghost use mathlib.Core.List.{IsPrefix};
 ghost use Rattle.left_right.specs.Sides.{view};
@@ -58,6 +58,13 @@ impl<J: Naming> Reader<J> {
         Reader { side, front }
     }
 
+    /// The beginning of the history that it has seen or learnt.
+    pub fn front(&self) -> Front<J>
+        ensures { result ≡ self.now }
+    {
+        self.front.again()
+    }
+
     /// Takes in what a desk told. The next pin has it.
     pub fn learn(&mut self, placed: &Placed<J>)
         ensures kept { IsPrefix self.old self.new }
@@ -86,6 +93,27 @@ impl<J: Naming> Reader<J> {
     {
         let state = self.see()?;
         Snapshot::of(alloc, state, filter).map_err(|_| PinFault::Memory)
+    }
+
+    /// The same, unless more events match than so many, which are counted first.
+    pub fn pin_few(
+        &mut self,
+        alloc: Global,
+        filter: &Filter,
+        most: usize,
+    ) -> Result<Option<Snapshot>, PinFault>
+        ensures kept { IsPrefix self.old self.new }
+        ensures many { IfOk result (λ o. o ≡ None → most < length (matching filter.now self.new)) }
+        ensures few { IfOk result (λ o. IfSome o (λ s. length s.events ≤ most)) }
+        ensures all { IfOk result (λ o. IfSome o (λ s. s.all ≡ self.new)) }
+        ensures distinct { IfOk result (λ o. IfSome o (λ s. Distinct s.all)) }
+        ensures events { IfOk result (λ o. IfSome o (λ s. s.events ≡ matching filter.now self.new)) }
+        ensures items { IfOk result (λ o. IfSome o (λ s. IsPermutation (map item_of s.events) s.roll)) }
+        ensures sorted { IfOk result (λ o. IfSome o (λ s. IsRoll s.roll)) }
+        ensures gone { IfErr result (λ f. f ≡ PinFault.Gone → self.new ≡ self.old) }
+    {
+        let seen = self.see()?;
+        Snapshot::of_few(alloc, seen, filter, most).map_err(|_| PinFault::Memory)
     }
 
     /// All that is published. That list begins with all that was seen or learnt. It takes no memory.

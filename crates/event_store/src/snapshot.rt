@@ -1,5 +1,5 @@
 //! What a pin gives.
-ghost use Rattle.std.specs.Prelude.{◌≡◌, length, map, IfOk, IsPermutation};
+ghost use Rattle.std.specs.Prelude.{◌≡◌, ◌<◌, ◌≤◌, None, length, map, IfOk, IfSome, IsPermutation};
 ghost use Rattle.std.specs.Arc.{arc_value};
 ghost use Rattle.nostr_event.specs.EventView.{item_of};
 ghost use Rattle.item_roll.specs.Parts.{IsRoll};
@@ -55,6 +55,18 @@ impl Snapshot {
             });
         }
         let events = pick(alloc, &state, filter)?;
+        Snapshot::with(alloc, state, events)
+    }
+
+    // The same with these events.
+    fn with(alloc: Global, state: Arc<State>, events: EventList) -> Result<Snapshot, AllocError>
+        ensures all { IfOk result (λ s. s.all ≡ arc_value state) }
+        ensures distinct { IfOk result (λ s. Distinct s.all) }
+        ensures events { IfOk result (λ s. s.events ≡ events) }
+        ensures items { IfOk result (λ s. IsPermutation (map item_of s.events) s.roll) }
+        ensures sorted { IfOk result (λ s. IsRoll s.roll) }
+    {
+        state.events();
         let roll = roll_of(alloc, &events)?;
         roll.len();
         let roll = Arc::new(alloc, roll)?;
@@ -63,6 +75,34 @@ impl Snapshot {
             events,
             roll,
         })
+    }
+
+    /// The same, unless more events match than so many: these are counted before they are put into a roll.
+    pub(crate) fn of_few(
+        alloc: Global,
+        state: Arc<State>,
+        filter: &Filter,
+        most: usize,
+    ) -> Result<Option<Snapshot>, AllocError>
+        ensures many { IfOk result (λ o. o ≡ None → most < length (matching filter.now (arc_value state))) }
+        ensures few { IfOk result (λ o. IfSome o (λ s. length s.events ≤ most)) }
+        ensures all { IfOk result (λ o. IfSome o (λ s. s.all ≡ arc_value state)) }
+        ensures distinct { IfOk result (λ o. IfSome o (λ s. Distinct s.all)) }
+        ensures events { IfOk result (λ o. IfSome o (λ s. s.events ≡ matching filter.now (arc_value state))) }
+        ensures items { IfOk result (λ o. IfSome o (λ s. IsPermutation (map item_of s.events) s.roll)) }
+        ensures sorted { IfOk result (λ o. IfSome o (λ s. IsRoll s.roll)) }
+    {
+        if leaves_none_out(filter) {
+            if state.events().len() > most {
+                return Ok(None);
+            }
+            return Ok(Some(Snapshot::of(alloc, state, filter)?));
+        }
+        let events = pick(alloc, &state, filter)?;
+        if events.len() > most {
+            return Ok(None);
+        }
+        Ok(Some(Snapshot::with(alloc, state, events)?))
     }
 
     /// How many events were published.

@@ -185,7 +185,7 @@ module _ (args : List Text) where
             | inl plan ↦ (Plan, name ∙ plan)
             | inr others ↦ elim others [
               | inl check ↦ (Check, name ∙ check)
-              | inr others ↦ elim others [ inl serve ↦ (Serve [], name ∙ serve) | inr sync ↦ (Sync [] false, name ∙ sync) ]
+              | inr others ↦ elim others [ inl serve ↦ (Serve [], name ∙ serve) | inr sync ↦ (Sync [] false false, name ∙ sync) ]
             ]
           ]
         ]

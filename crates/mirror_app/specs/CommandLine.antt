@@ -30,11 +30,15 @@ settings_rule = record (new_rule (codes "SETTINGS")) { required = true }
 abbrev pub progress_rule : Rule
 progress_rule = record (new_rule (codes "progress")) { long = Some (codes "progress"); action = Some SetTrue }
 
+-- `--strict`
+abbrev pub strict_rule : Rule
+strict_rule = record (new_rule (codes "strict")) { long = Some (codes "strict"); action = Some SetTrue }
+
 abbrev pub serve : App
 serve = with_rule (new_app (codes "serve")) settings_rule
 
 abbrev pub sync : App
-sync = with_rule (with_rule (new_app (codes "sync")) settings_rule) progress_rule
+sync = with_rule (with_rule (with_rule (new_app (codes "sync")) settings_rule) progress_rule) strict_rule
 
 abbrev pub wants_subcommand : App → App
 wants_subcommand a = record a { top = record a.top { subcommand_required = true } }
@@ -56,7 +60,7 @@ name_of (Recon limit) = codes "recon"
 name_of Plan = codes "plan"
 name_of Check = codes "check"
 name_of (Serve path) = codes "serve"
-name_of (Sync path progress) = codes "sync"
+name_of (Sync path progress strict) = codes "sync"
 
 -- the limit of a session's messages is in its range
 abbrev pub IsWithin : Words → Type 0
@@ -80,18 +84,21 @@ IsPathOf (Some text) path = path ≡ text
 abbrev pub path_text : Option (Text × List Row) → Option Text
 path_text found = option_and_then (λ s. first_of (codes "SETTINGS") s.1) found
 
--- whether `--progress` is there: clap keeps `true` or `false` for it
+-- whether an option such as `--progress` is there: clap keeps `true` or `false` for it
 abbrev pub IsFlagOf : Option Text → Bool → Type 0
 IsFlagOf text flag = (text ≡ None → flag ≡ false) × (text ≡ Some (codes "true") → flag ≡ true) × (text ≡ Some (codes "false") → flag ≡ false)
 
 abbrev pub progress_text : Option (Text × List Row) → Option Text
 progress_text found = option_and_then (λ s. one_of (codes "progress") s.1) found
 
+abbrev pub strict_text : Option (Text × List Row) → Option Text
+strict_text found = option_and_then (λ s. one_of (codes "strict") s.1) found
+
 -- what the job is told is what was found
 abbrev pub Tells : Option (Text × List Row) → Words → Type 0
 Tells found (Recon limit) = IsLimitOf (limit_text found) limit
 Tells found (Serve path) = IsPathOf (path_text found) path
-Tells found (Sync path progress) = IsPathOf (path_text found) path × IsFlagOf (progress_text found) progress
+Tells found (Sync path progress strict) = IsPathOf (path_text found) path × IsFlagOf (progress_text found) progress × IsFlagOf (strict_text found) strict
 Tells found job = Unit {0}
 
 -- the name of a job

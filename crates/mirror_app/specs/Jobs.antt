@@ -26,7 +26,7 @@ pub record Names (words : List Text) (job : Words) : Type 0 where
 -- the job reads its input from standard input
 abbrev pub IsOfText : Words → Type 0
 IsOfText (Serve path) = ⊥
-IsOfText (Sync path progress) = ⊥
+IsOfText (Sync path progress strict) = ⊥
 IsOfText job = Unit {0}
 
 -- what the job writes of its input
@@ -35,7 +35,7 @@ IsDoneBy (Recon limit) input old new = IsPrinted limit input old new
 IsDoneBy Plan input old new = IsPlanWritten input old new
 IsDoneBy Check input old new = IsLeastWritten input old new
 IsDoneBy (Serve path) input old new = ⊥
-IsDoneBy (Sync path progress) input old new = ⊥
+IsDoneBy (Sync path progress strict) input old new = ⊥
 
 -- why the job refuses its input
 abbrev pub IsRefusedBy : Words → List ℕ → Refusal → Type 0
@@ -43,7 +43,7 @@ IsRefusedBy (Recon limit) input e = IsReconRefusal limit input e
 IsRefusedBy Plan input e = IsPlanRefusal input e
 IsRefusedBy Check input e = IsCheckRefusal input e
 IsRefusedBy (Serve path) input e = ⊥
-IsRefusedBy (Sync path progress) input e = ⊥
+IsRefusedBy (Sync path progress strict) input e = ⊥
 
 -- The end of the program: the job that the words name was done, or refused its input, where that is known; or the words
 -- name none.

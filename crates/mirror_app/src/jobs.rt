@@ -103,6 +103,6 @@ pub fn run<R: Read, W: Write>(
         Words::Plan => Went::Ended(ended(run_plan(alloc, reader, writer))),
         Words::Check => Went::Ended(ended(run_check(alloc, reader, writer))),
         Words::Serve(path) => Went::Left(Words::Serve(path)),
-        Words::Sync(path, progress) => Went::Left(Words::Sync(path, progress)),
+        Words::Sync(path, progress, strict) => Went::Left(Words::Sync(path, progress, strict)),
     }
 }

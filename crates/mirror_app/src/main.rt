@@ -4,6 +4,7 @@
 mod jobs;
 mod settled;
 mod usage;
+mod version;
 mod words;
 
 use jobs::{End, Went, run};
@@ -36,17 +37,20 @@ fn main(rt: HostRuntime) -> io::Result<ExitCode> {
     let end = match went {
         Went::Ended(end) => end,
         Went::Left(Words::Serve(path)) => {
-            let done = serve(&rt, alloc, path.as_str(), &mut rt.stdout());
+            let done = serve(&rt, alloc, path.as_str(), &mut rt.stdout(), rt.stderr());
             return Ok(told(&mut rt.stderr(), done));
         }
-        Went::Left(Words::Sync(path, is_wanted)) => {
+        Went::Left(Words::Sync(path, is_wanted, is_strict)) => {
             let progress = if is_wanted {
                 Progress::to(rt.stderr())
             } else {
                 Progress::none()
             };
-            let done = sync(&rt, alloc, path.as_str(), &mut rt.stdout(), &progress);
-            return Ok(told(&mut rt.stderr(), done));
+            let (out, errors) = (&mut rt.stdout(), rt.stderr());
+            let done = sync(&rt, alloc, path.as_str(), out, &progress, errors);
+            let is_short = is_strict && done.is_ok() && progress.fell_short(&rt);
+            let status = told(&mut rt.stderr(), done);
+            return Ok(if is_short { ExitCode::from(3) } else { status });
         }
         // The other jobs have ended.
         Went::Left(_) => End::Done,

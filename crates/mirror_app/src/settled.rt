@@ -43,9 +43,10 @@ pub fn serve<
         + AllocGlobal
         + Sync,
     W: Write,
->(rt: &R, alloc: Global, path: &str, writer: &mut W) -> Result<(), Refusal> {
+    E: Write + Send + Drop,
+>(rt: &R, alloc: Global, path: &str, writer: &mut W, errors: E) -> Result<(), Refusal> {
     match fs::read_to_string(rt, path) {
-        Ok(text) => run_serve(rt, alloc, text.as_str(), writer),
+        Ok(text) => run_serve(rt, alloc, text.as_str(), writer, errors),
         Err(error) => Err(refusal_of(&error)),
     }
 }
@@ -62,15 +63,17 @@ pub fn sync<
         + Sync,
     W: Write,
     P: Write + Send,
+    E: Write + Send + Drop,
 >(
     rt: &R,
     alloc: Global,
     path: &str,
     writer: &mut W,
     progress: &Progress<P>,
+    errors: E,
 ) -> Result<(), Refusal> {
     match fs::read_to_string(rt, path) {
-        Ok(text) => run_sync(rt, alloc, text.as_str(), writer, progress),
+        Ok(text) => run_sync(rt, alloc, text.as_str(), writer, progress, errors),
         Err(error) => Err(refusal_of(&error)),
     }
 }

@@ -4,16 +4,14 @@ ghost use Rattle.std.specs.Prelude.{◌≡◌, ◌≤◌, false, map, codes, Som
 ghost use Rattle.clap.specs.Words.{app_of, rule_of, shape_of, subcommand_name_of, subcommand_of, subcommand_rows_of, found_of, first_of, one_of, rows_of};
 ghost use Rattle.clap.specs.declared.builder.command.Command.TheViews.{out-Command as fields_of};
 ghost use Rattle.clap.specs.Simple.{new_shape};
-ghost use Rattle.mirror_app.specs.CommandLine.{nostr_mirror, program as the_program, recon as the_recon, serve as the_serve, sync as the_sync, limit_rule, settings_rule, progress_rule, IsPathOf, Tells, name_of, IsJob, IsWithin, IsLimitOf, limit_text, IsNamed, IsAccepted, IsDue};
+ghost use Rattle.mirror_app.specs.CommandLine.{nostr_mirror, program as the_program, recon as the_recon, serve as the_serve, sync as the_sync, limit_rule, settings_rule, progress_rule, strict_rule, IsPathOf, Tells, name_of, IsJob, IsWithin, IsLimitOf, limit_text, IsNamed, IsAccepted, IsDue};
 
 use crate::usage::{WordsFault, fault_of};
+use crate::version::version;
 use clap::{Arg, ArgAction, ArgMatches, Command, value_parser};
 use neg_session::{DEFAULT_LIMIT, LEAST_LIMIT, MOST_LIMIT};
 use nostr_event::Text;
 use std::alloc::{AllocError, Global};
-
-/// What `--version` tells.
-const VERSION: &str = "0.1.0";
 
 /// What the program is to do.
 #[derive(Debug, Drop)]
@@ -27,8 +25,9 @@ pub enum Words {
     Check,
     /// Serve events to connections, by the settings of the file at this path.
     Serve(Text),
-    /// Synchronise with relays, by the settings of the file at this path, and tell of its progress if that is asked for.
-    Sync(Text, bool),
+    /// Synchronise with relays, by the settings of the file at this path. Whether it is told how far it is, and whether the status
+    /// tells that a relay failed or an id is left.
+    Sync(Text, bool, bool),
 }
 
 /// A subcommand that takes no words.
@@ -72,6 +71,17 @@ fn progress_option<'a>(alloc: Global) -> Arg<'a>
         .action(ArgAction::SetTrue)
 }
 
+/// The option that asks for a status of its own where a relay failed or an id is left.
+fn strict_option<'a>(alloc: Global) -> Arg<'a>
+    ensures rule { rule_of result ≡ strict_rule }
+    ensures local { result.global ≡ false }
+{
+    Arg::new(alloc, "strict")
+        .long("strict")
+        .help("Ends with status 3 where a relay failed or an id is left")
+        .action(ArgAction::SetTrue)
+}
+
 /// The subcommand that serves events.
 fn serve<'a>(alloc: Global) -> Result<Command<'a>, AllocError>
     ensures shape { IfOk result (λ c. shape_of c ≡ the_serve.top) }
@@ -91,7 +101,8 @@ fn sync<'a>(alloc: Global) -> Result<Command<'a>, AllocError>
         "Fetches the events that relays have and the events file lacks",
     )
     .arg(settings_argument(alloc))?
-    .arg(progress_option(alloc))
+    .arg(progress_option(alloc))?
+    .arg(strict_option(alloc))
 }
 
 /// The subcommand that compares two lists.
@@ -114,7 +125,7 @@ fn program<'a>(alloc: Global) -> Result<Command<'a>, AllocError>
     let program = Command::new(alloc, "nostr-mirror")
         .bin_name("nostr-mirror")?
         .about("A proved mirror relay for Nostr")
-        .version(VERSION)
+        .version(version())
         .subcommand_required(true);
     Ok(program)
 }
@@ -198,7 +209,12 @@ fn sync_of(alloc: Global, matches: &ArgMatches) -> Result<Words, AllocError>
     ensures exact { IfOk result (Tells (subcommand_rows_of matches.now)) }
 {
     match matches.subcommand_matches("sync") {
-        Some(sync) => Ok(Words::Sync(path_named(alloc, sync)?, sync.get_flag("progress"))),
+        Some(sync) => {
+            let path = path_named(alloc, sync)?;
+            let progress = sync.get_flag("progress");
+            let strict = sync.get_flag("strict");
+            Ok(Words::Sync(path, progress, strict))
+        }
         None => unreachable!(),
     }
 }

@@ -1,11 +1,11 @@
 //! The plan of a next round.
 
-ghost use Rattle.std.specs.Prelude.{◌≡◌, ℕ, ◌<◌, ◌+◌, ◌==◌, if◌then◌else◌, ◌≤◌, min, length, map, IfOk, OnErr};
+ghost use Rattle.std.specs.Prelude.{◌≡◌, ℕ, ◌<◌, ◌+◌, ◌==◌, if◌then◌else◌, ◌≤◌, min, length, map, IfOk, OnOk, OnErr};
 ghost use Rattle.sharing.specs.declared.TheConstants.{RELAYS, MOST_BASE};
 ghost use Rattle.sharing.specs.Bases.{base_of};
-ghost use Rattle.sharing.specs.Offers.{Ascend};
+ghost use Rattle.sharing.specs.Offers.{Ascend, StandsFor};
 ghost use Rattle.fetch_plan.specs.LeftOut.{gone_beside};
-ghost use Rattle.mirror_core.specs.Next.{asked_of, is_asked, struck_of, IsLess, IsNextPlan};
+ghost use Rattle.mirror_core.specs.Next.{asked_of, is_asked, struck_of, IsLeft, IsLess, IsNextPlan};
 
 use fetch_plan::{Cell, Plan, plan};
 use neg_codec::Id;
@@ -44,6 +44,24 @@ fn struck(
     Ok(gone)
 }
 
+/// Strikes the offers that need no further round: all offers of an id whose cell is done, and a missed cell's offer of its id by
+/// its relay. Where memory runs out nothing is struck.
+pub(crate) fn strike(
+    alloc: Global,
+    table: &mut OfferTable,
+    last: &Plan,
+    cells: &[Cell],
+) -> Result<(), AllocError>
+    requires { length cells.now ≡ length last.now.gives }
+    ensures left { OnOk result (StandsFor table.new.offers (IsLeft table.old.offers last.now.gives cells.now)) }
+    ensures reported { table.new.reported ≡ table.old.reported }
+    ensures err { OnErr result (table.new ≡ table.old) }
+{
+    let gone = struck(alloc, table, last, cells)?;
+    table.leave_out(&gone)?;
+    Ok(())
+}
+
 /// Strikes the offers that need no further round, and plans what is left over these bases: all offers of an id whose
 /// cell is done, and a missed cell's offer of its id by its relay. Where memory runs out some of those offers are
 /// struck and no other, and the call may be made again.
@@ -59,8 +77,7 @@ pub fn next_plan(
     ensures reported { table.new.reported ≡ table.old.reported }
     ensures err { OnErr result (IsLess table.old.offers last.now.gives cells.now table.new.offers) }
 {
-    let gone = struck(alloc, table, last, cells)?;
-    table.leave_out(&gone)?;
+    strike(alloc, table, last, cells)?;
     plan(alloc, table, bases)
 }
 

@@ -32,7 +32,7 @@ pub record IsFresh (limit : ℕ) (theirs : List Item) (peer : Local) : Type 0 wh
   pub log : peer.log ≡ []
   pub faults : peer.faults ≡ 0
   pub sorted : IsRoll peer.roll
-  pub answers : All (AnswersBy peer.roll) peer.log
+  pub answers : All (AnswersBy limit peer.roll) peer.log
   pub limit_is : peer.limit ≡ limit
   pub pairs : All (IsAnswered limit) peer.log
 
@@ -40,12 +40,17 @@ ran_fresh : (limit : ℕ) (mine theirs : List Item) (limits : SessionLimits) (ol
     → Ran mine limits old.log new.log old.faults new.faults r → Ran mine limits [] new.log 0 new.faults r
 ran_fresh limit mine theirs limits old new r fresh ran = rw (fresh.log, fresh.faults) at ran
 
+-- each answer is the reply of the peer's list
+kept_answers : (limit : ℕ) (theirs : List Item) (old new : Local) → IsFresh limit theirs old → Keeps old new → All (AnswersBy limit theirs) new.log
+kept_answers limit theirs old new fresh keeps =
+    let start : All (AnswersBy old.limit old.roll) old.log = subst (λ (n : ℕ). All (AnswersBy n old.roll) old.log) (sym fresh.limit_is) fresh.answers in
+    subst (λ (n : ℕ). All (AnswersBy n theirs) new.log) (keeps.limit_is ∙ fresh.limit_is) (subst (λ (b : List Item). All (AnswersBy new.limit b) new.log) (keeps.roll ∙ fresh.roll) (keeps.answers start))
+
 explained : (limit : ℕ) (mine theirs : List Item) (limits : SessionLimits) (old new : Local) (r : Result Outcome SessionFault) → RollExplains → IsFresh limit theirs old → Keeps old new
     → Ran mine limits [] new.log 0 new.faults r → Explains theirs new.log
 explained limit mine theirs limits old new r law fresh keeps ran =
-    let P : List Item → Type 0 = λ b. Explains b new.log in
-    let kept : All (AnswersBy old.roll) new.log = let h = keeps.answers fresh.answers in rw keeps.roll at h in
-    subst P fresh.roll (law limits.limit mine old.roll [] new.log fresh.sorted kept ran.appended ran.chained)
+    let sorted : IsRoll theirs = subst IsRoll fresh.roll fresh.sorted in
+    law limit limits.limit mine theirs [] new.log sorted (kept_answers limit theirs old new fresh keeps) ran.appended ran.chained
 
 -- what a session asks and hears is no longer than the limit
 
@@ -100,6 +105,7 @@ reconciled limit mine theirs limits old new o law are fresh keeps ran =
       are = are;
       ran = subst P (from_start.unfailed (λ e. cc)) from_start;
       short = all_short limit mine new.log (subst (λ (n : ℕ). Chained n mine new.log) are.limit_is (chained_all mine limits new.log from_start)) (kept_pairs limit theirs old new fresh keeps);
+      answers = kept_answers limit theirs old new fresh keeps;
       explained = explains;
       right = from_start.exact theirs explains;
     }

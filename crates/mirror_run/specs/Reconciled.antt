@@ -1,12 +1,13 @@
 -- A session between two lists, and how `recon` ends.
-use Rattle.std.specs.Prelude.{◌≡◌, ℕ, ◌<◌, List, [], length, Option, Ok, Err, All, IsPermutation}
+use Rattle.std.specs.Prelude.{◌≡◌, ℕ, ◌<◌, ◌≤◌, List, [], length, Option, Ok, Err, All, IsPermutation}
 use Rattle.std.specs.Io.KnownBytes.{Appends}
 use Rattle.neg_codec.specs.declared.Item.{Item}
+use Rattle.item_roll.specs.Parts.{IsRoll}
 use Rattle.neg_initiator.specs.declared.initiator.Outcome.{Outcome}
 use Rattle.neg_session.specs.declared.limits.SessionLimits.{SessionLimits}
 use Rattle.neg_session.specs.declared.fault.SessionFault.{SessionFault}
 use Rattle.neg_session.specs.Exchange.{Exchange, KeepsLimit}
-use Rattle.neg_session.specs.Explaining.{Explains}
+use Rattle.neg_session.specs.Explaining.{Explains, AnswersBy}
 use Rattle.neg_session.specs.Faults.{number_of}
 use Rattle.neg_session.specs.Most.{AreMost}
 use Rattle.neg_session.specs.Ran.{Ran, IsRight}
@@ -16,13 +17,14 @@ use Rattle.mirror_run.specs.ItemLists.{IsInput}
 use Rattle.mirror_run.specs.ReconText.{recon_text}
 use Rattle.mirror_run.specs.Refused.{IsLinesRefusal, IsInputRefusal}
 
--- A session of `mine` with a peer that answers by `theirs`, its pairs and what it found: each answer is
--- true of `theirs`, no message is longer than the limit, and what was found is right for the two.
+-- A session of `mine` with a peer that answers by `theirs`, its pairs and what it found: each answer is the reply of
+-- `theirs` within the limit, no message is longer than it, and what was found is right for the two.
 pub record Reconciles (limit : ℕ) (mine theirs : List Item) (log : List Exchange) (o : Outcome) : Type 0 where
   pub limits : SessionLimits
   pub are : AreMost limit limits
   pub ran : Ran mine limits [] log 0 0 (Ok o)
   pub short : All (KeepsLimit limit) log
+  pub answers : All (AnswersBy limit theirs) log
   pub explained : Explains theirs log
   pub right : IsRight mine theirs o
 
@@ -40,13 +42,16 @@ pub record Fails (limit : ℕ) (mine theirs : List Item) (number : ℕ) : Type 0
   pub answered : 2 < number
   pub not_memory : number < 6
 
--- the input tells two lists, whose items in order are the rolls
+-- The input, which isn't too long, tells two lists, whose items in order, each once, are the rolls.
 pub record TellsRolls (input : List ℕ) (mine theirs : List Item) : Type 0 where
   pub first : List Item
   pub second : List Item
+  pub short : length input ≤ 67108864
   pub told : IsInput input first second
   pub mine_is : IsPermutation first mine
   pub theirs_is : IsPermutation second theirs
+  pub mine_sorted : IsRoll mine
+  pub theirs_sorted : IsRoll theirs
 
 -- why a session gave nothing
 abbrev pub IsSessionRefusal : ℕ → List Item → List Item → Refusal → Type 0

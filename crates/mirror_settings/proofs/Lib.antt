@@ -1,3 +1,4 @@
 mod Forms
 mod Colons
+mod Urls
 mod Refusals

@@ -1,7 +1,7 @@
 -- The keys of the settings.
 use Rattle.std.specs.Prelude.{ℕ, List, codes}
 use Rattle.mirror_settings.specs.declared.fault.SettingsKey.{SettingsKey}
-use Rattle.mirror_settings.specs.declared.fault.SettingsKey.TheVariants.{Events, Listen, Conns, Relays, Filter, Workers, Bases, Rounds, PushMs, TimeoutMs, SaveMs}
+use Rattle.mirror_settings.specs.declared.fault.SettingsKey.TheVariants.{Events, Listen, Conns, Relays, Filter, Workers, Bases, Rounds, PushMs, TimeoutMs, Fsync, SlowBytes}
 
 abbrev pub name_of : SettingsKey → List ℕ
 name_of Events = codes "events"
@@ -14,7 +14,8 @@ name_of Bases = codes "bases"
 name_of Rounds = codes "rounds"
 name_of PushMs = codes "push_ms"
 name_of TimeoutMs = codes "timeout_ms"
-name_of SaveMs = codes "save_ms"
+name_of Fsync = codes "fsync"
+name_of SlowBytes = codes "slow_bytes"
 
 -- its place in the order in which the keys are looked at
 abbrev pub place_of : SettingsKey → ℕ
@@ -28,4 +29,5 @@ place_of Bases = 6
 place_of Rounds = 7
 place_of PushMs = 8
 place_of TimeoutMs = 9
-place_of SaveMs = 10
+place_of Fsync = 10
+place_of SlowBytes = 11

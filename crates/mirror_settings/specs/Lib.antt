@@ -1,3 +1,4 @@
 pub mod Addresses
 pub mod Keys
+pub mod Relays
 pub mod Settings

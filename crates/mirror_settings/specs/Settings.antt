@@ -1,5 +1,5 @@
 -- What settings a TOML table tells. Keys that aren't named here are passed over.
-use Rattle.std.specs.Prelude.{◌≡◌, ◌≢◌, ◌≤◌, ◌<◌, ℕ, Bool, true, false, List, [], map, length, replicate, Option, None, Some, MatchOption, All, pos, ◌⊎◌}
+use Rattle.std.specs.Prelude.{◌≡◌, ◌≢◌, ◌≤◌, ◌<◌, ℕ, Bool, true, false, List, [], map, length, replicate, Option, None, Some, MatchOption, All, pos, codes, ◌⊎◌}
 use Rattle.toml.specs.Data.{Data, string, integer, array, Members, get_member}
 use Rattle.toml.specs.View.{items_of}
 use Rattle.toml.specs.Parse.{parse_document}
@@ -8,13 +8,17 @@ use Rattle.serde_json.specs.Read.{read as read_text}
 use Rattle.nostr_filter.specs.declared.filter.Filter.{Filter as AFilter}
 use Rattle.nostr_filter.specs.FilterJson.{Reads}
 use Rattle.mirror_settings.specs.declared.address.Address.{Address}
+use Rattle.mirror_settings.specs.declared.relay.Relay.{Relay}
 use Rattle.mirror_settings.specs.declared.settings.Settings.{Settings}
+use Rattle.mirror_settings.specs.declared.settings.Syncing.{Syncing}
+use Rattle.mirror_settings.specs.declared.settings.Syncing.TheVariants.{Always, EverySecond, Never}
 use Rattle.mirror_settings.specs.declared.fault.SettingsKey.{SettingsKey}
-use Rattle.mirror_settings.specs.declared.fault.SettingsKey.TheVariants.{Events, Listen, Conns, Relays, Filter, Workers, Bases, Rounds, PushMs, TimeoutMs, SaveMs}
+use Rattle.mirror_settings.specs.declared.fault.SettingsKey.TheVariants.{Events, Listen, Conns, Relays, Filter, Workers, Bases, Rounds, PushMs, TimeoutMs, Fsync, SlowBytes}
 use Rattle.mirror_settings.specs.declared.fault.SettingsFault.{SettingsFault}
 use Rattle.mirror_settings.specs.declared.fault.SettingsFault.TheVariants.{Text, Key, Memory}
 use Rattle.mirror_settings.specs.Addresses.{IsAddress, spelled}
 use Rattle.mirror_settings.specs.Keys.{name_of, place_of}
+use Rattle.mirror_settings.specs.Relays.{AreRelays}
 
 -- the value at a key
 abbrev pub at : SettingsKey → Members → Option Data
@@ -43,6 +47,15 @@ array_of f xs = array (items_of (map f xs))
 -- a string that is the JSON of a filter
 abbrev pub IsFilterData : Data → AFilter → Type 0
 IsFilterData d f = (text : List ℕ) × (json : Json) × (d ≡ string text) × (read_text text ≡ Some json) × Reads json f
+
+-- a string that says when lines of the events file are synced
+abbrev pub syncing_name : Syncing → List ℕ
+syncing_name Always = codes "always"
+syncing_name EverySecond = codes "everysec"
+syncing_name Never = codes "no"
+
+abbrev pub IsSyncing : Data → Syncing → Type 0
+IsSyncing d s = d ≡ string (syncing_name s)
 
 -- ---- what a key may be without
 
@@ -77,8 +90,8 @@ HasListen sync t v = Holds IsAddressData (at Listen t) v × (sync ≡ false → 
 abbrev pub HasConns : Members → Option ℕ → Type 0
 HasConns t v = Holds (IsWhole 1 1000000) (at Conns t) v × (v ≡ None → at Listen t ≡ None)
 
-abbrev pub HasRelays : Bool → Members → List Address → Type 0
-HasRelays true t relays = (at Relays t ≡ Some (array_of address_data relays)) × All IsAddress relays × (1 ≤ length relays) × (length relays ≤ 256)
+abbrev pub HasRelays : Bool → Members → List Relay → Type 0
+HasRelays true t relays = (entries : List Data) × (at Relays t ≡ Some (array (items_of entries))) × AreRelays entries relays × (1 ≤ length relays) × (length relays ≤ 256)
 HasRelays false t relays = relays ≡ []
 
 abbrev pub HasFilter : Bool → Members → AFilter → Type 0
@@ -110,8 +123,12 @@ HasPushMs t v = Holds (IsWhole 1 60000) (at PushMs t) v
 abbrev pub HasTimeoutMs : Members → Option ℕ → Type 0
 HasTimeoutMs t v = Holds (IsWhole 1 3600000) (at TimeoutMs t) v
 
-abbrev pub HasSaveMs : Members → Option ℕ → Type 0
-HasSaveMs t v = Holds (IsWhole 1 86400000) (at SaveMs t) v
+abbrev pub HasFsync : Members → Syncing → Type 0
+HasFsync t s = HoldsOr Always IsSyncing (at Fsync t) s
+
+abbrev pub HasSlowBytes : Bool → Members → ℕ → Type 0
+HasSlowBytes true t n = HoldsOr 10000 (IsWhole 1 1000000000) (at SlowBytes t) n
+HasSlowBytes false t n = n ≡ 10000
 
 -- the table tells the settings
 pub record Tells (sync : Bool) (t : Members) (s : Settings) : Type 0 where
@@ -125,7 +142,8 @@ pub record Tells (sync : Bool) (t : Members) (s : Settings) : Type 0 where
   pub rounds : HasRounds sync t s.rounds
   pub push_ms : HasPushMs t s.push_ms
   pub timeout_ms : HasTimeoutMs t s.timeout_ms
-  pub save_ms : HasSaveMs t s.save_ms
+  pub fsync : HasFsync t s.fsync
+  pub slow_bytes : HasSlowBytes sync t s.slow_bytes
 
 -- ---- what a refusal says
 
@@ -134,14 +152,15 @@ abbrev pub IsGood : Bool → Members → SettingsKey → Type 0
 IsGood sync t Events = (v : List ℕ) × HasEvents t v
 IsGood sync t Listen = (v : Option Address) × HasListen sync t v
 IsGood sync t Conns = (v : Option ℕ) × HasConns t v
-IsGood sync t Relays = (v : List Address) × HasRelays sync t v
+IsGood sync t Relays = (v : List Relay) × HasRelays sync t v
 IsGood sync t Filter = (v : AFilter) × HasFilter sync t v
 IsGood sync t Workers = (v : ℕ) × HasWorkers sync t v
-IsGood sync t Bases = (relays : List Address) × (v : List ℕ) × HasRelays sync t relays × HasBases sync t (length relays) v
+IsGood sync t Bases = (relays : List Relay) × (v : List ℕ) × HasRelays sync t relays × HasBases sync t (length relays) v
 IsGood sync t Rounds = (v : ℕ) × HasRounds sync t v
 IsGood sync t PushMs = (v : Option ℕ) × HasPushMs t v
 IsGood sync t TimeoutMs = (v : Option ℕ) × HasTimeoutMs t v
-IsGood sync t SaveMs = (v : Option ℕ) × HasSaveMs t v
+IsGood sync t Fsync = (v : Syncing) × HasFsync t v
+IsGood sync t SlowBytes = (v : ℕ) × HasSlowBytes sync t v
 
 -- the keys before a place are good
 abbrev pub AreGoodBelow : Bool → Members → ℕ → Type 0

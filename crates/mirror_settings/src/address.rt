@@ -31,7 +31,7 @@ impl fmt::Display for Address {
 
 /// The host and the port that a text spells as `HOST:PORT`: the port stands after the last colon, decimal, without sign or
 /// leading zeros.
-fn parts_of(text: &str) -> Option<(&str, u16)>
+pub fn parts_of(text: &str) -> Option<(&str, u16)>
     ensures found { IfSome result (λ p. IsAddress (record { host = p.0.now; port = p.1 }) × (text.now ≡ spelled (record { host = p.0.now; port = p.1 }))) }
     ensures none { IfNone result ((a : AnAddress) → IsAddress a → text.now ≢ spelled a) }
 {

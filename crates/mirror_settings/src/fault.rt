@@ -18,7 +18,8 @@ pub enum SettingsKey {
     Rounds,
     PushMs,
     TimeoutMs,
-    SaveMs,
+    Fsync,
+    SlowBytes,
 }
 
 impl SettingsKey {
@@ -39,7 +40,8 @@ impl SettingsKey {
             SettingsKey::Rounds => "rounds",
             SettingsKey::PushMs => "push_ms",
             SettingsKey::TimeoutMs => "timeout_ms",
-            SettingsKey::SaveMs => "save_ms",
+            SettingsKey::Fsync => "fsync",
+            SettingsKey::SlowBytes => "slow_bytes",
         }
     }
 }

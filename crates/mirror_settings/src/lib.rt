@@ -5,11 +5,14 @@ mod address;
 mod fault;
 mod lists;
 mod reading;
+mod relay;
 mod settings;
+mod url;
 mod values;
 
 pub use address::{Address, read_address};
 pub use fault::{SettingsFault, SettingsKey};
-pub use lists::{Addresses, Loads};
+pub use lists::{Loads, Relays};
 pub use reading::read_settings;
-pub use settings::Settings;
+pub use relay::Relay;
+pub use settings::{Settings, Syncing};

@@ -2,42 +2,42 @@
 
 ghost use Rattle.std.specs.Prelude.{◌≡◌};
 
-use crate::address::Address;
+use crate::relay::Relay;
 use std::marker::Model;
 
-/// Addresses, seen as their list.
+/// Relays to synchronise with, seen as their list.
 #[derive(Debug, Drop)]
-pub struct Addresses {
-    addresses: Vec<Address>,
+pub struct Relays {
+    relays: Vec<Relay>,
 }
 
-impl Model for Addresses {
+impl Model for Relays {
     ghost use Rattle.std.specs.Prelude.{List};
-    ghost use Rattle.mirror_settings.specs.declared.address.Address.{Address};
+    ghost use Rattle.mirror_settings.specs.declared.relay.Relay.{Relay};
 
-    ghost Value = { List Address };
+    ghost Value = { List Relay };
 
-    ghost view = { λ l. l.addresses.items };
+    ghost view = { λ l. l.relays.items };
 }
 
-impl Addresses {
-    pub fn new(addresses: Vec<Address>) -> Addresses
-        ensures { result ≡ addresses.items }
+impl Relays {
+    pub fn new(relays: Vec<Relay>) -> Relays
+        ensures { result ≡ relays.items }
     {
-        Addresses { addresses }
+        Relays { relays }
     }
 
-    pub fn as_slice(&self) -> &[Address]
+    pub fn as_slice(&self) -> &[Relay]
         ensures { result.now ≡ self.now }
     {
-        self.addresses.as_slice()
+        self.relays.as_slice()
     }
 
-    /// Gives the addresses back.
-    pub fn into_vec(self) -> Vec<Address>
+    /// Gives the relays back.
+    pub fn into_vec(self) -> Vec<Relay>
         ensures { result.items ≡ self }
     {
-        self.addresses
+        self.relays
     }
 }
 

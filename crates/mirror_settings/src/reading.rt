@@ -4,19 +4,22 @@ ghost use Rattle.std.specs.Prelude.{◌≡◌, ℕ, Bool, List, IfOk, IfErr};
 ghost use Rattle.toml.specs.Data.{Members};
 ghost use Rattle.toml.specs.Parse.{parse_document};
 ghost use Rattle.toml.specs.View.{table_view};
-ghost use Rattle.mirror_settings.specs.Settings.{Fails, HasEvents, HasListen, HasConns, HasRelays, HasFilter, HasWorkers, HasBases, HasRounds, HasPushMs, HasTimeoutMs, HasSaveMs, Tells, Refuses, RefusesTable, Stops};
+ghost use Rattle.mirror_settings.specs.Settings.{Fails, HasEvents, HasListen, HasConns, HasRelays, HasFilter, HasWorkers, HasBases, HasRounds, HasPushMs, HasTimeoutMs, HasFsync, HasSlowBytes, Tells, Refuses, RefusesTable, Stops};
 
 use crate::address::Address;
 use crate::fault::{SettingsFault, SettingsKey};
-use crate::lists::{Addresses, Loads};
-use crate::settings::Settings;
+use crate::lists::{Loads, Relays};
+use crate::settings::{Settings, Syncing};
 use crate::values::{
-    address_in, addresses_in, filter_in, loads_in, no_loads, value_at, whole_at, whole_in,
+    address_in, filter_in, loads_in, no_loads, relays_in, syncing_in, value_at, whole_at, whole_in,
 };
 use nostr_event::Text;
 use nostr_filter::Filter;
 use std::alloc::Global;
 use toml::Table;
+
+/// What `slow_bytes` is where it is left out.
+const SLOW_BYTES: u64 = 10_000;
 
 fn events_at(alloc: Global, table: &Table) -> Result<Text, SettingsFault>
     ensures ok { IfOk result (HasEvents (table_view table.now)) }
@@ -54,12 +57,12 @@ fn conns_at(table: &Table) -> Result<Option<u64>, SettingsFault>
     Ok(conns)
 }
 
-fn relays_at(alloc: Global, table: &Table, sync: bool) -> Result<Addresses, SettingsFault>
+fn relays_at(alloc: Global, table: &Table, sync: bool) -> Result<Relays, SettingsFault>
     ensures ok { IfOk result (HasRelays sync (table_view table.now)) }
     ensures err { IfErr result (Stops sync (table_view table.now) SettingsKey.Relays) }
 {
     if !sync {
-        return Ok(Addresses::new(Vec::new(alloc)));
+        return Ok(Relays::new(Vec::new(alloc)));
     }
     let Some(value) = value_at(table, SettingsKey::Relays) else {
         return Err(SettingsFault::Key(SettingsKey::Relays));
@@ -71,7 +74,7 @@ fn relays_at(alloc: Global, table: &Table, sync: bool) -> Result<Addresses, Sett
     if count == 0 || count > 256 {
         return Err(SettingsFault::Key(SettingsKey::Relays));
     }
-    addresses_in(alloc, values.as_slice())
+    relays_in(alloc, values.as_slice())
 }
 
 fn filter_at(alloc: Global, table: &Table, sync: bool) -> Result<Filter, SettingsFault>
@@ -132,6 +135,31 @@ fn rounds_at(table: &Table, sync: bool) -> Result<u64, SettingsFault>
     }
 }
 
+fn fsync_at(table: &Table) -> Result<Syncing, SettingsFault>
+    ensures ok { IfOk result (HasFsync (table_view table.now)) }
+    ensures err { IfErr result (λ e. (sync : Bool) → Stops sync (table_view table.now) SettingsKey.Fsync e) }
+{
+    match value_at(table, SettingsKey::Fsync) {
+        Some(value) => syncing_in(value).ok_or(SettingsFault::Key(SettingsKey::Fsync)),
+        None => Ok(Syncing::Always),
+    }
+}
+
+fn slow_bytes_at(table: &Table, sync: bool) -> Result<u64, SettingsFault>
+    ensures ok { IfOk result (HasSlowBytes sync (table_view table.now)) }
+    ensures err { IfErr result (Stops sync (table_view table.now) SettingsKey.SlowBytes) }
+{
+    if !sync {
+        return Ok(SLOW_BYTES);
+    }
+    match value_at(table, SettingsKey::SlowBytes) {
+        Some(value) => {
+            whole_in(value, 1, 1_000_000_000).ok_or(SettingsFault::Key(SettingsKey::SlowBytes))
+        }
+        None => Ok(SLOW_BYTES),
+    }
+}
+
 /// The settings that a table tells.
 fn settings_of(alloc: Global, table: &Table, sync: bool) -> Result<Settings, SettingsFault>
     ensures ok { IfOk result (Tells sync (table_view table.now)) }
@@ -148,7 +176,8 @@ fn settings_of(alloc: Global, table: &Table, sync: bool) -> Result<Settings, Set
     let rounds = rounds_at(table, sync)?;
     let push_ms = whole_at(table, SettingsKey::PushMs, 1, 60_000)?;
     let timeout_ms = whole_at(table, SettingsKey::TimeoutMs, 1, 3_600_000)?;
-    let save_ms = whole_at(table, SettingsKey::SaveMs, 1, 86_400_000)?;
+    let fsync = fsync_at(table)?;
+    let slow_bytes = slow_bytes_at(table, sync)?;
     Ok(Settings {
         events,
         listen,
@@ -160,7 +189,8 @@ fn settings_of(alloc: Global, table: &Table, sync: bool) -> Result<Settings, Set
         rounds,
         push_ms,
         timeout_ms,
-        save_ms,
+        fsync,
+        slow_bytes,
     })
 }
 

@@ -3,7 +3,7 @@ ghost use Rattle.std.specs.Prelude.{◌≡◌, ◌*◌, unwrap_or};
 ghost use Rattle.std.specs.Duration.{as_nanos};
 
 use crate::address::Address;
-use crate::lists::{Addresses, Loads};
+use crate::lists::{Loads, Relays};
 use nostr_event::Text;
 use nostr_filter::Filter;
 use std::time::Duration;
@@ -11,8 +11,16 @@ use std::time::Duration;
 /// What `timeout_ms` is where it is left out: a minute.
 const TIMEOUT_MS: u64 = 60_000;
 
-/// What `save_ms` is where it is left out: a minute.
-const SAVE_MS: u64 = 60_000;
+/// When the lines that are appended to the events file are synced.
+#[derive(Clone, Copy, Debug, PartialEq, Eq)]
+pub enum Syncing {
+    /// Before they are acknowledged.
+    Always,
+    /// Once a second. They are acknowledged once they are written.
+    EverySecond,
+    /// By the system, and in the end. They are acknowledged once they are written.
+    Never,
+}
 
 /// The settings of a run that serves, or of one that synchronises and may serve beside.
 #[derive(Debug, Drop)]
@@ -24,7 +32,7 @@ pub struct Settings {
     /// How many connections are served, 1 to 1,000,000.
     pub conns: Option<u64>,
     /// The relays to synchronise with, 1 to 256. None are read where the run only serves.
-    pub relays: Addresses,
+    pub relays: Relays,
     /// Which events to synchronise.
     pub filter: Filter,
     /// How many connections fetch from each relay, 1 to 4.
@@ -37,8 +45,10 @@ pub struct Settings {
     pub push_ms: Option<u64>,
     /// For how many milliseconds the other side of a connection may keep this one waiting, 1 to 3,600,000.
     pub timeout_ms: Option<u64>,
-    /// After how many milliseconds at the earliest the events file is written anew while connections are served, 1 to 86,400,000.
-    pub save_ms: Option<u64>,
+    /// When the lines that are appended to the events file are synced.
+    pub fsync: Syncing,
+    /// How many bytes a second a fetch that goes on for long has to bring, 1 to 1,000,000,000.
+    pub slow_bytes: u64,
 }
 
 impl Settings {
@@ -47,12 +57,5 @@ impl Settings {
         ensures { as_nanos result ≡ unwrap_or self.now.timeout_ms 60000 * 1000000 }
     {
         Duration::from_millis(self.timeout_ms.unwrap_or(TIMEOUT_MS))
-    }
-
-    /// After how long at the earliest the events file is written anew.
-    pub fn save_every(&self) -> Duration
-        ensures { as_nanos result ≡ unwrap_or self.now.save_ms 60000 * 1000000 }
-    {
-        Duration::from_millis(self.save_ms.unwrap_or(SAVE_MS))
     }
 }

@@ -6,15 +6,20 @@ ghost use Rattle.serde_json.specs.Read.{read as read_text};
 ghost use Rattle.serde_json.specs.View.{view as json_view};
 ghost use Rattle.nostr_filter.specs.declared.filter.Filter.{Filter as AFilter};
 ghost use Rattle.mirror_settings.specs.declared.address.Address.{Address as AnAddress};
-ghost use Rattle.mirror_settings.specs.Addresses.{IsAddress};
-ghost use Rattle.mirror_settings.specs.Settings.{at, Fails, Holds, IsWhole, IsLoad, whole_data, address_data, IsAddressData, IsFilterData};
+ghost use Rattle.mirror_settings.specs.declared.relay.Relay.{Relay as ARelay};
+ghost use Rattle.mirror_settings.specs.declared.settings.Syncing.{Syncing as ASyncing};
+ghost use Rattle.mirror_settings.specs.Relays.{IsRelay, IsRelayText, AreRelays};
+ghost use Rattle.mirror_settings.specs.Settings.{at, Fails, Holds, IsWhole, IsLoad, whole_data, IsAddressData, IsFilterData, IsSyncing};
 
 use crate::address::{Address, read_address};
 use crate::fault::{SettingsFault, SettingsKey};
-use crate::lists::{Addresses, Loads};
+use crate::lists::{Loads, Relays};
+use crate::relay::{Relay, plain_relay};
+use crate::settings::Syncing;
+use crate::url::url_relay;
 use nostr_filter::{Filter, FilterFault};
 use serde_json::Value as Json;
-use std::alloc::Global;
+use std::alloc::{AllocError, Global};
 use toml::{Table, Value};
 
 /// The value at a key.
@@ -61,6 +66,23 @@ pub fn whole_at(
     }
 }
 
+/// When lines are synced, as a value says.
+pub fn syncing_in(value: &Value) -> Option<Syncing>
+    ensures found { IfSome result (IsSyncing (view value.now)) }
+    ensures none { IfNone result ((s : ASyncing) → ¬ IsSyncing (view value.now) s) }
+{
+    let text = value.as_str()?;
+    if text == "always" {
+        Some(Syncing::Always)
+    } else if text == "everysec" {
+        Some(Syncing::EverySecond)
+    } else if text == "no" {
+        Some(Syncing::Never)
+    } else {
+        None
+    }
+}
+
 /// The address that a value spells.
 pub fn address_in(alloc: Global, value: &Value, key: SettingsKey) -> Result<Address, SettingsFault>
     ensures ok { IfOk result (IsAddressData (view value.now)) }
@@ -75,17 +97,43 @@ pub fn address_in(alloc: Global, value: &Value, key: SettingsKey) -> Result<Addr
     }
 }
 
-/// The addresses that values spell.
-pub fn addresses_in(alloc: Global, values: &[Value]) -> Result<Addresses, SettingsFault>
-    ensures ok { IfOk result (λ l. (map view values.now ≡ map address_data l) × All IsAddress l) }
-    ensures err { IfErr result (Fails SettingsKey.Relays ((l : List AnAddress) → All IsAddress l → ¬ (map view values.now ≡ map address_data l))) }
+/// The relay that a text names, if it names one.
+fn relay_in_text(alloc: Global, text: &str) -> Result<Option<Relay>, AllocError>
+    ensures found { IfOk result (λ o. IfSome o (IsRelayText text.now)) }
+    ensures none { IfOk result (λ o. IfNone o ((r : ARelay) → ¬ IsRelayText text.now r)) }
 {
-    let mut addresses = Vec::new(alloc);
-    for value in values {
-        let address = address_in(alloc, value, SettingsKey::Relays)?;
-        addresses.push(address)?;
+    if text.contains("://") {
+        url_relay(alloc, text)
+    } else {
+        plain_relay(alloc, text)
     }
-    Ok(Addresses::new(addresses))
+}
+
+/// The relay that an entry names.
+fn relay_in(alloc: Global, value: &Value) -> Result<Relay, SettingsFault>
+    ensures ok { IfOk result (IsRelay (view value.now)) }
+    ensures err { IfErr result (Fails SettingsKey.Relays ((r : ARelay) → ¬ IsRelay (view value.now) r)) }
+{
+    let Some(text) = value.as_str() else {
+        return Err(SettingsFault::Key(SettingsKey::Relays));
+    };
+    match relay_in_text(alloc, text)? {
+        Some(relay) => Ok(relay),
+        None => Err(SettingsFault::Key(SettingsKey::Relays)),
+    }
+}
+
+/// The relays that entries name.
+pub fn relays_in(alloc: Global, values: &[Value]) -> Result<Relays, SettingsFault>
+    ensures ok { IfOk result (AreRelays (map view values.now)) }
+    ensures err { IfErr result (Fails SettingsKey.Relays ((l : List ARelay) → ¬ AreRelays (map view values.now) l)) }
+{
+    let mut relays = Vec::new(alloc);
+    for value in values {
+        let relay = relay_in(alloc, value)?;
+        relays.push(relay)?;
+    }
+    Ok(Relays::new(relays))
 }
 
 /// The loads that values are.

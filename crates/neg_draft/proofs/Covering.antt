@@ -2,7 +2,7 @@
 use Rattle.std.proofs.Common.{◌≡◌, ℕ, ◌+◌, ◌<◌, ◌≤◌, ◌⊎◌, length, append_assoc, inl, inr, Bool, true, false, cond, ltb, List, [], ◌∷◌, ◌++◌, refl, sym, ap, subst, ◌∙◌, arith}
 use Rattle.std.specs.Prelude.{Contains, All}
 use Rattle.std.proofs.lemmas.Bool.{ltb-true, ltb-false, lt-ltb, cases_lt}
-use Rattle.std.proofs.lemmas.List.Elements.{All-nil, All-contains, All-head, All-weaker, All-contains_itself, Contains-append_left, Contains-append_right, Contains-append_cases}
+use Rattle.std.proofs.lemmas.List.Elements.{All-nil, All-contains, All-head, All-tail, All-weaker, All-contains_itself, Contains-append_left, Contains-append_right, Contains-append_cases}
 use Rattle.neg_codec.proofs.Stretches.{contains_head, contains_tail, contains_cases, contains_none, key_below, endless_above, least_below}
 use Rattle.neg_codec.specs.declared.Item.{Item}
 use Rattle.neg_codec.specs.Keys.{place, least, endless, infinity, IsKey}
@@ -11,7 +11,7 @@ use Rattle.neg_codec.specs.Encoding.{text_of}
 use Rattle.neg_codec.proofs.Lengths.{text_none}
 use Rattle.item_roll.specs.Truth.{IsTrueOf}
 use Rattle.item_roll.specs.Closed.{closed_from}
-use Rattle.neg_draft.specs.Coverage.{Written, begun_at, end_of, gap, passed, told_more, all_left, HasKeys, IsDraft, IsLeftOut, IsCutAt, Covers, Tells, Whole, Cut}
+use Rattle.neg_draft.specs.Coverage.{Written, begun_at, end_of, gap, passed, told_more, all_left, HasKeys, BeginsTold, SkipsJoined, IsDraft, IsLeftOut, IsCutAt, Covers, Tells, Whole, Cut}
 
 abbrev due : Item → Span
 due upper = record { upper = upper; claim = skip }
@@ -75,6 +75,7 @@ pub draft_none : (limit : ℕ) → 4096 ≤ limit → IsDraft (record { limit = 
 draft_none limit enough = record {
   ascends = tt;
   none_empty = All-nil HasKeys;
+  skips_joined = tt;
   within = inl refl;
   low = omega (arith, least_below infinity);
   open_unless_blank = inl refl;
@@ -102,8 +103,8 @@ pub draft_passes : (d : Written) (upper : Item) → IsDraft d → place upper �
 draft_passes d upper h low = go (ltb (place d.end) (place upper)) refl
   where
     go : (b : Bool) → ltb (place d.end) (place upper) ≡ b → IsDraft (record { limit = d.limit; spans = d.spans; end = cond b upper d.end })
-    go true e = record { ascends = h.ascends; none_empty = h.none_empty; within = inr (omega (arith, meets_le _ _ h.within, ltb-true _ _ e)); low = low; open_unless_blank = h.open_unless_blank; fits = h.fits; room = λ less. h.room (omega (arith, ltb-true _ _ e, less)) }
-    go false e = record { ascends = h.ascends; none_empty = h.none_empty; within = h.within; low = h.low; open_unless_blank = h.open_unless_blank; fits = h.fits; room = h.room }
+    go true e = record { ascends = h.ascends; none_empty = h.none_empty; skips_joined = h.skips_joined; within = inr (omega (arith, meets_le _ _ h.within, ltb-true _ _ e)); low = low; open_unless_blank = h.open_unless_blank; fits = h.fits; room = λ less. h.room (omega (arith, ltb-true _ _ e, less)) }
+    go false e = record { ascends = h.ascends; none_empty = h.none_empty; skips_joined = h.skips_joined; within = h.within; low = h.low; open_unless_blank = h.open_unless_blank; fits = h.fits; room = h.room }
 
 pub covers_passes : (H : Stretch → Type 0) (P Q : Item → Type 0) (d : Written) (upper : Item) → IsDraft d → place d.end ≤ place upper → Covers H P Q d
     → ((k : Item) → IsKey k → place d.end ≤ place k → place k < place upper → P k) → Covers H P Q (passed d upper)
@@ -180,6 +181,30 @@ first_open : (lower : Item) (rs : List Span) → ((rs ≡ []) → ⊥) → All (
 first_open lower [] some none = absurd (some refl)
 first_open lower (r ∷ rs) some none = (begun_at lower r, contains_head (begun_at lower r) (closed_from r.upper rs), All-head (λ s. IsSkip s → ⊥) (begun_at lower r) (closed_from r.upper rs) none)
 
+-- Skips stay joined where ranges follow that begin with one that tells something, or with one Skip before such ranges
+joined-append : (xs ys : List Span) → SkipsJoined xs → SkipsJoined ys → SkipsJoined (xs ++ ys)
+joined-append [] ys h k = k
+joined-append (x ∷ []) ys h k = ((λ e. absurd (h.0 e)), k)
+joined-append (x ∷ y ∷ xs) ys h k = (h.0, joined-append (y ∷ xs) ys h.1 k)
+
+joined-told : (lower : Item) (rs : List Span) → All (λ s. IsSkip s → ⊥) (closed_from lower rs) → SkipsJoined rs
+joined-told lower [] none = tt
+joined-told lower (r ∷ rs) none = (
+  (λ e. absurd (All-head (λ s. IsSkip s → ⊥) (begun_at lower r) (closed_from r.upper rs) none e)),
+  joined-told r.upper rs (All-tail (λ s. IsSkip s → ⊥) (begun_at lower r) (closed_from r.upper rs) none),
+)
+
+begins_told : (lower : Item) (rs : List Span) → ((rs ≡ []) → ⊥) → All (λ s. IsSkip s → ⊥) (closed_from lower rs) → BeginsTold rs
+begins_told lower [] some none = absurd (some refl)
+begins_told lower (r ∷ rs) some none = All-head (λ s. IsSkip s → ⊥) (begun_at lower r) (closed_from r.upper rs) none
+
+joined-gap : (lower upper : Item) (rs : List Span) → BeginsTold rs → SkipsJoined rs → SkipsJoined (gap lower upper ++ rs)
+joined-gap lower upper rs told h = go (ltb (place lower) (place upper))
+  where
+    go : (b : Bool) → SkipsJoined (cond b (due upper ∷ []) [] ++ rs)
+    go true = ((λ e. told), h)
+    go false = h
+
 pub draft_tells : (d : Written) (upper : Item) (rs : List Span) → IsDraft d → place upper ≤ place infinity → Tells d.end upper rs → length (text_of (told_more d upper rs).spans) ≤ d.limit
     → (place upper < place infinity → length (text_of (told_more d upper rs).spans) + 64 ≤ d.limit) → IsDraft (told_more d upper rs)
 draft_tells d upper rs draft low t fits room = record {
@@ -194,6 +219,8 @@ draft_tells d upper rs draft low t fits room = record {
       (all_from HasKeys (closed_from (end_of least d.spans) (gap (end_of least d.spans) d.end))
       (λ s h. let g = gap-members (end_of least d.spans) d.end s h in omega (arith, g.0, ap (λ (x : Stretch). place x.lower) g.1, ap (λ (x : Stretch). place x.upper) g.1)))
       t.none_empty));
+  skips_joined = joined-append d.spans (gap (end_of least d.spans) d.end ++ rs) draft.skips_joined
+      (joined-gap (end_of least d.spans) d.end rs (begins_told d.end rs t.some t.none_skipped) (joined-told d.end rs t.none_skipped));
   within = inl (more-ends d upper rs draft t);
   low = low;
   open_unless_blank = let o = first_open d.end rs t.some t.none_skipped in inr (o.0, in_new d rs o.0 draft o.1, o.2);

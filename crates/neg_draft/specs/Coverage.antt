@@ -5,7 +5,7 @@ use Rattle.neg_codec.specs.Keys.{place, least, infinity, IsKey}
 use Rattle.neg_codec.specs.Ranges.{skip, print, Span, Stretch, stretches, Lies, IsSkip, Ascends}
 use Rattle.neg_codec.specs.Encoding.{text_of}
 use Rattle.item_roll.specs.Truth.{IsTrueOf}
-use Rattle.item_roll.specs.Closed.{closed_from}
+use Rattle.item_roll.specs.Closed.{closed_from, IsTold}
 
 -- ranges, the bound up to which the message has come, between which nothing is said of the keys, and
 -- how many bytes it may have
@@ -39,16 +39,28 @@ HasKeys s = place s.lower < place s.upper
 abbrev pub NoneEmpty : List Span → Type 0
 NoneEmpty spans = All HasKeys (closed_from least spans)
 
+-- the ranges begin with one that tells something
+abbrev pub BeginsTold : List Span → Type 0
+BeginsTold [] = ⊥
+BeginsTold (r ∷ rs) = IsTold r
+
+-- Behind each Skip stands a range that tells something: no two Skips are neighbours, and the last range isn't one (Negentropy protocol
+-- V1, "Skip").
+abbrev pub SkipsJoined : List Span → Type 0
+SkipsJoined [] = Unit {0}
+SkipsJoined (r ∷ rs) = (r.claim ≡ skip → BeginsTold rs) × SkipsJoined rs
+
 -- one of the ranges is no Skip
 abbrev pub IsOpen : List Span → Type 0
 IsOpen spans = (s : Stretch) × Contains (closed_from least spans) s × (IsSkip s → ⊥)
 
--- The ranges stand in order, none of them is empty, and they end no higher than the message has come. Unless there
--- is none, one of them is no Skip. They are no longer than the limit, and leave room for two short ranges where keys
+-- The ranges stand in order, none of them is empty, their Skips are joined, and they end no higher than the message has
+-- come. Unless there is none, one of them is no Skip. They are no longer than the limit, and leave room for two short ranges where keys
 -- are left.
 pub record IsDraft (d : Written) : Type 0 where
   pub ascends : Ascends least d.spans
   pub none_empty : NoneEmpty d.spans
+  pub skips_joined : SkipsJoined d.spans
   pub within : (end_of least d.spans ≡ d.end) ⊎ (place (end_of least d.spans) < place d.end)
   pub low : place d.end ≤ place infinity
   pub open_unless_blank : (d.spans ≡ []) ⊎ IsOpen d.spans

@@ -62,11 +62,11 @@ found_more a answered lower r old now new h was one = record {
   need_kept = λ i k. one.need_kept i (was.need_kept i k);
   have_kept = λ i k. one.have_kept i (was.have_kept i k);
   trusted_kept = λ x k. one.trusted_kept x (was.trusted_kept x k);
-  need_new = λ i k. elim (one.need_new i k) [ inl o ↦ was.need_new i o | inr s ↦ inr (begun_at lower r, s.0, h, s.1, s.2, s.3) ];
-  have_new = λ i k. elim (one.have_new i k) [ inl o ↦ was.have_new i o | inr s ↦ inr (begun_at lower r, s.0, h, s.1, s.2, s.3) ];
+  need_new = λ i k. elim (one.need_new i k) [ inl o ↦ was.need_new i o | inr s ↦ inr (begun_at lower r, s.0, h, s.1, s.2, s.3, s.4) ];
+  have_new = λ i k. elim (one.have_new i k) [ inl o ↦ was.have_new i o | inr s ↦ inr (begun_at lower r, s.0, h, s.1, s.2, s.3, s.4) ];
   trusted_new = λ x k. elim (one.trusted_new x k) [
     | inl o ↦ was.trusted_new x o
-    | inr s ↦ inr (begun_at lower r, s.2, record { print_of = s.0.0; claims = s.0.1; answers = h; holds = s.1 })
+    | inr s ↦ inr (begun_at lower r, s.2, record { print_of = s.0.0; claims = s.0.1; answers = h; has_keys = s.3; holds = s.1 })
   ];
 }
 

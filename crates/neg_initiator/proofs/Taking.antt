@@ -17,7 +17,7 @@ use Rattle.item_roll.specs.Truth.{Says, IsTrueOf, Follows}
 use Rattle.std.proofs.lemmas.List.{take-append-drop, map-append}
 use Rattle.neg_codec.specs.Encoding.{text_of}
 use Rattle.item_roll.specs.Splits.{split_of}
-use Rattle.neg_draft.specs.Coverage.{begun_at, HasKeys, NoneEmpty, Written, end_of, gap, told_more, all_left, IsDraft, Tells, Cut, Told}
+use Rattle.neg_draft.specs.Coverage.{begun_at, HasKeys, NoneEmpty, SkipsJoined, Written, end_of, gap, told_more, all_left, IsDraft, Tells, Cut, Told}
 use Rattle.neg_draft.proofs.Walking.{ranges_at, ranges_upto}
 use Rattle.neg_initiator.specs.Listed.{Distinct, PassesMost}
 use Rattle.neg_initiator.specs.declared.phase.Phase.{Phase}
@@ -50,13 +50,13 @@ from_each : {X : Type 0} (P : X → Type 0) (xs : List X) → ((x : X) → Conta
 from_each P xs h = All-weaker (Contains xs) P h xs (All-contains_itself xs)
 
 pub taken_from : (limit : ℕ) (a : List Item) (asked answered next : List Span) (until : Item) (old mid new : Findings) (most : ℕ) → 4096 ≤ limit → IsRoll a → Ascends least asked → Ascends least answered → All (IsTrueOf a) (stretches asked)
-    → Found a answered old mid → TrustsSkipped asked answered until (stretches asked) mid.trusted new.trusted → new.need ≡ mid.need → new.have ≡ mid.have → Ascends least next → NoneEmpty next → Walked limit a asked answered next new
+    → Found a answered old mid → TrustsSkipped asked answered until (stretches asked) mid.trusted new.trusted → new.need ≡ mid.need → new.have ≡ mid.have → Ascends least next → NoneEmpty next → SkipsJoined next → Walked limit a asked answered next new
     → Taken answered (asking limit a asked old most) (asking limit a next new most)
-taken_from limit a asked answered next until old mid new most enough roll up order truth found trusts need have ascends full w = record {
+taken_from limit a asked answered next until old mid new most enough roll up order truth found trusts need have ascends full joined w = record {
   roll = refl;
   limit_is = refl;
   most = refl;
-  sound = record { roll = roll; ascends = ascends; none_empty = full; truth = w.truth; enough = enough };
+  sound = record { roll = roll; ascends = ascends; none_empty = full; skips_joined = joined; truth = w.truth; enough = enough };
   not_again = w.not_again;
   need_kept = need_kept;
   need_from = λ i h. found.need_new i (subst (λ (xs : List Id). Contains xs i) need h);
@@ -174,7 +174,7 @@ taken_any answered o n p q t = record {
   roll = t.roll;
   limit_is = t.limit_is;
   most = t.most;
-  sound = record { roll = t.sound.roll; ascends = t.sound.ascends; none_empty = t.sound.none_empty; truth = t.sound.truth; enough = t.sound.enough };
+  sound = record { roll = t.sound.roll; ascends = t.sound.ascends; none_empty = t.sound.none_empty; skips_joined = t.sound.skips_joined; truth = t.sound.truth; enough = t.sound.enough };
   not_again = t.not_again;
   need_kept = t.need_kept;
   need_from = t.need_from;

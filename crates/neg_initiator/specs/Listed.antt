@@ -5,18 +5,19 @@ use Rattle.neg_codec.specs.declared.Item.{Item}
 use Rattle.neg_codec.specs.Keys.{IsKey}
 use Rattle.neg_codec.specs.Ranges.{ids, Span, Stretch, stretches, Lies}
 use Rattle.item_roll.specs.Parts.{part, ids_of}
+use Rattle.neg_draft.specs.Coverage.{HasKeys}
 
--- the reply lists the id in a stretch where the own roll lacks it
+-- the reply lists the id in a stretch, which isn't empty, where the own roll lacks it
 abbrev pub IsListed : List Item → List Span → Id → Type 0
-IsListed a answered i = (s : Stretch) × (is : List Id) × Contains (stretches answered) s × (s.claim ≡ ids is) × Contains is i × (Contains (ids_of (part a s.lower s.upper)) i → ⊥)
+IsListed a answered i = (s : Stretch) × (is : List Id) × Contains (stretches answered) s × (s.claim ≡ ids is) × Contains is i × (Contains (ids_of (part a s.lower s.upper)) i → ⊥) × HasKeys s
 
 -- the reply lists the id in a stretch where the own roll lacks it, and which has a key that is so
 abbrev pub IsListedWhere : (Item → Type 0) → List Item → List Span → Id → Type 0
 IsListedWhere P a answered i = (s : Stretch) × (is : List Id) × (k : Item) × Contains (stretches answered) s × (s.claim ≡ ids is) × Contains is i × (Contains (ids_of (part a s.lower s.upper)) i → ⊥) × IsKey k × Lies k s × P k
 
--- the own roll has the id in a stretch where the reply doesn't list it
+-- the own roll has the id in a stretch, which isn't empty, where the reply doesn't list it
 abbrev pub IsUnlisted : List Item → List Span → Id → Type 0
-IsUnlisted a answered i = (s : Stretch) × (is : List Id) × Contains (stretches answered) s × (s.claim ≡ ids is) × Contains (ids_of (part a s.lower s.upper)) i × (Contains is i → ⊥)
+IsUnlisted a answered i = (s : Stretch) × (is : List Id) × Contains (stretches answered) s × (s.claim ≡ ids is) × Contains (ids_of (part a s.lower s.upper)) i × (Contains is i → ⊥) × HasKeys s
 
 -- the own roll has the id in a stretch where the reply doesn't list it, and which has a key that is so
 abbrev pub IsUnlistedWhere : (Item → Type 0) → List Item → List Span → Id → Type 0

@@ -24,14 +24,14 @@ AccountsFor a f l u (ids is) =
     ((i : Id) → Contains is i → (Contains (ids_of (part a l u)) i → ⊥) → Contains f.need i)
     × ((i : Id) → Contains (ids_of (part a l u)) i → (Contains is i → ⊥) → Contains f.have i)
 
--- what was found stays, and what is new is of the stretch
+-- what was found stays, and what is new is of the stretch, which isn't empty then
 pub record Finds (a : List Item) (lower : Item) (r : Span) (old new : Findings) : Type 0 where
   pub need_kept : (i : Id) → Contains old.need i → Contains new.need i
   pub have_kept : (i : Id) → Contains old.have i → Contains new.have i
   pub trusted_kept : (x : Item × Item) → Contains old.trusted x → Contains new.trusted x
-  pub need_new : (i : Id) → Contains new.need i → Contains old.need i ⊎ ((is : List Id) × (r.claim ≡ ids is) × Contains is i × (Contains (ids_of (part a lower r.upper)) i → ⊥))
-  pub have_new : (i : Id) → Contains new.have i → Contains old.have i ⊎ ((is : List Id) × (r.claim ≡ ids is) × Contains (ids_of (part a lower r.upper)) i × (Contains is i → ⊥))
-  pub trusted_new : (x : Item × Item) → Contains new.trusted x → Contains old.trusted x ⊎ (((p : List ℕ) × (r.claim ≡ print p)) × IsTrueOf a (begun_at lower r) × ((lower, r.upper) ≡ x))
+  pub need_new : (i : Id) → Contains new.need i → Contains old.need i ⊎ ((is : List Id) × (r.claim ≡ ids is) × Contains is i × (Contains (ids_of (part a lower r.upper)) i → ⊥) × HasKeys (begun_at lower r))
+  pub have_new : (i : Id) → Contains new.have i → Contains old.have i ⊎ ((is : List Id) × (r.claim ≡ ids is) × Contains (ids_of (part a lower r.upper)) i × (Contains is i → ⊥) × HasKeys (begun_at lower r))
+  pub trusted_new : (x : Item × Item) → Contains new.trusted x → Contains old.trusted x ⊎ (((p : List ℕ) × (r.claim ≡ print p)) × IsTrueOf a (begun_at lower r) × ((lower, r.upper) ≡ x) × HasKeys (begun_at lower r))
 
 -- the stretch is passed over and accounted for
 pub record Accounts (a : List Item) (lower : Item) (r : Span) (f : Findings) (old new : Written) : Type 0 where

@@ -4,6 +4,7 @@ use Rattle.neg_codec.specs.declared.Item.{Item}
 use Rattle.neg_codec.specs.Keys.{place}
 use Rattle.neg_codec.specs.Ranges.{print, skip, Span, Stretch, stretches, IsSkip}
 use Rattle.item_roll.specs.Truth.{IsTrueOf, Meet}
+use Rattle.neg_draft.specs.Coverage.{HasKeys}
 
 -- a fingerprint of the last ask has a key in common with a Skip of the reply
 pub record IsSkippedPrint (asked answered : List Span) (t : Stretch) : Type 0 where
@@ -15,11 +16,12 @@ pub record IsSkippedPrint (asked answered : List Span) (t : Stretch) : Type 0 wh
   pub skips : IsSkip by
   pub meets : Meet by t
 
--- a fingerprint of the reply is the own one
+-- a fingerprint of the reply, of a stretch that isn't empty, is the own one
 pub record IsOwnPrint (roll : List Item) (answered : List Span) (s : Stretch) : Type 0 where
   pub print_of : List ℕ
   pub claims : s.claim ≡ print print_of
   pub answers : Contains (stretches answered) s
+  pub has_keys : HasKeys s
   pub holds : IsTrueOf roll s
 
 abbrev pub bounds_of : Stretch → Item × Item

@@ -1,15 +1,16 @@
 -- What a reply owes to the question beside following the roll.
-use Rattle.std.specs.Prelude.{◌≡◌, ◌⊎◌, ℕ, List, [], ◌∷◌, All, Contains}
+use Rattle.std.specs.Prelude.{◌≡◌, ◌⊎◌, ℕ, List, [], ◌∷◌, length, All, Contains}
 use Rattle.neg_codec.specs.declared.Item.{Item}
 use Rattle.neg_codec.specs.Keys.{place, least, IsKey}
 use Rattle.neg_codec.specs.Ranges.{Claim, skip, print, ids, Span, Stretch, stretches, Lies, IsSkip}
+use Rattle.neg_codec.specs.Text.{Spells}
 use Rattle.neg_codec.specs.declared.CodecFault.{CodecFault}
 use Rattle.neg_codec.specs.declared.CodecFault.TheVariants as codec
 use Rattle.item_roll.specs.Closed.{closed_from}
 use Rattle.item_roll.specs.Parts.{part, ids_of, count_below}
 use Rattle.item_roll.specs.Splits.{split_of}
-use Rattle.item_roll.specs.Truth.{IsTrueOf}
-use Rattle.neg_draft.specs.Coverage.{Written, begun_at, passed, told_more, HasKeys, Told, Cut, IsSkippedAt, IsCutAt}
+use Rattle.item_roll.specs.Truth.{IsTrueOf, Follows}
+use Rattle.neg_draft.specs.Coverage.{Written, begun_at, passed, told_more, HasKeys, NoneEmpty, SkipsJoined, Told, Cut, IsSkippedAt, IsCutAt}
 
 -- the stretch is a Skip, or a fingerprint that is the roll's own
 abbrev pub IsSame : List Item → Stretch → Type 0
@@ -34,6 +35,19 @@ IsToldIn roll answered t = (lower : Item) × (place lower ≡ place t.lower) × 
 abbrev pub TellsOthers : ℕ → ℕ → List Item → List Span → List Span → Type 0
 TellsOthers limit size roll asked answered =
     (t : Stretch) → Contains (closed_from least asked) t → HasKeys t → (IsSame roll t → ⊥) → IsToldIn roll answered t ⊎ IsCutAt limit size answered t.upper
+
+-- A reply to the question, which has so many bytes: it follows the roll; it skips what is the same, and tells the rest by splits and
+-- lists of ids, but for where it was cut at the limit; it has no empty range, and no Skip where none is needed.
+pub record IsReply (limit size : ℕ) (roll : List Item) (asked answered : List Span) : Type 0 where
+  pub follows : Follows roll asked answered
+  pub skips_same : SkipsSame limit size roll asked answered
+  pub tells_others : TellsOthers limit size roll asked answered
+  pub none_empty : NoneEmpty answered
+  pub skips_joined : SkipsJoined answered
+
+-- the answer in bytes is such a reply
+abbrev pub Replies : ℕ → List Item → List Span → List ℕ → Type 0
+Replies limit roll asked answer = (answered : List Span) × Spells answer answered × IsReply limit (length answer) roll asked answered
 
 -- the draft goes past the range, which is true of the roll (one that is empty speaks of no key)
 pub record PassesOver (roll : List Item) (old : Written) (r : Span) (new : Written) : Type 0 where

@@ -6,9 +6,7 @@ ghost use Rattle.neg_codec.specs.Text.{Spells};
 ghost use Rattle.neg_codec.specs.Reading.{longest, message_at};
 ghost use Rattle.neg_codec.specs.declared.CodecFault.{CodecFault};
 ghost use Rattle.neg_codec.specs.declared.CodecFault.TheVariants as codec;
-ghost use Rattle.item_roll.specs.Truth.{Follows};
-ghost use Rattle.neg_draft.specs.Coverage.{NoneEmpty};
-ghost use Rattle.neg_responder.specs.Reply.{SkipsSame, TellsOthers, Refuses};
+ghost use Rattle.neg_responder.specs.Reply.{Replies, Refuses};
 
 use crate::ranges::reply;
 use item_roll::Roll;
@@ -57,8 +55,7 @@ fn answer_message(
     limit: usize,
 ) -> Result<Vec<u8>, AnswerFault>
     requires { 4096 ≤ limit }
-    ensures follows { IfOk result (λ v. (r : List Span) × Spells v.items r × Follows roll.now asked.now r × SkipsSame limit (length v.items) roll.now asked.now r × NoneEmpty r) }
-    ensures tells { IfOk result (λ v. (r : List Span) × Spells v.items r × TellsOthers limit (length v.items) roll.now asked.now r) }
+    ensures replies { IfOk result (λ v. Replies limit roll.now asked.now v.items) }
     ensures short { IfOk result (λ v. length v.items ≤ limit) }
     ensures fault { IfErr result (λ e. e ≡ AnswerFault.Memory) }
 {
@@ -97,7 +94,7 @@ fn answer_fault(alloc: Global, fault: CodecFault) -> Result<Vec<u8>, AnswerFault
 ///
 /// # Errors
 ///
-/// `Bad` where the query is no message of this version, with the reader's fault, and `Memory` where a
+/// `Bad` where the query is no message, with the reader's fault, but for one of another version, and `Memory` where a
 /// growth was refused.
 pub fn answer(
     alloc: Global,
@@ -107,10 +104,9 @@ pub fn answer(
 ) -> Result<Vec<u8>, AnswerFault>
     requires { 4096 ≤ limit }
     // The answer follows the roll, and skips what the query skips or tells by the roll's own fingerprint, as far as it
-    // wasn't cut. It tells no empty stretch.
-    ensures follows { IfOk result (λ v. (q : List Span) → length query.now ≤ longest → Spells query.now q → (r : List Span) × Spells v.items r × Follows roll.now q r × SkipsSame limit (length v.items) roll.now q r × NoneEmpty r) }
-    // It tells the other ranges by a split, or by the roll's ids where the query lists some, as far as it wasn't cut.
-    ensures tells { IfOk result (λ v. (q : List Span) → length query.now ≤ longest → Spells query.now q → (r : List Span) × Spells v.items r × TellsOthers limit (length v.items) roll.now q r) }
+    // wasn't cut. It tells the other ranges by a split, or by the roll's ids where the query lists some, as far as it
+    // wasn't cut. No range of it is empty, no two Skips are neighbours, and the last range isn't one.
+    ensures replies { IfOk result (λ v. (q : List Span) → length query.now ≤ longest → Spells query.now q → Replies limit roll.now q v.items) }
     // It is no longer than the limit.
     ensures short { IfOk result (λ v. length v.items ≤ limit) }
     // A query is refused just where it is no message, and by that fault.

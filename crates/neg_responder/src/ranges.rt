@@ -3,9 +3,8 @@
 ghost use Rattle.std.specs.Prelude.{◌≤◌, IfOk, length};
 ghost use Rattle.neg_codec.specs.Ranges.{span_of};
 ghost use Rattle.neg_codec.specs.Encoding.{text_of};
-ghost use Rattle.item_roll.specs.Truth.{Follows};
-ghost use Rattle.neg_draft.specs.Coverage.{IsDraft, NoneEmpty};
-ghost use Rattle.neg_responder.specs.Reply.{SkipsSame, TellsOthers, Responds};
+ghost use Rattle.neg_draft.specs.Coverage.{IsDraft};
+ghost use Rattle.neg_responder.specs.Reply.{IsReply, Responds};
 
 use item_roll::Roll;
 use neg_codec::{Message, Payload, Range};
@@ -44,9 +43,7 @@ pub fn reply(
     limit: usize,
 ) -> Result<Message, AllocError>
     requires { 4096 ≤ limit }
-    ensures follows { IfOk result (λ m. Follows roll.now asked.now m × SkipsSame limit (length (text_of m)) roll.now asked.now m) }
-    ensures others { IfOk result (λ m. TellsOthers limit (length (text_of m)) roll.now asked.now m) }
-    ensures none_empty { IfOk result NoneEmpty }
+    ensures replies { IfOk result (λ m. IsReply limit (length (text_of m)) roll.now asked.now m) }
     ensures short { IfOk result (λ m. length (text_of m) ≤ limit) }
 {
     let mut draft = Draft::new(alloc, limit);

@@ -224,7 +224,7 @@ going_first own limits old before text s h = record {
   appended = rw gained_none (sym (append-nil old));
   chained = rw gained_none tt;
   due = inl (gained_none old);
-  may = rw gained_none (record { asked = s.asked; spelled = h.spelled; short = h.short; none_empty = h.sound.none_empty; truth = subst (λ (w : List Item). All (IsTrueOf w) (stretches s.asked)) h.roll h.sound.truth; skips_nothing = h.skips_nothing });
+  may = rw gained_none (record { asked = s.asked; spelled = h.spelled; short = h.short; none_empty = h.sound.none_empty; skips_joined = h.sound.skips_joined; truth = subst (λ (w : List Item). All (IsTrueOf w) (stretches s.asked)) h.roll h.sound.truth; skips_nothing = h.skips_nothing });
   count = rw gained_none refl;
   bytes = rw gained_none (omega arith);
   read = rw gained_none (All-nil IsRead);
@@ -348,6 +348,7 @@ module _ (own : List Item) (limits : SessionLimits) (asked : ℕ) (old now new :
     spelled = goes.spelled;
     truth = subst (λ (w : List Item). All (IsTrueOf w) (stretches next.asked)) (taken.roll ∙ going.roll) taken.sound.truth;
     none_empty = taken.sound.none_empty;
+    skips_joined = taken.sound.skips_joined;
     asks = goes.asks;
     short = omega (arith, goes.short, taken.limit_is, going.limit_is);
     not_again = subst (λ (n : ℕ). NotAskedAgain limits.limit n own answered next.asked) (ap length (sym goes.exact))

@@ -4,11 +4,11 @@ use Rattle.neg_codec.specs.declared.Item.{Item}
 use Rattle.neg_codec.specs.Ranges.{Span, stretches, IsSkip}
 use Rattle.neg_codec.specs.Text.{Spells}
 use Rattle.item_roll.specs.Truth.{IsTrueOf}
-use Rattle.neg_draft.specs.Coverage.{NoneEmpty}
+use Rattle.neg_draft.specs.Coverage.{NoneEmpty, SkipsJoined}
 use Rattle.neg_initiator.specs.Session.{HasOpen, NotAskedAgain}
 use Rattle.neg_session.specs.Exchange.{Exchange}
 
--- The first: a message no longer than the limit and without an empty range, whose stretches are fingerprints and lists of ids, true of
+-- The first: a message no longer than the limit, without an empty range and with its Skips joined, whose stretches are fingerprints and lists of ids, true of
 -- the own roll.
 pub record Begins (limit : ℕ) (own : List Item) (question : List ℕ) : Type 0 where
   pub asked : List Span
@@ -16,9 +16,10 @@ pub record Begins (limit : ℕ) (own : List Item) (question : List ℕ) : Type 0
   pub short : length question ≤ limit
   pub truth : All (IsTrueOf own) (stretches asked)
   pub none_empty : NoneEmpty asked
+  pub skips_joined : SkipsJoined asked
   pub skips_nothing : All (λ s. IsSkip s → ⊥) (stretches asked)
 
--- A later one: a message no longer than the limit and without an empty range, that asks something. What it doesn't skip is true of the
+-- A later one: a message no longer than the limit, without an empty range and with its Skips joined, that asks something. What it doesn't skip is true of the
 -- own roll, and it skips what the answer before it told or showed to be the same, but for where it was cut.
 pub record Resumes (limit : ℕ) (own : List Item) (before : Exchange) (question : List ℕ) : Type 0 where
   pub answered : List Span
@@ -28,6 +29,7 @@ pub record Resumes (limit : ℕ) (own : List Item) (before : Exchange) (question
   pub short : length question ≤ limit
   pub truth : All (IsTrueOf own) (stretches asked)
   pub none_empty : NoneEmpty asked
+  pub skips_joined : SkipsJoined asked
   pub asks : HasOpen asked
   pub not_again : NotAskedAgain limit (length question) own answered asked
 

@@ -1,10 +1,11 @@
 -- Which lists of items explain what a peer answered.
-use Rattle.std.specs.Prelude.{List, All}
+use Rattle.std.specs.Prelude.{ℕ, List, All}
 use Rattle.neg_codec.specs.declared.Item.{Item}
 use Rattle.neg_codec.specs.Ranges.{Span}
 use Rattle.neg_codec.specs.Text.{Spells}
 use Rattle.item_roll.specs.Parts.{IsRoll}
 use Rattle.item_roll.specs.Truth.{Follows}
+use Rattle.neg_responder.specs.Reply.{Replies}
 use Rattle.neg_session.specs.Exchange.{Exchange}
 
 -- question and answer are messages, and the answer follows the list
@@ -20,6 +21,6 @@ pub record Explains (b : List Item) (log : List Exchange) : Type 0 where
   pub roll : IsRoll b
   pub each : All (IsExplained b) log
 
--- the list explains the pair if the question is a message
-abbrev pub AnswersBy : List Item → Exchange → Type 0
-AnswersBy b e = (q : List Span) → Spells e.asked q → IsExplained b e
+-- the answer is the list's own reply, of at most so many bytes, if the question is a message
+abbrev pub AnswersBy : ℕ → List Item → Exchange → Type 0
+AnswersBy limit b e = (q : List Span) → Spells e.asked q → Replies limit b q e.answered

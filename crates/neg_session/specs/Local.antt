@@ -26,12 +26,12 @@ pub record IsAnswered (limit : ℕ) (e : Exchange) : Type 0 where
   pub taken : IsRefused e.asked → ⊥
   pub short : length e.answered ≤ limit
 
--- It keeps its list and its limit. If the list explained each pair whose question is a message, it does so still; if no
+-- It keeps its list and its limit. If each answer to a message was the list's own reply within the limit, that is still so; if no
 -- question was one that is refused, and each answer kept the limit, that is still so.
 pub record Keeps (p q : Local) : Type 0 where
   pub roll : q.roll ≡ p.roll
   pub limit_is : q.limit ≡ p.limit
-  pub answers : All (AnswersBy p.roll) p.log → All (AnswersBy q.roll) q.log
+  pub answers : All (AnswersBy p.limit p.roll) p.log → All (AnswersBy q.limit q.roll) q.log
   pub pairs : All (IsAnswered p.limit) p.log → All (IsAnswered q.limit) q.log
 
 pub keeps_itself : (p : Local) → Keeps p p
@@ -40,8 +40,8 @@ keeps_itself p = record { roll = refl; limit_is = refl; answers = λ h. h; pairs
 pub keeps_on : (p q r : Local) → Keeps p q → Keeps q r → Keeps p r
 keeps_on p q r h k = record { roll = k.roll ∙ h.roll; limit_is = k.limit_is ∙ h.limit_is; answers = λ a. k.answers (h.answers a); pairs = λ a. k.pairs (h.pairs a) }
 
--- a list that explains each pair whose question is a message explains the pairs of a session
+-- a list that answers each message by its own reply explains the pairs of a session
 abbrev pub RollExplains : Type 0
 RollExplains =
-    (limit : ℕ) (own b : List Item) (old new : List Exchange) → IsRoll b → All (AnswersBy b) new
+    (most limit : ℕ) (own b : List Item) (old new : List Exchange) → IsRoll b → All (AnswersBy most b) new
     → new ≡ old ++ gained old new → Chained limit own (gained old new) → Explains b (gained old new)

@@ -44,8 +44,8 @@ impl LocalPeer {
         ensures faults { result.faults ≡ 0 }
         // What is true of each roll.
         ensures roll { IsRoll result.roll }
-        // The roll explains each pair whose question is a message, and each answer keeps the limit: there is none yet.
-        ensures answers { All (AnswersBy result.roll) result.log }
+        // Each answer to a message is the roll's own reply, and keeps the limit: there is none yet.
+        ensures answers { All (AnswersBy limit result.roll) result.log }
         ensures pairs { All (IsAnswered limit) result.log }
     {
         let _ = roll.len();

@@ -8,7 +8,7 @@ use Rattle.nostr_event.specs.declared.fault.EventField.TheVariants.{Object, Id a
 use Rattle.nostr_event.specs.declared.fault.EventFault.{EventFault}
 use Rattle.nostr_event.specs.declared.fault.EventFault.TheVariants.{Shape, Hex, Range, WrongId, Memory}
 use Rattle.nostr_event.specs.EventView.{EventView, IsBytesOf, IsIdOf}
-use Rattle.nostr_event.specs.EventJson.{HasFields, Reads, Refuses, IsFirstNotHex, first_failing, shape_tests, range_tests, tags_items}
+use Rattle.nostr_event.specs.EventJson.{HasFields, Passes, Reads, Refuses, IsFirstNotHex, first_failing, shape_tests, range_tests, tags_items}
 use Rattle.nostr_event.proofs.Injective.{encode_lower-injective, tags_items-injective}
 use Rattle.nostr_event.proofs.FieldTests.{object_from_get}
 use Rattle.nostr_event.proofs.Find.{tags_are}
@@ -56,6 +56,10 @@ ranges_pass d e h =
     let finite : nat_lt e.draft.created_at 18446744073709551615 ≡ true = search rules in
     let fits : nat_lt e.draft.kind 65536 ≡ true = search rules in
     rw (h.created_at, finite, h.kind, fits) refl
+
+-- what has the fields of an event passes all tests
+pub fields_pass : (d : Data) (e : EventView) → HasFields d e → Passes d
+fields_pass d e h = (shapes_pass d e h, ((e.id.0, h.in_range.id, h.id), (e.draft.pubkey, h.in_range.pubkey, h.pubkey), (e.sig, h.in_range.sig, h.sig)), ranges_pass d e h)
 
 all_hex : (d : Data) (e : EventView) (f : EventField) → HasFields d e → ¬ IsFirstNotHex d f
 all_hex d e Object h = λ n. n

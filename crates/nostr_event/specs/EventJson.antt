@@ -1,5 +1,5 @@
 -- Events as JSON objects (NIP-01).
-use Rattle.std.specs.Prelude.{◌≡◌, ◌^◌, ℕ, List, [], ◌∷◌, ◌++◌, map, Bool, true, false, ◌&&◌, if◌then◌else◌, nat_lt, Option, Some, None, is_some, option_map, option_and_then, unwrap_or, codes}
+use Rattle.std.specs.Prelude.{◌≡◌, ◌^◌, ◌<◌, ℕ, List, [], ◌∷◌, map, Bool, true, false, ◌&&◌, if◌then◌else◌, nat_lt, Option, Some, None, is_some, option_map, option_and_then, unwrap_or, codes}
 use Rattle.hex.specs.Hex.{encode_lower}
 use Rattle.serde_json.specs.Data.{unsigned, Data, number, string, array, object, Items, no_items, item, no_members, member}
 use Rattle.serde_json.specs.Find.{get, as_str, as_number, as_array, as_object, as_u64}
@@ -7,6 +7,7 @@ use Rattle.serde_json.specs.View.{items_of, number_view}
 use Rattle.neg_codec.specs.Keys.{endless}
 use Rattle.nostr_event.specs.EventView.{EventView, IsBytesOf, IsIdOf, IsInRange}
 use Rattle.nostr_event.specs.declared.fields.Shapes.{Shapes}
+use Rattle.nostr_event.specs.declared.reading.Bare.{Bare}
 use Rattle.nostr_event.specs.declared.fault.EventField.{EventField}
 use Rattle.nostr_event.specs.declared.fault.EventField.TheVariants.{Object, Id, Pubkey, CreatedAt, Kind, Tags, Content, Sig}
 use Rattle.nostr_event.specs.declared.fault.EventFault.{EventFault}
@@ -62,16 +63,11 @@ are_tags (item d ds) = is_tag d && are_tags ds
 abbrev pub is_tags_at : List ℕ → Data → Bool
 is_tags_at name d = unwrap_or (option_map are_tags (option_and_then as_array (get name d))) false
 
--- what is looked at before memory is asked for
-abbrev pub early_tests : Data → List (EventField × Bool)
-early_tests d =
-    (Object, is_some (as_object d)) ∷ (Id, is_text_at (codes "id") d) ∷ (Pubkey, is_text_at (codes "pubkey") d)
-    ∷ (CreatedAt, is_number_at (codes "created_at") d) ∷ (Kind, is_number_at (codes "kind") d) ∷ []
-
 abbrev pub shape_tests : Data → List (EventField × Bool)
 shape_tests d =
-    early_tests d
-    ++ (Tags, is_tags_at (codes "tags") d) ∷ (Content, is_text_at (codes "content") d) ∷ (Sig, is_text_at (codes "sig") d) ∷ []
+    (Object, is_some (as_object d)) ∷ (Id, is_text_at (codes "id") d) ∷ (Pubkey, is_text_at (codes "pubkey") d)
+    ∷ (CreatedAt, is_number_at (codes "created_at") d) ∷ (Kind, is_number_at (codes "kind") d)
+    ∷ (Tags, is_tags_at (codes "tags") d) ∷ (Content, is_text_at (codes "content") d) ∷ (Sig, is_text_at (codes "sig") d) ∷ []
 
 -- ---- what each refusal says
 
@@ -109,13 +105,32 @@ IsFirstNotHex d Sig = IsHexAt (codes "id") 32 d × IsHexAt (codes "pubkey") 32 d
 abbrev pub AreHex : Data → Type 0
 AreHex d = IsHexAt (codes "id") 32 d × IsHexAt (codes "pubkey") 32 d × IsHexAt (codes "sig") 64 d
 
--- the fault f is the first that d has; want of memory is told only where no fault was found before it was asked for
+-- all tests are passed, which is all but whether the id is right
+abbrev pub Passes : Data → Type 0
+Passes d = (first_failing (shape_tests d) ≡ None) × AreHex d × (first_failing (range_tests d) ≡ None)
+
+-- the fields but the tags, with the bytes and numbers that they spell
+pub record HasBare (d : Data) (b : Bare) : Type 0 where
+  pub id : get (codes "id") d ≡ Some (string (encode_lower b.id))
+  pub pubkey : get (codes "pubkey") d ≡ Some (string (encode_lower b.pubkey))
+  pub created_at : get (codes "created_at") d ≡ Some (number (unsigned b.created_at))
+  pub kind : get (codes "kind") d ≡ Some (number (unsigned b.kind))
+  pub tags : is_tags_at (codes "tags") d ≡ true
+  pub content : get (codes "content") d ≡ Some (string b.content.now)
+  pub sig : get (codes "sig") d ≡ Some (string (encode_lower b.sig))
+  pub finite : b.created_at < endless
+  pub low : b.kind < 2 ^ 16
+  pub id_bytes : IsBytesOf 32 b.id
+  pub pubkey_bytes : IsBytesOf 32 b.pubkey
+  pub sig_bytes : IsBytesOf 64 b.sig
+
+-- the fault f is the first that d has; want of memory is told only where no fault but that of the id can be found
 abbrev pub Refuses : Data → EventFault → Type 0
 Refuses d (Shape f) = first_failing (shape_tests d) ≡ Some f
 Refuses d (Hex f) = (first_failing (shape_tests d) ≡ None) × IsFirstNotHex d f
 Refuses d (Range f) = (first_failing (shape_tests d) ≡ None) × AreHex d × (first_failing (range_tests d) ≡ Some f)
 Refuses d WrongId = (e : EventView) × HasFields d e × ¬ IsIdOf e.id e.draft
-Refuses d Memory = first_failing (early_tests d) ≡ None
+Refuses d Memory = Passes d
 
 -- ---- what is written
 

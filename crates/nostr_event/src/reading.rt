@@ -1,8 +1,8 @@
 // An event read from its JSON object.
-ghost use Rattle.std.specs.Prelude.{◌≡◌, ◌≢◌, IfOk, IfErr};
+ghost use Rattle.std.specs.Prelude.{◌≡◌, ◌≢◌, IfOk, IfErr, OnOk};
 ghost use Rattle.serde_json.specs.View.{view};
 ghost use Rattle.nostr_event.specs.EventView.{EventView};
-ghost use Rattle.nostr_event.specs.EventJson.{HasFields, Reads, Refuses};
+ghost use Rattle.nostr_event.specs.EventJson.{HasBare, HasFields, Passes, Reads, Refuses};
 
 use crate::draft::Draft;
 use crate::event::{Event, checked};
@@ -22,10 +22,22 @@ struct Parts {
     sig: [u8; 64],
 }
 
-fn parts_of(alloc: Global, value: &mut Value) -> Result<Parts, EventFault>
-    ensures ok { IfOk result (λ p. HasFields (view value.old)
-        (record { id = p.id; draft = p.draft; sig = p.sig })) }
-    ensures err { IfErr result (λ f. Refuses (view value.old) f) }
+/// The fields of an event but its tags, as they are read without memory.
+#[derive(Drop)]
+pub struct Bare<'v> {
+    id: [u8; 32],
+    pubkey: [u8; 32],
+    created_at: u64,
+    kind: u16,
+    content: &'v str,
+    sig: [u8; 64],
+}
+
+// The fields but the tags, once all was tested but whether the id is right.
+fn bare_of<'v>(value: &'v Value) -> Result<Bare<'v>, EventFault>
+    ensures passes { OnOk result (Passes (view value.now)) }
+    ensures ok { IfOk result (HasBare (view value.now)) }
+    ensures err { IfErr result (λ f. Refuses (view value.now) f) }
 {
     let shapes = shapes_of(value)?;
     let id = hex32_at(shapes.id, EventField::Id)?;
@@ -33,12 +45,36 @@ fn parts_of(alloc: Global, value: &mut Value) -> Result<Parts, EventFault>
     let sig = hex64_at(shapes.sig, EventField::Sig)?;
     let created_at = below(shapes.created_at, u64::MAX, EventField::CreatedAt)?;
     let kind = below(shapes.kind, 65536, EventField::Kind)?;
-    let content = Text::new(String::from_str(alloc, shapes.content)?);
+    Ok(Bare {
+        id,
+        pubkey,
+        created_at,
+        kind: kind as u16,
+        content: shapes.content,
+        sig,
+    })
+}
+
+fn parts_of(alloc: Global, value: &mut Value) -> Result<Parts, EventFault>
+    ensures ok { IfOk result (λ p. HasFields (view value.old)
+        (record { id = p.id; draft = p.draft; sig = p.sig })) }
+    ensures err { IfErr result (λ f. Refuses (view value.old) f) }
+{
+    let bare = bare_of(value)?;
+    let content = Text::new(String::from_str(alloc, bare.content)?);
+    let Bare {
+        id,
+        pubkey,
+        created_at,
+        kind,
+        content: _,
+        sig,
+    } = bare;
     let tags = take_tags(alloc, value)?;
     let draft = Draft {
         pubkey,
         created_at,
-        kind: kind as u16,
+        kind,
         tags,
         content,
     };
@@ -68,8 +104,8 @@ impl Event {
         ensures fault { IfErr result (λ f. Refuses (view value.now) f) }
         ensures no_event { IfErr result (λ f. f ≢ EventFault.Memory → (e : EventView) → ¬ Reads (view value.now) e) }
     {
-        // Only what has the fields is copied, so that want of memory is told of nothing else.
-        let _shapes = shapes_of(value)?;
+        // Only what passes the tests is copied, so that want of memory is told of nothing else.
+        let _bare = bare_of(value)?;
         let mut copy = value.clone()?;
         let read = Event::take_json(alloc, &mut copy);
         read

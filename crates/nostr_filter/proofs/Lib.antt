@@ -1,3 +1,4 @@
+pub mod Bare
 pub mod Items
 pub mod Laws
 pub mod Membership
@@ -7,4 +8,5 @@ pub mod Ranks
 pub mod ReadsBack
 pub mod ShapeTests
 pub mod Standing
+pub mod TagLooking
 pub mod TagReading

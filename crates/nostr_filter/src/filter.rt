@@ -104,7 +104,7 @@ fn tag_met(condition: &TagCondition, tag: &Tag) -> bool
 }
 
 // Whether some tag meets the condition.
-fn condition_met(condition: &TagCondition, tags: &[Tag]) -> bool
+pub fn condition_met(condition: &TagCondition, tags: &[Tag]) -> bool
     ensures { result ≡ tags_meet tags.now condition.now }
 {
     tags.iter().any(|tag| tag_met(condition, tag))

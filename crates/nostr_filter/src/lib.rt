@@ -8,10 +8,14 @@ mod fields;
 mod filter;
 mod letters;
 mod members;
+mod order;
 mod reading;
+mod sizes;
 mod writing;
 
 pub use choice::{Rank, choose, cut, put_in_order, rank_at};
 pub use conditions::{Bytes32List, Kinds, TagCondition, TagConditions, Texts};
 pub use fault::{FilterFault, FilterField};
 pub use filter::Filter;
+pub use order::TagOrder;
+pub use sizes::room_behind;

@@ -1,5 +1,5 @@
 // What tells the members of long lists quickly.
-ghost use Rattle.std.specs.Prelude.{◌≡◌, ◌++◌, ◌∷◌, [], List, ℕ, IfOk, IfSome, OnOk};
+ghost use Rattle.std.specs.Prelude.{◌≡◌, ◌++◌, ◌∷◌, [], List, ℕ, IfOk, IfSome, OnOk, length};
 ghost use Rattle.std.specs.BTreeSet.{IsFromIterResult};
 ghost use Rattle.std.specs.Ordering.{nat_cmp};
 ghost use Rattle.std.specs.Cmp.Lexicographic.{slice_cmp};
@@ -48,12 +48,12 @@ fn compare_at(texts: &[Text], a: usize, b: usize) -> Ordering
     compare(texts, a, text_at(texts, b))
 }
 
-// The places of the texts.
-fn places_of(alloc: Global, texts: &[Text]) -> Result<Vec<usize>, AllocError>
-    ensures { IfOk result (λ p. (text : List ℕ) → is_at texts.now p.items text ≡ has_text texts.now text) }
+// The places below a number.
+pub fn places_to(alloc: Global, count: usize) -> Result<Vec<usize>, AllocError>
+    ensures { IfOk result (λ p. (texts : List (List ℕ)) → length texts ≡ count → (text : List ℕ) → is_at texts p.items text ≡ has_text texts text) }
 {
-    let mut places = Vec::with_capacity(alloc, texts.len())?;
-    for place in 0..texts.len() {
+    let mut places = Vec::with_capacity(alloc, count)?;
+    for place in 0..count {
         places.push(place)?;
     }
     Ok(places)
@@ -66,7 +66,7 @@ pub fn order_of(alloc: Global, texts: &[Text]) -> Result<Option<Vec<usize>>, All
     if texts.len() < LONG {
         return Ok(None);
     }
-    let mut places = places_of(alloc, texts)?;
+    let mut places = places_to(alloc, texts.len())?;
     places.sort_unstable_by(|a, b| compare_at(texts, *a, *b));
     Ok(Some(places))
 }

@@ -1,5 +1,6 @@
 // A filter read from its JSON object.
-ghost use Rattle.std.specs.Prelude.{◌≡◌, ◌≢◌, ℕ, Some, IfOk, IfErr, codes};
+ghost use Rattle.std.specs.Prelude.{◌≡◌, ◌≢◌, ℕ, Some, IfOk, IfErr, IsTrue, codes};
+ghost use Rattle.serde_json.specs.Data.{object, no_members};
 ghost use Rattle.serde_json.specs.View.{view};
 ghost use Rattle.nostr_filter.specs.declared.filter.Filter.{Filter as FilterView};
 ghost use Rattle.nostr_filter.specs.FilterJson.{Reads, Refuses, HasShapes};
@@ -52,10 +53,24 @@ fn shapes_of(alloc: Global, value: &Value) -> Result<Shapes, FilterFault>
     })
 }
 
+// Whether the value is an object with no field.
+fn is_bare(value: &Value) -> bool
+    ensures { IsTrue result → view value.now ≡ object no_members }
+{
+    match value.as_object() {
+        Some(map) => map.is_empty(),
+        None => false,
+    }
+}
+
 fn read_filter(alloc: Global, value: &Value) -> Result<Filter, FilterFault>
     ensures ok { IfOk result (λ f. Reads (view value.now) f) }
     ensures err { IfErr result (λ f. Refuses (view value.now) f) }
 {
+    if is_bare(value) {
+        // Its fields needn't be looked for.
+        return Ok(Filter::all());
+    }
     let shapes = shapes_of(alloc, value)?;
     let authors = bytes_of(alloc, &shapes.authors, FilterField::Authors)?;
     let ids = bytes_of(alloc, &shapes.ids, FilterField::Ids)?;

@@ -1,4 +1,5 @@
 pub mod Arrays
+pub mod Few
 pub mod Laws
 pub mod Plain
 pub mod Several

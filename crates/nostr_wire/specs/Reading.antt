@@ -1,11 +1,14 @@
 -- Which text is which message, and which fault another text has.
-use Rattle.std.specs.Prelude.{⊤, ◌≡◌, ◌⊎◌, ◌&&◌, ℕ, List, [], ◌∷◌, map, drop, Bool, true, false, if◌then◌else◌, Option, Some, None, option_map, option_and_then, unwrap_or, bytes_eq}
+use Rattle.std.specs.Prelude.{⊤, ◌≡◌, ◌⊎◌, ◌&&◌, ℕ, ◌+◌, List, [], ◌∷◌, ◌++◌, length, map, take, drop, Bool, true, false, if◌then◌else◌, Option, Some, None, option_map, nat_le, option_and_then, unwrap_or, bytes_eq}
 use Rattle.serde_json.specs.Data.{Data, Items, no_items, item}
 use Rattle.serde_json.specs.Find.{as_str, as_array}
 use Rattle.serde_json.specs.Read.{read}
+use Rattle.nostr_filter.specs.declared.filter.Filter.{Filter}
 use Rattle.nostr_wire.specs.declared.fault.WireFault.{WireFault}
+use Rattle.nostr_wire.specs.declared.messages.FromClient.{FromClient}
+use Rattle.nostr_wire.specs.declared.messages.FromClient.TheVariants as client
 use Rattle.nostr_wire.specs.Elements.{Part, Said, part_of, has_type, Says, SaysNo, IsFaultOf}
-use Rattle.nostr_wire.specs.Forms.{Form, Table}
+use Rattle.nostr_wire.specs.Forms.{Form, Table, client_form, client_table}
 
 -- ---- an array's elements
 
@@ -86,3 +89,32 @@ IsRefused table d f = ((f ≡ WireFault.Kind) × (expected table d ≡ None)) �
 -- the text is no message of the table, and f is its first fault; or there was no memory
 abbrev pub Refuses : (List Data → Table) → List ℕ → WireFault → Type 0
 Refuses table text f = (f ≡ WireFault.Memory) ⊎ ((f ≡ WireFault.Json) × (read text ≡ None)) ⊎ ((d : Data) × (read text ≡ Some d) × IsRefused table d f)
+
+-- ---- requests of many filters
+
+-- the first filters, so many and one more; all where no number is said
+abbrev pub kept_filters : Option ℕ → List Filter → List Filter
+kept_filters None fs = fs
+kept_filters (Some n) fs = take (n + 1) fs
+
+-- one more filter is kept beside so many
+abbrev pub keeps_more : Option ℕ → ℕ → Bool
+keeps_more None count = true
+keeps_more (Some n) count = nat_le count n
+
+-- the filters with one more, if that is kept
+abbrev pub with_filter : Option ℕ → List Filter → Filter → List Filter
+with_filter most fs f = if keeps_more most (length fs) then fs ++ f ∷ [] else fs
+
+-- the value d is what a client says, but that of a request's filters only these are kept
+abbrev pub IsHeard : Option ℕ → Data → FromClient → Type 0
+IsHeard most d (client.Req s fs) = (all : List Filter) × (fs ≡ kept_filters most all) × IsMessage client_table d (client_form (client.Req s all))
+IsHeard most d (client.Event e) = IsMessage client_table d (client_form (client.Event e))
+IsHeard most d (client.Close s) = IsMessage client_table d (client_form (client.Close s))
+IsHeard most d (client.NegOpen s f m) = IsMessage client_table d (client_form (client.NegOpen s f m))
+IsHeard most d (client.NegMsg s m) = IsMessage client_table d (client_form (client.NegMsg s m))
+IsHeard most d (client.NegClose s) = IsMessage client_table d (client_form (client.NegClose s))
+
+-- the text is what a client says, but for such filters
+abbrev pub Hears : Option ℕ → List ℕ → FromClient → Type 0
+Hears most text m = (d : Data) × (read text ≡ Some d) × IsHeard most d m

@@ -13,5 +13,5 @@ mod writing;
 pub use fault::WireFault;
 pub use lists::{Bytes, Filters, Sub};
 pub use messages::{FromClient, FromRelay};
-pub use reading::{read_client, read_relay};
+pub use reading::{read_client, read_client_few, read_relay};
 pub use writing::{write_client, write_relay, write_relay_in};

@@ -1,12 +1,13 @@
 // Messages read from their texts.
-ghost use Rattle.std.specs.Prelude.{◌≡◌, ◌≢◌, ◌⊎◌, ◌∷◌, [], Some, None, true, map, IfOk, IfErr, IfSome};
+ghost use Rattle.std.specs.Prelude.{◌≡◌, ◌≢◌, ◌⊎◌, ◌∷◌, [], Some, None, true, List, map, IfOk, IfErr, IfSome, OnOk};
 ghost use Rattle.std.specs.List.{list_all};
 ghost use Rattle.serde_json.specs.Read.{read};
 ghost use Rattle.serde_json.specs.View.{view};
 ghost use Rattle.nostr_wire.specs.declared.fault.WireFault.{WireFault};
 ghost use Rattle.nostr_wire.specs.Elements.{a_filter, has_type, sub, filter};
 ghost use Rattle.nostr_wire.specs.Forms.{Form, client_form, relay_form, client_table, relay_table, request_parts};
-ghost use Rattle.nostr_wire.specs.Reading.{name_in, behind_name, AreRead, IsMessage, Reads, AreRefused, IsRefused, Refuses};
+ghost use Rattle.nostr_filter.specs.declared.filter.Filter.{Filter as Kept};
+ghost use Rattle.nostr_wire.specs.Reading.{kept_filters, keeps_more, with_filter, IsHeard, Hears, name_in, behind_name, AreRead, IsMessage, Reads, AreRefused, IsRefused, Refuses};
 
 use crate::elements::{Element, filter_of, sub_of};
 use crate::fault::WireFault;
@@ -14,7 +15,7 @@ use crate::lists::{Filters, Sub};
 use crate::messages::{FromClient, FromRelay};
 use nostr_filter::Filter;
 use serde_json::Value;
-use std::alloc::Global;
+use std::alloc::{AllocError, Global};
 
 // The first element, if it is a string, and those behind it.
 fn name_and_rest(value: &mut Value) -> Option<(&str, &mut [Value])>
@@ -94,22 +95,50 @@ fn are_objects(values: &[Value]) -> bool
     values.iter().all(|value| value.is_object())
 }
 
-// The filters that the objects are.
-fn filters_of(alloc: Global, values: &[Value]) -> Result<Vec<Filter>, WireFault>
+// Whether one more filter is kept beside so many.
+fn keeps(most: Option<usize>, count: usize) -> bool
+    ensures { result ≡ keeps_more most count }
+{
+    match most {
+        Some(most) => count <= most,
+        None => true,
+    }
+}
+
+// Puts the filter behind the others, if it is kept.
+fn put_filter(
+    filters: &mut Vec<Filter>,
+    most: Option<usize>,
+    filter: Filter,
+) -> Result<(), AllocError>
+    ensures { OnOk result (filters.new.items ≡ with_filter most filters.old.items filter) }
+{
+    if keeps(most, filters.len()) {
+        filters.push(filter)?;
+    }
+    Ok(())
+}
+
+// The filters that the objects are, of which the first are kept.
+fn filters_of(
+    alloc: Global,
+    values: &[Value],
+    most: Option<usize>,
+) -> Result<Vec<Filter>, WireFault>
     requires { list_all (λ v. has_type a_filter (view v)) values.now ≡ true }
-    ensures ok { IfOk result (λ v. AreRead (map (λ _. a_filter) values.now) (map filter v.items) (map view values.now)) }
+    ensures ok { IfOk result (λ v. (all : List Kept) × (v.items ≡ kept_filters most all) × AreRead (map (λ _. a_filter) values.now) (map filter all) (map view values.now)) }
     ensures err { IfErr result (λ f. (f ≡ WireFault.Memory) ⊎ AreRefused (map (λ _. a_filter) values.now) (map view values.now) f) }
 {
     let mut filters = Vec::new(alloc);
     for value in values {
-        filters.push(filter_of(alloc, value)?)?;
+        put_filter(&mut filters, most, filter_of(alloc, value)?)?;
     }
     Ok(filters)
 }
 
 // The name of a subscription, and one filter or more.
-fn request(alloc: Global, rest: &[Value]) -> Result<(Sub, Filters), WireFault>
-    ensures ok { IfOk result (λ p. AreRead (request_parts (map view rest.now)) (sub p.0 ∷ map filter p.1) (map view rest.now)) }
+fn request(alloc: Global, rest: &[Value], most: Option<usize>) -> Result<(Sub, Filters), WireFault>
+    ensures ok { IfOk result (λ p. (all : List Kept) × (p.1 ≡ kept_filters most all) × AreRead (request_parts (map view rest.now)) (sub p.0 ∷ map filter all) (map view rest.now)) }
     ensures err { IfErr result (λ f. (f ≡ WireFault.Memory) ⊎ AreRefused (request_parts (map view rest.now)) (map view rest.now) f) }
 {
     let [first, filters @ ..] = rest else {
@@ -119,14 +148,14 @@ fn request(alloc: Global, rest: &[Value]) -> Result<(Sub, Filters), WireFault>
         return Err(WireFault::Arity);
     }
     let sub = sub_of(alloc, first)?;
-    match Filters::new(filters_of(alloc, filters)?) {
+    match Filters::new(filters_of(alloc, filters, most)?) {
         Ok(filters) => Ok((sub, filters)),
         Err(_) => unreachable!(),
     }
 }
 
-fn client_of(alloc: Global, value: &mut Value) -> Result<FromClient, WireFault>
-    ensures ok { IfOk result (λ m. IsMessage client_table (view value.old) (client_form m)) }
+fn client_of(alloc: Global, value: &mut Value, most: Option<usize>) -> Result<FromClient, WireFault>
+    ensures ok { IfOk result (λ m. IsHeard most (view value.old) m) }
     ensures err { IfErr result (λ f. (f ≡ WireFault.Memory) ⊎ IsRefused client_table (view value.old) f) }
 {
     let Some((name, rest)) = name_and_rest(value) else {
@@ -135,7 +164,7 @@ fn client_of(alloc: Global, value: &mut Value) -> Result<FromClient, WireFault>
     match name {
         "EVENT" => Ok(FromClient::Event(one(alloc, rest)?)),
         "REQ" => {
-            let (sub, filters) = request(alloc, rest)?;
+            let (sub, filters) = request(alloc, rest, most)?;
             Ok(FromClient::Req { sub, filters })
         }
         "CLOSE" => Ok(FromClient::Close {
@@ -213,12 +242,12 @@ fn value_of(alloc: Global, text: &str) -> Result<Value, WireFault>
     }
 }
 
-fn client_text(alloc: Global, text: &str) -> Result<FromClient, WireFault>
-    ensures ok { IfOk result (λ m. Reads client_table text.now (client_form m)) }
+fn client_text(alloc: Global, text: &str, most: Option<usize>) -> Result<FromClient, WireFault>
+    ensures ok { IfOk result (λ m. Hears most text.now m) }
     ensures err { IfErr result (λ f. Refuses client_table text.now f) }
 {
     let mut value = value_of(alloc, text)?;
-    let message = client_of(alloc, &mut value)?;
+    let message = client_of(alloc, &mut value, most)?;
     Ok(message)
 }
 
@@ -238,8 +267,17 @@ pub fn read_client(alloc: Global, text: &str) -> Result<FromClient, WireFault>
     ensures fault { IfErr result (λ f. Refuses client_table text.now f) }
     ensures no_message { IfErr result (λ f. f ≢ WireFault.Memory → (m : Form) → ¬ Reads client_table text.now m) }
 {
-    let read = client_text(alloc, text);
+    let read = client_text(alloc, text, None);
     read
+}
+
+/// The same, but that of a request's filters only the first are kept, so many and one more: where it has more than so many, these
+/// tell that, and take no more memory. Each of the others is read, too.
+pub fn read_client_few(alloc: Global, text: &str, most: usize) -> Result<FromClient, WireFault>
+    ensures message { IfOk result (λ m. Hears (Some most) text.now m) }
+    ensures fault { IfErr result (λ f. Refuses client_table text.now f) }
+{
+    client_text(alloc, text, Some(most))
 }
 
 /// What a relay says in the text, or the text's first fault.

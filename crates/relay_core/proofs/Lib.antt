@@ -1,3 +1,4 @@
+pub mod Heard
 pub mod Placing
 pub mod Passing
 pub mod Pinned

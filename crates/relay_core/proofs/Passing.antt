@@ -1,16 +1,20 @@
 -- What is due from a place on.
-use Rattle.std.proofs.Common.{◌≡◌, ℕ, zero, suc, ◌+◌, ◌<◌, ◌≤◌, true, false, cond, List, [], ◌∷◌, ◌++◌, length, get_or, drop, map, slice_get, refl, ap, sym, ◌∙◌, arith, append_assoc, Option, Some, None}
+use Rattle.std.proofs.Common.{◌≡◌, ℕ, zero, suc, ◌+◌, ◌<◌, ◌≤◌, Bool, true, false, true≢false, ◌&&◌, cond, nat_lt, List, [], ◌∷◌, ◌++◌, length, get_or, take, drop, map, slice_get, refl, ap, ap₂, sym, ◌∙◌, arith, append_assoc, Option, Some, None}
+use mathlib.Core.List.{IsPrefix}
 use Rattle.std.specs.Prelude.{filter, filter_map, option_to_list, nat_le}
-use Rattle.std.specs.List.{AllByRecursion, cons_option}
+use Rattle.std.specs.List.{AllByRecursion, cons_option, list_any}
 use Rattle.std.proofs.lemmas.Bool.Decides.{nat_tests}
-use Rattle.std.proofs.lemmas.List.{append-nil}
+use Rattle.std.proofs.lemmas.Grind.{common_steps}
+use Rattle.std.proofs.lemmas.List.{append-nil, length-append, length-take, take_more, take-append-drop, take-append-le}
 use Rattle.std.proofs.lemmas.Option.{slice_get_past, slice_get_within, get_or_from_slice_get}
 use Rattle.std.proofs.Math.Seq.{drop-cons}
 use Rattle.nostr_event.specs.EventView.{EventView}
+use Rattle.nostr_filter.specs.Matching.{matches_of}
 use Rattle.nostr_wire.specs.Forms.{Form}
 use Rattle.relay_core.specs.declared.subs.Subscription.{Subscription}
 use Rattle.relay_core.specs.Messages.{event_to}
-use Rattle.relay_core.specs.Due.{is_due, sent_at, due_from, due}
+use Rattle.relay_core.specs.Kept.{Kept, kept_of}
+use Rattle.relay_core.specs.Due.{is_due, sent_at, due_from, due, further, marked, CatchesUp}
 
 -- ---- before all marks
 
@@ -25,30 +29,113 @@ all_above : (p k : ℕ) (subs : List Subscription) → k < p → AllByRecursion 
 all_above p k [] lt h = tt
 all_above p k (s ∷ subs) lt h = let le : p ≤ s.mark = h.0 in (omega arith, all_above p k subs lt h.1)
 
-skipped : (low k p : ℕ) (subs : List Subscription) (events : List EventView) → low ≡ p + k → AllByRecursion (λ (s : Subscription). low ≤ s.mark) subs → due_from p subs events ≡ due_from low subs (drop k events)
-skipped low zero p subs events is h = let same : p ≡ low = omega (arith, is) in ap (λ n. due_from n subs events) same
-skipped low (suc k) p subs [] is h = refl
-skipped low (suc k) p subs (e ∷ events) is h =
-    rw (none_sent p e subs (all_above low p subs (omega (arith, is)) h)) (skipped low k (p + 1) subs events (omega (arith, is)) h)
+-- ---- one list behind another
+
+due_split : (p : ℕ) (subs : List Subscription) (xs ys : List EventView) → due_from p subs (xs ++ ys) ≡ due_from p subs xs ++ due_from (p + length xs) subs ys
+due_split p subs [] ys = let same : p ≡ p + 0 = omega arith in ap (λ n. due_from n subs ys) same
+due_split p subs (x ∷ xs) ys =
+    let later : p + 1 + length xs ≡ p + suc (length xs) = omega arith in
+    ap (λ fs. sent_at p x subs ++ fs) (due_split (p + 1) subs xs ys)
+    ∙ sym (append_assoc (sent_at p x subs) (due_from (p + 1) subs xs) (due_from (p + 1 + length xs) subs ys))
+    ∙ ap (λ n. (sent_at p x subs ++ due_from (p + 1) subs xs) ++ due_from n subs ys) later
+
+lower : (a b : ℕ) (subs : List Subscription) → b ≤ a → AllByRecursion (λ (s : Subscription). a ≤ s.mark) subs → AllByRecursion (λ (s : Subscription). b ≤ s.mark) subs
+lower a b [] le h = tt
+lower a b (s ∷ subs) le h = let first : a ≤ s.mark = h.0 in (omega (arith, le), lower a b subs le h.1)
+
+quiet : (p : ℕ) (subs : List Subscription) (xs : List EventView) → AllByRecursion (λ (s : Subscription). p + length xs ≤ s.mark) subs → due_from p subs xs ≡ []
+quiet p subs [] h = refl
+quiet p subs (x ∷ xs) h =
+    rw (none_sent p x subs (all_above (p + suc (length xs)) p subs (omega arith) h)) (quiet (p + 1) subs xs (lower (p + suc (length xs)) (p + 1 + length xs) subs (omega arith) h))
 
 -- what lies before all marks is due to none
-pub due_behind : (low : ℕ) (subs : List Subscription) (events : List EventView) → AllByRecursion (λ (s : Subscription). low ≤ s.mark) subs → due subs events ≡ due_from low subs (drop low events)
-due_behind low subs events h = skipped low low 0 subs events (omega arith) h
+pub due_start : (low : ℕ) (subs : List Subscription) (events : List EventView) → low ≤ length events → AllByRecursion (λ (s : Subscription). low ≤ s.mark) subs → due subs (take low events) ≡ []
+due_start low subs events le h = quiet 0 subs (take low events) (lower low (0 + length (take low events)) subs (omega (arith, length-take low events)) h)
 
 -- ---- one more
 
-drop_next : (xs : List EventView) (i : ℕ) (x : EventView) → slice_get xs i ≡ Some x → drop i xs ≡ x ∷ drop (suc i) xs
-drop_next xs i x h = drop-cons xs i x (slice_get_within xs i x h) ∙ ap (λ y. y ∷ drop (suc i) xs) (get_or_from_slice_get xs i x x h)
+long_as : (xs : List EventView) (n : ℕ) → n ≤ length xs → length (take n xs) ≡ n
+long_as xs n le = grind (arith, common_steps, le)
 
-pub due_more : (p k : ℕ) (subs : List Subscription) (events : List EventView) (e : EventView) (out new : List Form) → k ≡ p + 1 → slice_get events p ≡ Some e → new ≡ out ++ sent_at p e subs
-    → new ++ due_from k subs (drop k events) ≡ out ++ due_from p subs (drop p events)
-due_more p k subs events e out new is at put =
-    let one : k ≡ suc p = omega (arith, is) in
-    ap (λ xs. xs ++ due_from k subs (drop k events)) put
-    ∙ append_assoc out (sent_at p e subs) (due_from k subs (drop k events))
-    ∙ ap (λ n. out ++ (sent_at p e subs ++ due_from n subs (drop k events))) is
-    ∙ ap (λ n. out ++ (sent_at p e subs ++ due_from (p + 1) subs (drop n events))) one
-    ∙ ap (λ es. out ++ due_from p subs es) (sym (drop_next events p e at))
+take_next : (xs : List EventView) (i : ℕ) (x : EventView) → slice_get xs i ≡ Some x → take (i + 1) xs ≡ take i xs ++ x ∷ []
+take_next xs i x h = take_more xs i x (slice_get_within xs i x h) ∙ ap (λ y. take i xs ++ y ∷ []) (get_or_from_slice_get xs i x x h)
+
+due_next : (p : ℕ) (subs : List Subscription) (events : List EventView) (e : EventView) → slice_get events p ≡ Some e → due subs (take (p + 1) events) ≡ due subs (take p events) ++ sent_at p e subs
+due_next p subs events e at =
+    let within : p < length events = slice_get_within events p e at in
+    let size : 0 + length (take p events) ≡ p = omega (arith, long_as events p (omega (arith, within))) in
+    ap (due subs) (take_next events p e at)
+    ∙ due_split 0 subs (take p events) (e ∷ [])
+    ∙ ap (λ n. due subs (take p events) ++ (sent_at n e subs ++ [])) size
+    ∙ ap (λ fs. due subs (take p events) ++ fs) (append-nil (sent_at p e subs))
+
+pub due_more : (p : ℕ) (subs : List Subscription) (events : List EventView) (e : EventView) (out new : List Form) → slice_get events p ≡ Some e → out ≡ due subs (take p events) → new ≡ out ++ sent_at p e subs
+    → new ≡ due subs (take (p + 1) events)
+due_more p subs events e out new at so_far put = put ∙ ap (λ xs. xs ++ sent_at p e subs) so_far ∙ sym (due_next p subs events e at)
+
+-- ---- what is given, and what is due then
+
+further_le : (a n p : ℕ) → n ≤ p → nat_le (further a n) p ≡ nat_le a p
+further_le a n p le = elim (nat_lt a n) as (λ b. nat_lt a n ≡ b → nat_le (cond b n a) p ≡ nat_le a p) [
+  | true ↦ λ lt. grind (arith, nat_tests, le, lt)
+  | false ↦ λ lt. refl
+] refl
+
+due_same : (n p : ℕ) (e : EventView) (s : Subscription) → n ≤ p → is_due p e (record s { mark = further s.mark n }) ≡ is_due p e s
+due_same n p e s le = ap (λ b. b && list_any (λ f. matches_of f e) s.filters) (further_le s.mark n p le)
+
+sent_by : (b c : Bool) (e : EventView) (s : Subscription) (n : ℕ) (xs ys : List Subscription) → b ≡ c → map (λ (t : Subscription). event_to t.name e) xs ≡ map (λ (t : Subscription). event_to t.name e) ys
+    → map (λ (t : Subscription). event_to t.name e) (cond b (record s { mark = n } ∷ xs) xs) ≡ map (λ (t : Subscription). event_to t.name e) (cond c (s ∷ ys) ys)
+sent_by true true e s n xs ys is same = ap (λ fs. event_to s.name e ∷ fs) same
+sent_by true false e s n xs ys is same = absurd (true≢false is)
+sent_by false true e s n xs ys is same = absurd (true≢false (sym is))
+sent_by false false e s n xs ys is same = same
+
+sent_same : (n p : ℕ) (e : EventView) (subs : List Subscription) → n ≤ p → sent_at p e (marked n subs) ≡ sent_at p e subs
+sent_same n p e [] le = refl
+sent_same n p e (s ∷ subs) le =
+    sent_by (is_due p e (record s { mark = further s.mark n })) (is_due p e s) e s (further s.mark n) (filter (is_due p e) (marked n subs)) (filter (is_due p e) subs) (due_same n p e s le) (sent_same n p e subs le)
+
+behind_same : (n p : ℕ) (subs : List Subscription) (xs : List EventView) → n ≤ p → due_from p (marked n subs) xs ≡ due_from p subs xs
+behind_same n p subs [] le = refl
+behind_same n p subs (x ∷ xs) le = ap₂ (λ a b. a ++ b) (sent_same n p x subs le) (behind_same n (p + 1) subs xs (omega (arith, le)))
+
+le_further : (a n : ℕ) → n ≤ further a n
+le_further a n = elim (nat_lt a n) as (λ b. nat_lt a n ≡ b → n ≤ cond b n a) [
+  | true ↦ λ lt. grind (arith, nat_tests, lt)
+  | false ↦ λ lt. grind (arith, nat_tests, lt)
+] refl
+
+marks_above : (n : ℕ) (subs : List Subscription) → AllByRecursion (λ (s : Subscription). n ≤ s.mark) (marked n subs)
+marks_above n [] = tt
+marks_above n (s ∷ subs) = (le_further s.mark n, marks_above n subs)
+
+parted : (n : ℕ) (subs : List Subscription) (more : List EventView) → n ≤ length more → due subs more ≡ due subs (take n more) ++ due_from n subs (drop n more)
+parted n subs more le =
+    let size : 0 + length (take n more) ≡ n = omega (arith, long_as more n le) in
+    ap (due subs) (sym (take-append-drop n more)) ∙ due_split 0 subs (take n more) (drop n more) ∙ ap (λ m. due subs (take n more) ++ due_from m subs (drop n more)) size
+
+left : (n : ℕ) (subs : List Subscription) (more : List EventView) → n ≤ length more → due (marked n subs) more ≡ due_from n subs (drop n more)
+left n subs more le =
+    parted n (marked n subs) more le
+    ∙ ap (λ fs. fs ++ due_from n (marked n subs) (drop n more)) (due_start n (marked n subs) more le (marks_above n subs))
+    ∙ behind_same n n subs (drop n more) (omega arith)
+
+kept_whole : (n : ℕ) (subs : List Subscription) (events more : List EventView) → n ≤ length events → IsPrefix events more → due subs more ≡ due subs (take n events) ++ due (marked n subs) more
+kept_whole n subs events more le p =
+    let long : length events ≤ length more = omega (arith, length-append events p.0, ap length p.1) in
+    let same : take n more ≡ take n events = ap (take n) (sym p.1) ∙ take-append-le n events p.0 le in
+    parted n subs more (omega (arith, le, long))
+    ∙ ap (λ xs. due subs xs ++ due_from n subs (drop n more)) same
+    ∙ ap (λ fs. due subs (take n events) ++ fs) (sym (left n subs more (omega (arith, le, long))))
+
+pub catches_up : (events : List EventView) (n : ℕ) (out : List Form) (old new : Kept) → n ≤ length events → out ≡ due old.subs (take n events) → new ≡ kept_of (marked n old.subs) old.sessions → CatchesUp events n out old new
+catches_up events n out old new le given moved = record {
+  within = le;
+  given = given;
+  marks = moved ∙ ap (λ m. kept_of (marked m old.subs) old.sessions) (sym (long_as events n le));
+  nothing_lost = λ more p. kept_whole n old.subs events more le p ∙ ap₂ (λ a b. a ++ b) (sym given) (ap (λ (k : Kept). due k.subs more) (sym moved));
+}
 
 sent_more : (p : ℕ) (e : EventView) (s : Subscription) (subs : List Subscription) → sent_at p e (s ∷ []) ++ sent_at p e subs ≡ sent_at p e (s ∷ subs)
 sent_more p e s subs = elim (is_due p e s) as (λ b. map (λ (t : Subscription). event_to t.name e) (cond b (s ∷ []) []) ++ sent_at p e subs ≡ map (λ (t : Subscription). event_to t.name e) (cond b (s ∷ filter (is_due p e) subs) (filter (is_due p e) subs))) [

@@ -6,9 +6,7 @@ use Rattle.neg_codec.specs.declared.CodecFault.TheVariants as codec
 use Rattle.neg_codec.specs.Ranges.{Span}
 use Rattle.neg_codec.specs.Text.{Spells}
 use Rattle.neg_codec.specs.Reading.{longest, message_at}
-use Rattle.item_roll.specs.Truth.{Follows}
-use Rattle.neg_draft.specs.Coverage.{NoneEmpty}
-use Rattle.neg_responder.specs.Reply.{SkipsSame}
+use Rattle.neg_responder.specs.Reply.{Replies}
 use Rattle.nostr_event.specs.EventView.{EventView}
 use Rattle.nostr_filter.specs.declared.filter.Filter.{Filter}
 use Rattle.nostr_wire.specs.Forms.{Form}
@@ -32,7 +30,7 @@ subscribed_is name filters events pinned places wanted mark t k out whole found 
 -- ---- an answer
 
 pub is_answer : (limit : ℕ) (items : List Item) (query told answer : List ℕ) → answer ≡ told → ¬ IsBad query
-    → ((q : List Span) → length query ≤ longest → Spells query q → (r : List Span) × Spells told r × Follows items q r × SkipsSame limit (length told) items q r × NoneEmpty r)
+    → ((q : List Span) → length query ≤ longest → Spells query q → Replies limit items q told)
     → length told ≤ limit → ((b : ℕ) → message_at query ≡ Err (codec.Version b) → told ≡ 0x61 ∷ []) → IsAnswer limit items query answer
-is_answer limit items query told answer same good follows short version =
-    subst (IsAnswer limit items query) (sym same) (record { good = good; follows = follows; short = short; version = version })
+is_answer limit items query told answer same good replies short version =
+    subst (IsAnswer limit items query) (sym same) (record { good = good; replies = replies; short = short; version = version })

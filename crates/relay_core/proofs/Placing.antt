@@ -13,7 +13,7 @@ use Rattle.std.proofs.lemmas.Map.Lookups.{exact_bytes}
 use Rattle.std.proofs.lemmas.Slice.Eq.{bytes_eq-Decides}
 use Rattle.relay_core.specs.declared.subs.Subscription.{Subscription}
 use Rattle.relay_core.specs.Kept.{is_before, InOrder, put, other_subs}
-use Rattle.relay_core.specs.Due.{marked}
+use Rattle.relay_core.specs.Due.{further, marked}
 
 -- ---- the order of names
 
@@ -108,17 +108,17 @@ in_order_either (Err e) s old new other h ok err = subst InOrder (sym err) h
 -- ---- marks
 
 set_more : (n : ℕ) (all : List Subscription) (i : ℕ) (d : Subscription) → i < length all
-    → slice_set (marked n (take i all) ++ drop i all) i (record { name = (slice_index_or (marked n (take i all) ++ drop i all) i d).name; filters = (slice_index_or (marked n (take i all) ++ drop i all) i d).filters; mark = n })
+    → slice_set (marked n (take i all) ++ drop i all) i (record { name = (slice_index_or (marked n (take i all) ++ drop i all) i d).name; filters = (slice_index_or (marked n (take i all) ++ drop i all) i d).filters; mark = further (slice_index_or (marked n (take i all) ++ drop i all) i d).mark n })
     ≡ marked n (take (suc i) all) ++ drop (suc i) all
 set_more n [] i d lt = absurd (omega arith)
 set_more n (s ∷ all) zero d lt = refl
-set_more n (s ∷ all) (suc i) d lt = ap (λ xs. record { name = s.name; filters = s.filters; mark = n } ∷ xs) (set_more n all i d (omega arith))
+set_more n (s ∷ all) (suc i) d lt = ap (λ xs. record { name = s.name; filters = s.filters; mark = further s.mark n } ∷ xs) (set_more n all i d (omega arith))
 
 pub marked_more : (n : ℕ) (all subs : List Subscription) (i k : ℕ) (d : Subscription) → k ≡ i + 1 → i < length all → subs ≡ marked n (take i all) ++ drop i all
-    → slice_set subs i (record { name = (slice_index_or subs i d).name; filters = (slice_index_or subs i d).filters; mark = n }) ≡ marked n (take k all) ++ drop k all
+    → slice_set subs i (record { name = (slice_index_or subs i d).name; filters = (slice_index_or subs i d).filters; mark = further (slice_index_or subs i d).mark n }) ≡ marked n (take k all) ++ drop k all
 marked_more n all subs i k d is lt so_far =
     let one : k ≡ suc i = omega (arith, is) in
-    ap (λ xs. slice_set xs i (record { name = (slice_index_or xs i d).name; filters = (slice_index_or xs i d).filters; mark = n })) so_far
+    ap (λ xs. slice_set xs i (record { name = (slice_index_or xs i d).name; filters = (slice_index_or xs i d).filters; mark = further (slice_index_or xs i d).mark n })) so_far
     ∙ set_more n all i d lt ∙ ap (λ m. marked n (take m all) ++ drop m all) (sym one)
 
 marked_len : (n : ℕ) (subs : List Subscription) → length (marked n subs) ≡ length subs

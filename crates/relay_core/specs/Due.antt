@@ -1,5 +1,6 @@
 -- What was published since the subscriptions were last served.
-use Rattle.std.specs.Prelude.{ℕ, ◌+◌, ◌&&◌, List, [], ◌∷◌, ◌++◌, Bool, map, filter, nat_le, length}
+use Rattle.std.specs.Prelude.{◌≡◌, ℕ, ◌+◌, ◌≤◌, ◌&&◌, List, [], ◌∷◌, ◌++◌, Bool, map, filter, nat_le, nat_lt, if◌then◌else◌, length, take}
+use mathlib.Core.List.{IsPrefix}
 use Rattle.std.specs.List.{list_any}
 use Rattle.nostr_event.specs.EventView.{EventView}
 use Rattle.nostr_filter.specs.Matching.{matches_of}
@@ -24,9 +25,21 @@ due_from p subs (e ∷ events) = sent_at p e subs ++ due_from (p + 1) subs event
 abbrev pub due : List Subscription → List EventView → List Form
 due subs events = due_from 0 subs events
 
--- the mark of each subscription stands at the front n
+-- the further of two marks
+abbrev pub further : ℕ → ℕ → ℕ
+further a b = if nat_lt a b then b else a
+
+-- the mark of each subscription stands at the front n, or where it was if that is further
 abbrev pub marked : ℕ → List Subscription → List Subscription
-marked n subs = map (λ (s : Subscription). record s { mark = n }) subs
+marked n subs = map (λ (s : Subscription). record s { mark = further s.mark n }) subs
 
 abbrev pub caught_up : List EventView → Kept → Kept
 caught_up events t = kept_of (marked (length events) t.subs) t.sessions
+
+-- A catch-up gives what is due of the first events up to some front, and moves the marks there. Nothing is lost or repeated by that:
+-- what was due of these events, or of more that are published behind them, is what was given and what is due then.
+pub record CatchesUp (events : List EventView) (front : ℕ) (out : List Form) (old new : Kept) : Type 0 where
+  pub within : front ≤ length events
+  pub given : out ≡ due old.subs (take front events)
+  pub marks : new ≡ caught_up (take front events) old
+  pub nothing_lost : (more : List EventView) → IsPrefix events more → due old.subs more ≡ out ++ due new.subs more

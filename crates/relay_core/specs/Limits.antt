@@ -9,3 +9,8 @@ pub record AreWithin (subs filters text sessions records limit : ℕ) : Type 0 w
   pub most_records : records ≤ 500000
   pub least_limit : 4096 ≤ limit
   pub most_limit : limit ≤ 1048576
+
+-- how many bytes the values of a connection's open subscriptions may have together, an id or an author 32 and a kind 2, and a value of
+-- a tag 4 beside its own
+abbrev pub most_values : ℕ
+most_values = 4000000

@@ -7,9 +7,7 @@ use Rattle.neg_codec.specs.Ranges.{Span}
 use Rattle.neg_codec.specs.Text.{Spells}
 use Rattle.neg_codec.specs.Reading.{longest, message_at}
 use Rattle.item_roll.specs.Parts.{IsRoll}
-use Rattle.item_roll.specs.Truth.{Follows}
-use Rattle.neg_draft.specs.Coverage.{NoneEmpty}
-use Rattle.neg_responder.specs.Reply.{SkipsSame, Refuses}
+use Rattle.neg_responder.specs.Reply.{Replies, Refuses}
 use Rattle.nostr_event.specs.EventView.{EventView, item_of}
 use Rattle.nostr_filter.specs.declared.filter.Filter.{Filter}
 use Rattle.event_store.specs.Events.{matching, Pinned}
@@ -26,10 +24,11 @@ session name snapshot = record { name = name; snapshot = snapshot }
 abbrev pub IsBad : List ℕ → Type 0
 IsBad query = (f : CodecFault) × (message_at query ≡ Err f) × Refuses f
 
--- the responder's answer for the items, in at most so many bytes: it follows them, and to another version it is this one's byte
+-- the responder's answer for the items, in at most so many bytes: to a message it is their own reply, and to another version it is
+-- this one's byte
 pub record IsAnswer (limit : ℕ) (items : List Item) (query answer : List ℕ) : Type 0 where
   pub good : ¬ IsBad query
-  pub follows : (q : List Span) → length query ≤ longest → Spells query q → (r : List Span) × Spells answer r × Follows items q r × SkipsSame limit (length answer) items q r × NoneEmpty r
+  pub replies : (q : List Span) → length query ≤ longest → Spells query q → Replies limit items q answer
   pub short : length answer ≤ limit
   pub version : (b : ℕ) → message_at query ≡ Err (codec.Version b) → answer ≡ 0x61 ∷ []
 
@@ -53,17 +52,17 @@ GoesOn limits name query t turn =
     (turn ≡ says_one (ended name (codes "closed: no such session")) t)
     (λ s. Answers limits.limit s.roll name query t turn)
 
--- The session keeps what was pinned, unless that is too much, and the message is the first that it answers.
+-- The session keeps what was pinned, and the message is the first that it answers.
 abbrev pub Begins : RelayLimits → Pinned → List ℕ → List ℕ → Kept → Turn → Type 0
-Begins limits s name query t turn =
-    MatchBool (nat_lt limits.records (length s.roll))
-    (turn ≡ says_one (ended name (codes "blocked: this query is too big")) t)
-    (GoesOn limits name query (kept_of t.subs (t.sessions ++ session name s ∷ [])) turn)
+Begins limits s name query t turn = GoesOn limits name query (kept_of t.subs (t.sessions ++ session name s ∷ [])) turn
 
--- NEG-OPEN ends the session of its name first, also where it is refused. The filter's limit has no part in it.
+-- NEG-OPEN ends the session of its name first, also where it is refused, as where too many events match. The filter's limit has no
+-- part in it.
 abbrev pub Opens : RelayLimits → List EventView → List ℕ → Filter → List ℕ → Kept → Turn → Type 0
 Opens limits events name filter query t turn =
     let rest = without_session name t in
     MatchBool (nat_le limits.sessions (length rest.sessions))
     (turn ≡ says_one (ended name (codes "blocked: too many sessions")) rest)
-    ((s : Pinned) × IsPin filter events s × Begins limits s name query rest turn)
+    (MatchBool (nat_lt limits.records (length (matching filter events)))
+    (turn ≡ says_one (ended name (codes "blocked: this query is too big")) rest)
+    ((s : Pinned) × IsPin filter events s × Begins limits s name query rest turn))

@@ -1,26 +1,28 @@
 //! One connection.
-ghost use Rattle.std.specs.Prelude.{◌≡◌, ◌⊎◌, Some, None, [], map, IfOk, IfErr, MatchResult};
+ghost use Rattle.std.specs.Prelude.{◌≡◌, ◌≤◌, ◌⊎◌, Some, None, [], length, map, nat_eq, IfOk, IfErr};
 ghost use mathlib.Core.List.{IsPrefix};
 ghost use Rattle.nostr_wire.specs.Forms.{relay_form};
 ghost use Rattle.relay_core.specs.Kept.{kept_of};
 ghost use Rattle.relay_core.specs.Turns.{turn_of};
 ghost use Rattle.relay_core.specs.Serving.{Serves};
 ghost use Rattle.relay_core.specs.Stored.{placed_answer, fault_answer};
-ghost use Rattle.relay_core.specs.Due.{due, caught_up};
+ghost use Rattle.relay_core.specs.Due.{CatchesUp};
 ghost use Rattle.relay_core.specs.Asking.{TextAsks};
 ghost use Rattle.relay_core.specs.Faults.{GoesOnBy, RefusesRightly};
 
-use crate::catching::catch_up;
+use crate::catching::{Caught, catch_up};
 use crate::fault::ConnFault;
 use crate::limits::RelayLimits;
 use crate::messages::okay;
 use crate::serving::serve_text;
 use crate::step::Step;
+use crate::storing::StoringFault;
 use crate::talk::Talk;
+use event_log::Kept;
 use event_store::{InsertFault, Naming, Placed, Reader};
 use neg_codec::Id;
 use nostr_wire::FromRelay;
-use std::alloc::{AllocError, Global};
+use std::alloc::Global;
 use std::marker::Model;
 
 /// One connection, which has no subscription and no session to begin with. Contracts see it as a `Connection`.
@@ -70,16 +72,16 @@ impl Conn {
         Ok(step)
     }
 
-    /// Tells the client whether its event is in the store. The reader learns of one that was placed.
-    pub fn stored<J: Naming>(
+    /// Tells the client that its event is in the store, and kept there. The reader learns of it.
+    pub fn stored<J: Naming, M>(
         &mut self,
         reader: &mut Reader<J>,
-        id: Id,
-        placed: Result<&Placed<J>, &InsertFault<J>>,
+        placed: &Placed<J>,
+        kept: &Kept<J, M>,
     ) -> Result<FromRelay, ConnFault>
-        requires { IfOk placed (λ p. p.now.id ≡ id) }
-        ensures answer { IfOk result (λ m. MatchResult placed.entry (λ p. relay_form m ≡ placed_answer id p.now.fresh) (λ f. relay_form m ≡ fault_answer id f.now)) }
-        ensures learnt { IfOk result (λ _. IfOk placed.entry (λ p. IsPrefix p.now.list reader.new)) }
+        requires kept { length placed.now.list ≤ length kept.now }
+        ensures answer { IfOk result (λ m. relay_form m ≡ placed_answer placed.now.id placed.now.fresh) }
+        ensures learnt { IfOk result (λ _. IsPrefix placed.now.list reader.new) }
         ensures kept { IfOk result (λ _. GoesOnBy (λ old new. new ≡ old) self.old.kept self.new.kept) }
         ensures refused { IfErr result (λ f. RefusesRightly (λ _. ⊥) self.old.kept f self.new.kept) }
         ensures limits { self.new.limits ≡ self.old.limits }
@@ -88,7 +90,39 @@ impl Conn {
         let Some(talk) = self.talk.take() else {
             return Err(ConnFault::Closed);
         };
-        let Ok(message) = told(self.alloc, reader, id, placed) else {
+        reader.learn(placed);
+        let text = if placed.is_fresh() {
+            ""
+        } else {
+            "duplicate: already have this event"
+        };
+        let Ok(message) = okay(self.alloc, placed.id(), true, text) else {
+            return Err(ConnFault::Memory);
+        };
+        self.talk = Some(talk);
+        Ok(message)
+    }
+
+    /// Tells the client why its event isn't in the store, or isn't kept there.
+    pub fn unstored<J: Naming>(
+        &mut self,
+        id: Id,
+        fault: &StoringFault<J>,
+    ) -> Result<FromRelay, ConnFault>
+        ensures answer { IfOk result (λ m. relay_form m ≡ fault_answer id fault.now) }
+        ensures kept { IfOk result (λ _. GoesOnBy (λ old new. new ≡ old) self.old.kept self.new.kept) }
+        ensures refused { IfErr result (λ f. RefusesRightly (λ _. ⊥) self.old.kept f self.new.kept) }
+        ensures limits { self.new.limits ≡ self.old.limits }
+    {
+        let Some(talk) = self.talk.take() else {
+            return Err(ConnFault::Closed);
+        };
+        let text = match fault {
+            StoringFault::Refused(InsertFault::Full(_)) => "error: the store is full",
+            StoringFault::Refused(InsertFault::Memory) => "error: out of memory",
+            StoringFault::Unkept => "error: the events file can't be written",
+        };
+        let Ok(message) = okay(self.alloc, id, false, text) else {
             return Err(ConnFault::Memory);
         };
         self.talk = Some(talk);
@@ -96,12 +130,10 @@ impl Conn {
     }
 
     /// What was published since the last time, each event once to each subscription with a filter that matches it: in the order
-    /// of publishing, and for each event in the byte order of the subscriptions' names.
-    pub fn catch_up<J: Naming>(
-        &mut self,
-        reader: &mut Reader<J>,
-    ) -> Result<Vec<FromRelay>, ConnFault>
-        ensures due { IfOk result (λ v. GoesOnBy (λ old new. (map relay_form v.items ≡ due old.subs reader.new) × (new ≡ caught_up reader.new old)) self.old.kept self.new.kept) }
+    /// of publishing, and for each event in the byte order of the subscriptions' names. Where that is much it comes in several calls.
+    pub fn catch_up<J: Naming>(&mut self, reader: &mut Reader<J>) -> Result<Caught, ConnFault>
+        ensures caught { IfOk result (λ c. GoesOnBy (CatchesUp reader.new c.front (map relay_form c.out.items)) self.old.kept self.new.kept) }
+        ensures all { IfOk result (λ c. c.is_all ≡ nat_eq c.front (length reader.new)) }
         ensures refused { IfErr result (λ f. RefusesRightly (λ _. reader.new ≡ reader.old) self.old.kept f self.new.kept) }
         ensures limits { self.new.limits ≡ self.old.limits }
         ensures reader { IsPrefix reader.old reader.new }
@@ -109,33 +141,8 @@ impl Conn {
         let Some(mut talk) = self.talk.take() else {
             return Err(ConnFault::Closed);
         };
-        let out = catch_up(&mut talk, self.alloc, reader)?;
+        let caught = catch_up(&mut talk, self.alloc, reader)?;
         self.talk = Some(talk);
-        Ok(out)
-    }
-}
-
-// Tells whether the event is in the store.
-fn told<J: Naming>(
-    alloc: Global,
-    reader: &mut Reader<J>,
-    id: Id,
-    placed: Result<&Placed<J>, &InsertFault<J>>,
-) -> Result<FromRelay, AllocError>
-    ensures answer { IfOk result (λ m. MatchResult placed.entry (λ p. relay_form m ≡ placed_answer id p.now.fresh) (λ f. relay_form m ≡ fault_answer id f.now)) }
-    ensures learnt { IfOk placed.entry (λ p. IsPrefix p.now.list reader.new) }
-    ensures reader { IsPrefix reader.old reader.new }
-{
-    match placed {
-        Ok(placed) => {
-            reader.learn(placed);
-            if placed.is_fresh() {
-                okay(alloc, id, true, "")
-            } else {
-                okay(alloc, id, true, "duplicate: already have this event")
-            }
-        }
-        Err(InsertFault::Full(_)) => okay(alloc, id, false, "error: the store is full"),
-        Err(InsertFault::Memory) => okay(alloc, id, false, "error: out of memory"),
+        Ok(caught)
     }
 }

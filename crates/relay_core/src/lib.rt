@@ -10,10 +10,13 @@ mod requests;
 mod serving;
 mod sessions;
 mod step;
+mod storing;
 mod subs;
 mod talk;
 
+pub use catching::Caught;
 pub use conn::Conn;
 pub use fault::ConnFault;
 pub use limits::RelayLimits;
 pub use step::Step;
+pub use storing::StoringFault;

@@ -1,5 +1,5 @@
 //! Requests for events (REQ of NIP-01).
-ghost use Rattle.std.specs.Prelude.{◌≡◌, List, [], ◌∷◌, ◌++◌, false, map, filter_map, slice_get, option_to_list, bytes_eq, IfOk, IfErr, OnOk};
+ghost use Rattle.std.specs.Prelude.{◌≡◌, ◌≤◌, ◌+◌, ◌-◌, List, [], ◌∷◌, ◌++◌, false, nat_le, map, filter_map, slice_get, option_to_list, bytes_eq, IfOk, IfErr, OnOk, SomeIff};
 ghost use Rattle.std.specs.List.{list_any};
 ghost use Rattle.std.specs.Arc.{arc_value};
 ghost use Rattle.std.specs.declared.alloc.Global.{Global as AGlobal};
@@ -7,11 +7,13 @@ ghost use Rattle.std.specs.declared.sync.Arc.{Arc as AnArc};
 ghost use mathlib.Core.List.{IsPrefix};
 ghost use Rattle.nostr_event.specs.EventView.{EventView};
 ghost use Rattle.nostr_filter.specs.Choice.{chosen};
+ghost use Rattle.nostr_filter.specs.Sizes.{sizes_of};
 ghost use Rattle.nostr_wire.specs.Forms.{relay_form};
 ghost use Rattle.nostr_wire.specs.declared.messages.FromClient.{FromClient};
 ghost use Rattle.relay_core.specs.Asking.{Asks};
+ghost use Rattle.relay_core.specs.Limits.{most_values};
 ghost use Rattle.relay_core.specs.Messages.{event_to};
-ghost use Rattle.relay_core.specs.Requests.{stored_events as all_stored, subscribed, Requests};
+ghost use Rattle.relay_core.specs.Requests.{stored_events as all_stored, open_sizes, subscribed, Requests};
 ghost use Rattle.relay_core.specs.Turns.{turn_of};
 
 use crate::fault::Broken;
@@ -22,8 +24,12 @@ use crate::subs::Subscription;
 use crate::talk::Talk;
 use event_store::{EventList, Naming, Reader};
 use nostr_event::Event;
+use nostr_filter::room_behind;
 use nostr_wire::{Filters, FromRelay, Sub};
 use std::alloc::{AllocError, Global};
+
+// So many bytes the values of all open subscriptions may have.
+const MOST_VALUES: usize = 4_000_000;
 
 // Whether the event's text is there, which is to read where it begins.
 fn has_text(event: &Event) -> bool {
@@ -102,6 +108,30 @@ fn subscribe<J: Naming>(
     Ok(Step { out, store: None })
 }
 
+// What is left of the room behind the values of the subscriptions, if these fit.
+fn room_behind_subs(room: usize, subs: &[Subscription]) -> Option<usize>
+    ensures { SomeIff result (open_sizes subs.now ≤ room) (room - open_sizes subs.now) }
+{
+    let mut left = room;
+    for sub in subs {
+        match room_behind(left, sub.filters.as_slice()) {
+            Some(rest) => left = rest,
+            None => return None,
+        }
+    }
+    Some(left)
+}
+
+// Whether the values of the subscriptions and those of the filters are together no more than they may be.
+fn are_within(subs: &[Subscription], filters: &Filters) -> bool
+    ensures { result ≡ nat_le (open_sizes subs.now + sizes_of filters.now) most_values }
+{
+    match room_behind_subs(MOST_VALUES, subs) {
+        Some(room) => room_behind(room, filters.as_slice()).is_some(),
+        None => false,
+    }
+}
+
 /// Serves a request, which ends the subscription of its name.
 pub fn request<J: Naming>(
     talk: &mut Talk,
@@ -117,6 +147,10 @@ pub fn request<J: Naming>(
 {
     talk.end_sub(&name);
     if filters.as_slice().len() > limits.filters {
+        let message = closed(alloc, name, "blocked: too many filters")?;
+        return Ok(Step::one(alloc, message)?);
+    }
+    if !are_within(talk.subs(), &filters) {
         let message = closed(alloc, name, "blocked: too many filters")?;
         return Ok(Step::one(alloc, message)?);
     }

@@ -14,7 +14,7 @@ use crate::sessions;
 use crate::step::Step;
 use crate::talk::Talk;
 use event_store::{Naming, Reader};
-use nostr_wire::{FromClient, WireFault, read_client};
+use nostr_wire::{FromClient, WireFault, read_client_few};
 use std::alloc::{AllocError, Global};
 
 // Tells why a text is no message.
@@ -91,7 +91,7 @@ pub fn serve_text<J: Naming>(
         let message = notice(alloc, "invalid: message too long")?;
         return Ok(Step::one(alloc, message)?);
     }
-    match read_client(alloc, text) {
+    match read_client_few(alloc, text, limits.filters) {
         Ok(message) => bring(talk, alloc, limits, reader, message),
         Err(fault) => Ok(refuse(alloc, fault)?),
     }

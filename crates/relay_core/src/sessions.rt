@@ -96,9 +96,6 @@ fn begin(
 ) -> Result<Step, AllocError>
     ensures { IfOk result (λ s. Begins limits.now snapshot name query.now talk.old (turn_of s talk.new)) }
 {
-    if snapshot.roll().len() > limits.records {
-        return Step::one(alloc, ended(alloc, name, "blocked: this query is too big")?);
-    }
     let own = copied(alloc, &name)?;
     talk.put_session(Session {
         name: own,
@@ -126,6 +123,11 @@ pub fn open<J: Naming>(
         let message = ended(alloc, name, "blocked: too many sessions")?;
         return Ok(Step::one(alloc, message)?);
     }
-    let snapshot = reader.pin(alloc, filter)?;
-    Ok(begin(talk, alloc, limits, name, snapshot, query)?)
+    match reader.pin_few(alloc, filter, limits.records)? {
+        Some(snapshot) => Ok(begin(talk, alloc, limits, name, snapshot, query)?),
+        None => {
+            let message = ended(alloc, name, "blocked: this query is too big")?;
+            Ok(Step::one(alloc, message)?)
+        }
+    }
 }

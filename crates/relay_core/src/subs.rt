@@ -2,7 +2,7 @@
 ghost use Rattle.std.specs.Prelude.{◌≡◌, ◌≤◌, length, OnOk, OnErr};
 ghost use Rattle.std.specs.List.{insert};
 ghost use Rattle.relay_core.specs.Kept.{is_before, other_subs, put as put_in_place};
-ghost use Rattle.relay_core.specs.Due.{marked};
+ghost use Rattle.relay_core.specs.Due.{further as further_of, marked};
 
 use nostr_wire::{Filters, Sub};
 use std::alloc::AllocError;
@@ -52,11 +52,18 @@ pub fn put(subs: &mut Vec<Subscription>, sub: Subscription) -> Result<(), AllocE
     Ok(())
 }
 
-/// Sets the mark of each subscription.
+// The further of two marks.
+fn further(a: usize, b: usize) -> usize
+    ensures { result ≡ further_of a b }
+{
+    if a < b { b } else { a }
+}
+
+/// Moves the mark of each subscription to the front, unless it is further.
 pub fn mark_all(subs: &mut [Subscription], front: usize)
     ensures { subs.new ≡ marked front subs.old }
 {
     for sub in subs.iter_mut() {
-        sub.mark = front;
+        sub.mark = further(sub.mark, front);
     }
 }

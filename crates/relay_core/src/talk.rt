@@ -86,7 +86,7 @@ impl Talk {
         Ok(())
     }
 
-    /// Sets the mark of each subscription.
+    /// Moves the mark of each subscription to the front, unless it is further.
     pub fn mark_all(&mut self, front: usize)
         ensures { self.new ≡ kept_of (marked front self.old.subs) self.old.sessions }
     {

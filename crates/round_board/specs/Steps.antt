@@ -1,5 +1,5 @@
 -- A lane's step on the word of a cell, beside a round's event on that cell.
-use Rattle.std.specs.Prelude.{◌≡◌, ℕ, ◌<◌, ◌==◌, true, cond, List, length, slice_index, Contains}
+use Rattle.std.specs.Prelude.{◌≡◌, ℕ, ◌+◌, ◌<◌, ◌==◌, true, cond, List, length, slice_index, Contains}
 use Rattle.atomic_table.specs.Table.{State}
 use Rattle.fetch_plan.specs.declared.cell.Cell.{Cell}
 use Rattle.claim_board.specs.declared.records.LaneRecord.{LaneRecord}
@@ -17,24 +17,25 @@ pub record Agrees (i n : ℕ) (event : RoundEvent) (said told : Answer) (left : 
   pub answer : said ≡ told
   pub cell : cond (changes i event told) (left_cell event told) (cell_of n) ≡ cell_of left
 
--- In a round whose plan has cells of these relays, lane w is of the relay of cell i.
-module _ (relays lanes : List ℕ) (w i : ℕ) where
+-- In a round whose last plan has cells of these relays, the first of them numbered `first`, lane w is of the relay of the plan's cell i.
+module _ (relays lanes : List ℕ) (first w i : ℕ) where
   -- the round's answer, if nothing bars the lane from the cell
   abbrev pub unbarred : Answer → Answer
-  unbarred a = or_refused (barred true lanes 0 (length relays) (slice_index relays i) w i) a
+  unbarred a = or_refused (barred true lanes first (first + length relays) (slice_index relays i) w (first + i)) a
 
   -- A claim finds the word n. Where that is free, it is won, and names the lane as holder; else it stays, and is told.
   abbrev pub ClaimAgrees : ℕ → Type 0
-  ClaimAgrees n = Agrees i n (Claim w i) (unbarred (claim_answer (cell_of n))) (cond (n == 0) Won (Lost (cell_of n))) (cond (n == 0) (held_by w) n)
+  ClaimAgrees n = Agrees (first + i) n (Claim w (first + i)) (unbarred (claim_answer (cell_of n))) (cond (n == 0) Won (Lost (cell_of n))) (cond (n == 0) (held_by w) n)
 
   -- The ends of a holding, of which finish is of an id that is placed.
   pub record EndsAgree (n : ℕ) : Type 0 where
-    pub finish : Agrees i n (Finish w i) (unbarred (end_answer (cell_of n) w (finish_answer true))) Finished (done_by w)
-    pub miss : Agrees i n (Miss w i) (unbarred (end_answer (cell_of n) w MissedIt)) MissedIt (missed_by w)
-    pub release : Agrees i n (Release w i) (unbarred (end_answer (cell_of n) w Released)) Released 0
+    pub finish : Agrees (first + i) n (Finish w (first + i)) (unbarred (end_answer (cell_of n) w (finish_answer true))) Finished (done_by w)
+    pub miss : Agrees (first + i) n (Miss w (first + i)) (unbarred (end_answer (cell_of n) w MissedIt)) MissedIt (missed_by w)
+    pub release : Agrees (first + i) n (Release w (first + i)) (unbarred (end_answer (cell_of n) w Released)) Released 0
 
--- In every state that the board's rule allows, for each lane of a view and each cell of its relay. What the calls ask of a lane
+-- In every state that the board's rule allows, for each lane of a view and each cell of its relay, wherever the cells of the plan begin
+-- in the round. What the calls ask of a lane
 -- that ends a holding is that its list has the cell.
 abbrev pub StepsAgree : Type 0
-StepsAgree = (relays lanes : List ℕ) (s : State ℕ (List LaneRecord)) → Kept relays lanes s → (seat place : ℕ) (e : LaneRecord) → Stands s.views seat place e → (i : ℕ) → i < length relays → e.relay ≡ slice_index relays i
-    → ClaimAgrees relays lanes e.lane i (word s.words i) × (Contains e.held i → EndsAgree relays lanes e.lane i (word s.words i))
+StepsAgree = (relays lanes : List ℕ) (s : State ℕ (List LaneRecord)) → Kept relays lanes s → (seat place : ℕ) (e : LaneRecord) → Stands s.views seat place e → (first i : ℕ) → i < length relays → e.relay ≡ slice_index relays i
+    → ClaimAgrees relays lanes first e.lane i (word s.words i) × (Contains e.held i → EndsAgree relays lanes first e.lane i (word s.words i))

@@ -1,5 +1,5 @@
 -- What a cell is after a legal history.
-use Rattle.std.proofs.Common.{◌≡◌, ◌≢◌, ℕ, Bool, true, false, cond, ◌&&◌, ◌||◌, ◌⊎◌, List, [], refl, sym, ap, ◌∙◌, inl, inr, Option, Some, None}
+use Rattle.std.proofs.Common.{◌≡◌, ◌≢◌, ℕ, Bool, true, false, cond, ◌&&◌, ◌||◌, ◌⊎◌, List, [], ◌∷◌, ◌++◌, refl, sym, ap, ◌∙◌, inl, inr, Option, Some, None}
 use Rattle.std.specs.List.{list_any}
 use Rattle.std.proofs.lemmas.Bool.{false≢true, cases_Bool, eqb-true, eq-eqb, or_left, or_right}
 use Rattle.fetch_plan.specs.Plan.{Planned}
@@ -36,6 +36,11 @@ holder_is Missed v h = absurd (false≢true h)
 -- where a right answer changes a cell, the cell was free and is won, or was held by the lane that ends its holding
 abbrev Before : RoundEvent → Answer → Cell → Type 0
 Before e a c = ((c ≡ Free) × (is_won a ≡ true)) ⊎ ((w : ℕ) × (c ≡ Held w) × (is_of w e ≡ true) × (is_won a ≡ false))
+
+-- a beginning of what is legal is legal
+pub legal_front : (lanes : List ℕ) (plans : List Planned) (before h more : History) → legal_after lanes plans before (h ++ more) → legal_after lanes plans before h
+legal_front lanes plans before [] more l = tt
+legal_front lanes plans before (x ∷ h) more l = (l.0, legal_front lanes plans (before ++ x ∷ []) h more l.1)
 
 module _ (lanes : List ℕ) (plans : List Planned) where
   ends : (h : History) (v j i : ℕ) (e : RoundEvent) (a x : Answer) → j ≡ i → is_of v e ≡ true → is_won a ≡ false → a ≡ or_refused (barred_after lanes plans h v j) (cond (is_held_by (cell_after h j) v) x (Refused why.NotHeld)) → ((r : Refusal) → a ≢ Refused r) → Before e a (cell_after h i)

@@ -8,4 +8,4 @@ mod rules;
 
 pub(crate) use events::Touch;
 pub use events::{Answer, Refusal, RoundEvent};
-pub use round::{Round, cell_is, finished_once, one_holder};
+pub use round::{Round, cell_is, finished_once, legal_begins, one_holder};

@@ -169,9 +169,15 @@ impl Round {
     }
 }
 
-/// In a legal history a cell is held by one lane at most.
+/// Each beginning of a legal history is legal.
+pub fn legal_begins()
+    ensures { (lanes : List ℕ) (h more : History) → Legal lanes (h ++ more) → Legal lanes h }
+{}
+
+/// In a legal history, and so at each event of it, a cell is held by one lane at most.
 pub fn one_holder()
-    ensures { (lanes : List ℕ) (h : History) (w v i : ℕ) → Legal lanes h → IsTrue (holds h w i) → IsTrue (holds h v i) → w ≡ v }
+    ensures one { (lanes : List ℕ) (h : History) (w v i : ℕ) → Legal lanes h → IsTrue (holds h w i) → IsTrue (holds h v i) → w ≡ v }
+    ensures always { (lanes : List ℕ) (h more : History) (w v i : ℕ) → Legal lanes (h ++ more) → IsTrue (holds h w i) → IsTrue (holds h v i) → w ≡ v }
 {}
 
 /// What a cell is after a legal history: held by a lane just where the lane's last answer on it is Won, done just

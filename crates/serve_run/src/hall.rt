@@ -2,16 +2,18 @@
 
 use crate::client::Client;
 use crate::crew::{Shift, run_beside};
+use crate::keeping::{Clerk, Keeping};
 use event_store::{Desk, Naming, Reader};
 use relay_core::RelayLimits;
 use std::alloc::Global;
+use std::io::Write;
 use std::net::{Net, TcpListener, TcpStream};
 use std::rt::Clock;
 use std::sync::atomic::{AtomicBool, AtomicU64, Ordering};
 use std::sync::{Condvar, CondvarTimeouts, Mutex, Wait};
 use std::thread::{Threads, sleep};
 use std::time::Duration;
-use ws_link::serve_conn;
+use ws_serve::serve_kept;
 
 /// For how many milliseconds it is tried to wake a worker that waits for a connection.
 const WAKING: u64 = 100;
@@ -36,6 +38,8 @@ pub struct Hall<K> {
     push: Option<Duration>,
     timeout: Duration,
     desk: Mutex<K>,
+    // Held while a long text is read.
+    turn: Mutex<()>,
     // Whether serving is over, and what is told then.
     over: Mutex<bool>,
     ending: Condvar,
@@ -60,6 +64,7 @@ impl<K> Hall<K> {
             push,
             timeout,
             desk: Mutex::new(desk),
+            turn: Mutex::new(()),
             over: Mutex::new(false),
             ending: Condvar::new(),
         }
@@ -151,29 +156,34 @@ impl<K> Hall<K> {
 }
 
 /// Serves a connection with a reader.
-fn serve_one<J: Naming, D: Wait + Drop, R: Wait>(
+fn serve_one<J: Naming, D: Wait + Drop, R: Wait, C: Clock, E: Write + Drop>(
     rt: &R,
     alloc: Global,
-    hall: &Hall<Desk<J, D>>,
+    serving: &Serving<'_, '_, C, Desk<J, D>, Keeping<J, E>>,
     client: Client,
     reader: &mut Reader<J>,
 ) {
     let limits = RelayLimits::default();
-    let _ = serve_conn(rt, alloc, client, reader, &hall.desk, limits);
+    let clerk = Clerk {
+        clock: serving.clock,
+        keeping: serving.keeping,
+    };
+    let hall = serving.hall;
+    let (desk, turn) = (&hall.desk, &hall.turn);
+    let _ = serve_kept(rt, alloc, client, reader, desk, &clerk, turn, limits);
 }
 
 /// Serves one connection after another with a reader, until none is left, or until one came in, a further worker is wanted and
 /// a reader isn't lent: then gives these two.
-fn serve_each<J: Naming, D: Wait + Drop, R: Wait, C: Clock>(
+fn serve_each<J: Naming, D: Wait + Drop, R: Wait, C: Clock, E: Write + Drop>(
     rt: &R,
     alloc: Global,
-    clock: &C,
-    hall: &Hall<Desk<J, D>>,
+    serving: &Serving<'_, '_, C, Desk<J, D>, Keeping<J, E>>,
     spares: &Mutex<Vec<Reader<J>>>,
     reader: &mut Reader<J>,
 ) -> Option<(Client, Reader<J>)> {
-    for _ in 0..hall.conns {
-        let (client, is_wanted) = hall.awaited(clock)?;
+    for _ in 0..serving.hall.conns {
+        let (client, is_wanted) = serving.hall.awaited(serving.clock)?;
         let spare = if is_wanted {
             spares.lock(rt).pop()
         } else {
@@ -182,20 +192,21 @@ fn serve_each<J: Naming, D: Wait + Drop, R: Wait, C: Clock>(
         if let Some(spare) = spare {
             return Some((client, spare));
         }
-        serve_one(rt, alloc, hall, client, reader);
+        serve_one(rt, alloc, serving, client, reader);
     }
     None
 }
 
 /// Serves a hall's connections.
 #[derive(Clone, Copy)]
-struct Serving<'c, 'h, C, K> {
+struct Serving<'c, 'h, C, K, P> {
     clock: &'c C,
     hall: &'h Hall<K>,
+    keeping: &'h P,
 }
 
-impl<'c, 'h, C: Clock, J: Naming, D: Wait + Drop> Shift<Reader<J>>
-    for Serving<'c, 'h, C, Desk<J, D>> {
+impl<'c, 'h, C: Clock, J: Naming, D: Wait + Drop, E: Write + Drop> Shift<Reader<J>>
+    for Serving<'c, 'h, C, Desk<J, D>, Keeping<J, E>> {
     fn work<R: Wait>(
         &self,
         rt: &R,
@@ -203,11 +214,11 @@ impl<'c, 'h, C: Clock, J: Naming, D: Wait + Drop> Shift<Reader<J>>
         spares: &Mutex<Vec<Reader<J>>>,
         reader: &mut Reader<J>,
     ) -> Option<(Client, Reader<J>)> {
-        serve_each(rt, alloc, self.clock, self.hall, spares, reader)
+        serve_each(rt, alloc, self, spares, reader)
     }
 
     fn serve<R: Wait>(&self, rt: &R, alloc: Global, client: Client, reader: &mut Reader<J>) {
-        serve_one(rt, alloc, self.hall, client, reader);
+        serve_one(rt, alloc, self, client, reader);
     }
 
     fn end<R: Wait>(&self, rt: &R) {
@@ -223,12 +234,24 @@ pub fn serve_beside<
     R: Threads + Wait + Clock + Sync,
     J: Naming + Send + Sync,
     D: Wait + Drop + Send,
+    E: Write + Send + Drop,
     G: FnOnce() -> B,
     B,
->(rt: &R, alloc: Global, hall: &Hall<Desk<J, D>>, readers: Vec<Reader<J>>, work: G) -> B
+>(
+    rt: &R,
+    alloc: Global,
+    hall: &Hall<Desk<J, D>>,
+    keeping: &Keeping<J, E>,
+    readers: Vec<Reader<J>>,
+    work: G,
+) -> B
     requires { G.pre work }
     ensures { G.post work result }
 {
-    let serving = Serving { clock: rt, hall };
+    let serving = Serving {
+        clock: rt,
+        hall,
+        keeping,
+    };
     run_beside(rt, alloc, &serving, readers, work)
 }

@@ -1,18 +1,18 @@
-//! The job `serve`: connections are served from a store, which is filled from a file before, and written to it meanwhile and after.
+//! The job `serve`: connections are served from a store, which is filled from a file before, whose events are kept there.
 #![tactic(auto)]
 
 mod client;
 mod crew;
 mod hall;
-mod meanwhile;
+mod keeping;
 mod refusal;
 mod run;
 mod saving;
 mod workers;
 
 pub use hall::{Hall, serve_beside};
-pub use meanwhile::{Schedule, published, save_meanwhile};
+pub use keeping::{Keeping, keep_beside, keep_meanwhile, keeping_of};
 pub use refusal::{Refusal, read_refusal, write_refusal};
 pub use run::{open_hall, readers_for, run_serve, say};
-pub use saving::{begin, save};
+pub use saving::begin;
 pub use workers::{Duty, run_workers};

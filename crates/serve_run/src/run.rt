@@ -4,11 +4,10 @@ ghost use Rattle.std.specs.Prelude.{◌≡◌, OnOk};
 ghost use Rattle.std.specs.Io.KnownBytes.{Appends};
 
 use crate::hall::{Hall, serve_beside};
-use crate::meanwhile::{Schedule, published, save_meanwhile};
+use crate::keeping::{Keeping, keep_meanwhile, keeping_of};
 use crate::refusal::{Refusal, write_refusal};
-use crate::saving::{begin, save};
-use event_file::NewFile;
-use event_store::{Blank, Naming, Reader, open_store};
+use crate::saving::begin;
+use event_store::{Blank, Naming, open_store};
 use mirror_settings::{Address, Settings, SettingsKey, read_settings};
 use std::alloc::Global;
 use std::fs::File;
@@ -87,16 +86,15 @@ pub fn open_hall<K: Drop, R: Net<Listener = TcpListener, Stream = TcpStream>, W:
     Ok(Hall::new(listener, conns, push, timeout, desk))
 }
 
-/// Writes the events file, and tells how many connections and events there were.
-fn end<J: Naming, R: Files, W: Write>(
+/// Writes what is left to the events file, and tells how many connections and events there were.
+fn end<J: Naming, R: Wait + Files, W: Write, E: Write + Drop>(
     rt: &R,
     alloc: Global,
     conns: u64,
-    reader: &mut Reader<J>,
-    file: NewFile,
+    keeping: Keeping<J, E>,
     writer: &mut W,
 ) -> Result<(), Refusal> {
-    let events = save(rt, alloc, reader, file)?;
+    let events = keeping.finish(rt)?;
     let text = format!(in alloc; "served {conns}\nevents {events}\n")?;
     say(writer, text.as_str())
 }
@@ -112,6 +110,7 @@ fn run_named<
         + Clock
         + Sync,
     W: Write,
+    E: Write + Send + Drop,
 >(
     rt: &R,
     keep: D,
@@ -119,6 +118,7 @@ fn run_named<
     blank: Blank,
     settings: &Settings,
     writer: &mut W,
+    mut errors: E,
 ) -> Result<(), Refusal>
     requires book { blank ≡ J.book }
     requires most { J.most ≡ 1000000 }
@@ -131,31 +131,26 @@ fn run_named<
         return Err(Refusal::Store);
     };
     let path = settings.events.as_str();
-    let file = begin(rt, alloc, &mut desk, path)?;
+    let file = begin(rt, alloc, &mut desk, &mut reader, path, &mut errors)?;
     let hall = match open_hall(rt, alloc, settings, desk, writer) {
         Ok(hall) => hall,
         Err(refusal) => {
-            let _ = file.discard(rt);
+            file.discard(rt);
             return Err(refusal);
         }
     };
-    let every = settings.save_every();
-    let schedule = Schedule {
-        first: every,
-        every,
-        has: published(alloc, &mut reader),
-    };
-    serve_beside(rt, alloc, &hall, readers, || {
-        save_meanwhile(rt, alloc, &hall, schedule, &mut reader, &file)
+    let keeping = keeping_of(alloc, file, reader, errors, settings.fsync)?;
+    serve_beside(rt, alloc, &hall, &keeping, readers, || {
+        keep_meanwhile(rt, &hall, &keeping)
     });
     // The store's desk, in the hall, is there until the file is written.
-    let done = end(rt, alloc, conns, &mut reader, file, writer);
+    let done = end(rt, alloc, conns, keeping, writer);
     drop(hall);
     done
 }
 
-/// Reads settings, puts the events of the file into a store, listens, and serves so many connections as the settings say. The
-/// file is written meanwhile as often as the settings say, and in the end.
+/// Reads settings, puts the events of the file into a store, listens, and serves so many connections as the settings say. Events
+/// are kept in the file as they come in. Its faults, and what was torn off it, are told to `errors`.
 pub fn run_serve<
     R: Net<Listener = TcpListener, Stream = TcpStream>
         + Threads
@@ -164,7 +159,8 @@ pub fn run_serve<
         + Clock
         + Sync,
     W: Write,
->(rt: &R, alloc: Global, text: &str, writer: &mut W) -> Result<(), Refusal> {
+    E: Write + Send + Drop,
+>(rt: &R, alloc: Global, text: &str, writer: &mut W, errors: E) -> Result<(), Refusal> {
     let settings = read_settings(alloc, text, false)?;
-    run_named::<Brand, &R, R, W>(rt, rt, alloc, Blank::new(), &settings, writer)
+    run_named::<Brand, &R, R, W, E>(rt, rt, alloc, Blank::new(), &settings, writer, errors)
 }

@@ -2,16 +2,18 @@
 
 ghost use Rattle.std.specs.Prelude.{◌≡◌, ◌<◌, ◌^◌, ◌-◌, All, IfOk, IfSome, length};
 
-use crate::links::{SourcePlace, connect_all};
-use crate::progress::Progress;
+use crate::links::{SourcePlace, connect_all, name_of};
+use crate::progress::{Progress, RelayLine};
 use crate::told::ToldSource;
 use claim_board::{Board, BoardFault, Cell};
 use event_store::{Desk, Naming};
 use fetch_plan::Plan;
-use mirror_core::{End, FetchFault, Source, fetch_all};
+use mirror_core::{End, FetchFault, Source, SourceFault, Stop, fetch_all};
 use mirror_settings::Settings;
+use offer_table::RelaySet;
 use serve_run::Refusal;
 use std::alloc::{AllocError, Global};
+use std::io::Write;
 use std::net::{Net, TcpListener, TcpStream};
 use std::random::RandomSource;
 use std::sync::{Mutex, Wait};
@@ -52,6 +54,15 @@ pub fn counts_of(cells: &[Cell]) -> Counts {
     counts
 }
 
+/// What a round came to: what became of each id of its plan, which relays stopped before they came to all of theirs, and whether
+/// the store is full.
+#[derive(Drop)]
+pub struct Round {
+    pub cells: Vec<Cell>,
+    pub stopped: RelaySet,
+    pub is_full: bool,
+}
+
 /// A source over a connection.
 type Fetcher<'a, R, P> = ToldSource<'a, WsSource<TcpStream, RandomKeys<&'a R>>, R, P>;
 
@@ -64,6 +75,68 @@ pub fn finished_of(alloc: Global, ends: Vec<End>) -> Result<Vec<u16>, AllocError
         }
     }
     Ok(finished)
+}
+
+/// The relays that a plan gives ids to.
+pub fn planned(plan: &Plan) -> RelaySet {
+    let mut planned = RelaySet::empty();
+    for at in 0..plan.len() {
+        let (_id, relay) = plan.cell(at);
+        if relay < 256 {
+            planned = planned.with(relay);
+        }
+    }
+    planned
+}
+
+/// The relays but those that stopped and are given no id.
+pub fn asked_of(
+    alloc: Global,
+    relays: &[u16],
+    planned: RelaySet,
+    stopped: RelaySet,
+) -> Result<Vec<u16>, AllocError> {
+    let mut asked = Vec::new(alloc);
+    for relay in relays {
+        if planned.has(*relay) || !stopped.has(*relay) {
+            asked.push(*relay)?;
+        }
+    }
+    Ok(asked)
+}
+
+/// The relays of these that no source stands for.
+fn unreached(planned: RelaySet, relays: &[u16]) -> RelaySet {
+    let mut unreached = planned;
+    for relay in relays {
+        if *relay < 256 {
+            unreached = unreached.minus(RelaySet::one(*relay));
+        }
+    }
+    unreached
+}
+
+/// The relays of which a source failed.
+fn failed<J: Naming>(relays: &[u16], stops: &[Stop<J>]) -> RelaySet {
+    let mut failed = RelaySet::empty();
+    for at in 0..relays.len() {
+        if at < stops.len() && relays[at] < 256 {
+            if matches!(&stops[at], Stop::Source(SourceFault::Failed)) {
+                failed = failed.with(relays[at]);
+            }
+        }
+    }
+    failed
+}
+
+/// Whether a worker found the store full.
+fn met_full<J: Naming>(stops: &[Stop<J>]) -> bool {
+    for stop in stops {
+        if matches!(stop, Stop::Full(_)) {
+            return true;
+        }
+    }
+    false
 }
 
 /// Places for sources at the relays, for each as many as there are workers.
@@ -81,11 +154,48 @@ fn places_of<S: Drop, K: Drop>(
     Ok(places)
 }
 
-/// Sources at the relays, which are connected to side by side, and the relay of each.
+/// The source of a place, and its relay. Why there is none is told.
+fn source_in<
+    'a,
+    R: Net<Listener = TcpListener, Stream = TcpStream> + RandomSource + Threads + Wait + Sync,
+    P: Write,
+>(
+    rt: &'a R,
+    alloc: Global,
+    settings: &Settings,
+    place: SourcePlace<TcpStream, RandomKeys<&'a R>>,
+    progress: &'a Progress<P>,
+) -> Result<Option<(Fetcher<'a, R, P>, u16)>, Refusal>
+    ensures { IfOk result (λ o. IfSome o (λ found. found.0.source.faults < 2 ^ 64 - 1)) }
+{
+    let (relay, found, notes) = place.into_parts()?;
+    let name = name_of(alloc, settings, usize::from(relay))?;
+    if let Some(source) = found {
+        let fetcher = ToldSource {
+            source,
+            relay: usize::from(relay),
+            name,
+            rt,
+            progress,
+        };
+        return Ok(Some((fetcher, relay)));
+    }
+    progress.fail(
+        rt,
+        RelayLine {
+            relay: usize::from(relay),
+            name: name.as_str(),
+            why: &notes,
+        },
+    );
+    Ok(None)
+}
+
+/// Sources at the relays, which are connected to side by side, and the relay of each. Why one can't be reached is told.
 pub fn sources_of<
     'a,
     R: Net<Listener = TcpListener, Stream = TcpStream> + RandomSource + Threads + Wait + Sync,
-    P,
+    P: Write,
 >(
     rt: &'a R,
     alloc: Global,
@@ -100,14 +210,9 @@ pub fn sources_of<
     let mut sources = Vec::new(alloc);
     let mut relays = Vec::new(alloc);
     for place in places {
-        let (relay, found) = place.into_parts()?;
-        if let Some(source) = found {
+        if let Some((source, relay)) = source_in(rt, alloc, settings, place, progress)? {
+            sources.push(source)?;
             relays.push(relay)?;
-            sources.push(ToldSource {
-                source,
-                rt,
-                progress,
-            })?;
         }
     }
     Ok((sources, relays))
@@ -118,6 +223,17 @@ fn free_cells(alloc: Global, count: usize) -> Result<Vec<Cell>, AllocError>
     ensures { IfOk result (λ v. length v.items ≡ count) }
 {
     Vec::from_elem(alloc, Cell::Free, count)
+}
+
+/// A round in which nobody was asked.
+fn unasked(alloc: Global, plan: &Plan, stopped: RelaySet) -> Result<Round, Refusal>
+    ensures { IfOk result (λ round. length round.cells.items ≡ length plan.now.gives) }
+{
+    Ok(Round {
+        cells: free_cells(alloc, plan.len())?,
+        stopped,
+        is_full: false,
+    })
 }
 
 /// Fetches what a plan gives from these sources, each at the relay beside it, and tells what became of each of its ids.
@@ -133,21 +249,26 @@ pub fn fetched<
     sources: &mut [S],
     relays: &[u16],
     desk: &Mutex<Desk<J, D>>,
-) -> Result<Vec<Cell>, Refusal>
+) -> Result<Round, Refusal>
     requires { All (λ s. S.faults s < 2 ^ 64 - 1) sources.old }
-    ensures { IfOk result (λ v. length v.items ≡ length plan.now.gives) }
+    ensures { IfOk result (λ round. length round.cells.items ≡ length plan.now.gives) }
 {
+    let unreached = unreached(planned(plan), relays);
     if plan.len() == 0 {
-        return Ok(free_cells(alloc, plan.len())?);
+        return unasked(alloc, plan, unreached);
     }
     let (board, lanes) = match Board::new(alloc, plan, relays) {
         Ok(made) => made,
-        Err(BoardFault::Lanes) => return Ok(free_cells(alloc, plan.len())?),
+        Err(BoardFault::Lanes) => return unasked(alloc, plan, unreached),
         Err(BoardFault::Memory) => return Err(Refusal::Memory),
     };
     match fetch_all(rt, alloc, board, lanes, sources, desk) {
-        Ok(report) => Ok(report.cells),
-        Err(FetchFault::Lanes) => Ok(free_cells(alloc, plan.len())?),
+        Ok(report) => Ok(Round {
+            cells: report.cells,
+            stopped: unreached.union(failed(relays, report.stops.as_slice())),
+            is_full: met_full(report.stops.as_slice()),
+        }),
+        Err(FetchFault::Lanes) => unasked(alloc, plan, unreached),
         Err(FetchFault::Memory) => Err(Refusal::Memory),
     }
 }

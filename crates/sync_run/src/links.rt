@@ -4,9 +4,9 @@ ghost use Rattle.std.specs.Prelude.{◌≡◌, ◌<◌, ◌^◌, ◌-◌, All, I
 
 use crate::progress::Progress;
 use crate::told::ToldPeer;
-use mirror_settings::{Address, Settings};
+use mirror_settings::{Relay, Settings};
 use serve_run::{Duty, Refusal, run_workers};
-use std::alloc::Global;
+use std::alloc::{AllocError, Global};
 use std::io::{Read, Write};
 use std::marker::Model;
 use std::net::{Net, TcpListener, TcpStream, ToSocketAddrs};
@@ -15,42 +15,69 @@ use std::sync::Wait;
 use std::thread::Threads;
 use std::time::Duration;
 use tungstenite::RandomKeys;
-use ws_link::{LinkFault, WsPeer, WsSource};
+use ws_link::{LinkFault, Notes, Reason, WsPeer, WsSource};
 
-/// A connection with a relay, if it can be made in time. No later read or write of it waits longer.
+/// How a relay is named: by its number in the settings, and as they write it.
+pub fn name_of(alloc: Global, settings: &Settings, relay: usize) -> Result<String, AllocError> {
+    match settings.relays.as_slice().get(relay) {
+        Some(named) => String::from_str(alloc, named.host.as_str()),
+        None => Ok(String::new(alloc)),
+    }
+}
+
+/// A connection with a relay, if it can be made in time, else why not. No later read or write of it waits longer.
 fn connected<R: Net<Listener = TcpListener, Stream = TcpStream>>(
     rt: &R,
     host: &str,
     timeout: Duration,
-) -> Option<TcpStream> {
-    for address in host.to_socket_addrs(rt).ok()? {
-        if let Ok(stream) = rt.connect_timeout(address, timeout) {
-            let _ = stream.set_nodelay(true);
-            let _ = stream.set_read_timeout(Some(timeout));
-            let _ = stream.set_write_timeout(Some(timeout));
-            return Some(stream);
+) -> Result<TcpStream, Reason> {
+    let Ok(addresses) = host.to_socket_addrs(rt) else {
+        return Err(Reason::NoHost);
+    };
+    let mut reason = Reason::NoHost;
+    for address in addresses {
+        match rt.connect_timeout(address, timeout) {
+            Ok(stream) => {
+                let _ = stream.set_nodelay(true);
+                let _ = stream.set_read_timeout(Some(timeout));
+                let _ = stream.set_write_timeout(Some(timeout));
+                return Ok(stream);
+            }
+            Err(error) => reason = Reason::of_stream(&error),
         }
     }
-    None
+    Err(reason)
 }
 
-/// A peer that is the relay at this address, or one that can't be reached.
+/// A peer that is this relay, or one that can't be reached.
 fn linked<'a, R: Net<Listener = TcpListener, Stream = TcpStream> + RandomSource>(
     rt: &'a R,
     alloc: Global,
-    address: &Address,
+    relay: &Relay,
     settings: &Settings,
 ) -> Result<WsPeer<TcpStream, RandomKeys<&'a R>>, Refusal>
     ensures { IfOk result (λ peer. peer.faults ≡ 0) }
 {
-    let host = format!(in alloc; "{address}")?;
-    let Some(stream) = connected(rt, host.as_str(), settings.timeout()) else {
-        return Ok(WsPeer::unreachable(alloc));
+    let via = &relay.via;
+    let address = format!(in alloc; "{via}")?;
+    let stream = match connected(rt, address.as_str(), settings.timeout()) {
+        Ok(stream) => stream,
+        Err(reason) => return Ok(WsPeer::unreachable_by(alloc, Notes::of(reason))),
     };
-    match WsPeer::start(alloc, rt, stream, host.as_str(), &settings.filter) {
+    let mut notes = Notes::none();
+    let started = WsPeer::start_at(
+        alloc,
+        rt,
+        stream,
+        relay.host.as_str(),
+        relay.path.as_str(),
+        &settings.filter,
+        &mut notes,
+    );
+    match started {
         Ok(peer) => Ok(peer),
         Err(LinkFault::Memory) => Err(Refusal::Memory),
-        Err(_) => Ok(WsPeer::unreachable(alloc)),
+        Err(_) => Ok(WsPeer::unreachable_by(alloc, notes)),
     }
 }
 
@@ -100,8 +127,8 @@ impl<'a, 's, R: Net<Listener = TcpListener, Stream = TcpStream> + RandomSource> 
         alloc: Global,
         place: &mut PeerPlace<TcpStream, RandomKeys<&'a R>>,
     ) {
-        if let Some(address) = self.settings.relays.as_slice().get(place.relay) {
-            place.peer = linked(self.rt, alloc, address, self.settings);
+        if let Some(relay) = self.settings.relays.as_slice().get(place.relay) {
+            place.peer = linked(self.rt, alloc, relay, self.settings);
         }
     }
 }
@@ -129,9 +156,11 @@ pub fn linked_all<
     let mut peers = Vec::new(alloc);
     for place in places {
         let (relay, peer) = place.into_parts()?;
+        let name = name_of(alloc, settings, relay)?;
         peers.push(ToldPeer {
             peer,
             relay,
+            name,
             rt,
             progress,
         })?;
@@ -139,20 +168,33 @@ pub fn linked_all<
     Ok(peers)
 }
 
-/// A source that is the relay at this address, if it can be reached.
+/// A source that is this relay, if it can be reached, else it is noted why not.
 fn source_at<'a, R: Net<Listener = TcpListener, Stream = TcpStream> + RandomSource>(
     rt: &'a R,
     alloc: Global,
-    address: &Address,
+    relay: &Relay,
     timeout: Duration,
+    notes: &mut Notes,
 ) -> Result<Option<WsSource<TcpStream, RandomKeys<&'a R>>>, Refusal>
     ensures { IfOk result (λ o. IfSome o (λ source. source.faults ≡ 0)) }
 {
-    let host = format!(in alloc; "{address}")?;
-    let Some(stream) = connected(rt, host.as_str(), timeout) else {
-        return Ok(None);
+    let via = &relay.via;
+    let address = format!(in alloc; "{via}")?;
+    let stream = match connected(rt, address.as_str(), timeout) {
+        Ok(stream) => stream,
+        Err(reason) => {
+            notes.tell(reason);
+            return Ok(None);
+        }
     };
-    match WsSource::start(alloc, rt, stream, host.as_str()) {
+    match WsSource::start_at(
+        alloc,
+        rt,
+        stream,
+        relay.host.as_str(),
+        relay.path.as_str(),
+        notes,
+    ) {
         Ok(source) => Ok(Some(source)),
         Err(LinkFault::Memory) => Err(Refusal::Memory),
         Err(_) => Ok(None),
@@ -164,6 +206,8 @@ fn source_at<'a, R: Net<Listener = TcpListener, Stream = TcpStream> + RandomSour
 pub struct SourcePlace<S, K> {
     relay: u16,
     source: Result<Option<WsSource<S, K>>, Refusal>,
+    // Why there is none.
+    notes: Notes,
 }
 
 impl<S, K> Model for SourcePlace<S, K> {
@@ -182,16 +226,21 @@ impl<S, K> SourcePlace<S, K> {
         SourcePlace {
             relay,
             source: Ok(None),
+            notes: Notes::none(),
         }
     }
 
-    /// The relay, and the source if it could be reached.
-    pub fn into_parts(self) -> Result<(u16, Option<WsSource<S, K>>), Refusal>
+    /// The relay, and the source if it could be reached, or why not.
+    pub fn into_parts(self) -> Result<(u16, Option<WsSource<S, K>>, Notes), Refusal>
         ensures { IfOk result (λ p. IfSome p.1 (λ source. source.faults ≡ 0)) }
     {
-        let SourcePlace { relay, source } = self;
+        let SourcePlace {
+            relay,
+            source,
+            notes,
+        } = self;
         match source {
-            Ok(found) => Ok((relay, found)),
+            Ok(found) => Ok((relay, found, notes)),
             Err(refusal) => Err(refusal),
         }
     }
@@ -206,13 +255,19 @@ impl<'a, 's, R: Net<Listener = TcpListener, Stream = TcpStream> + RandomSource> 
         alloc: Global,
         place: &mut SourcePlace<TcpStream, RandomKeys<&'a R>>,
     ) {
-        if let Some(address) = self
+        if let Some(relay) = self
             .settings
             .relays
             .as_slice()
             .get(usize::from(place.relay))
         {
-            place.source = source_at(self.rt, alloc, address, self.settings.timeout());
+            place.source = source_at(
+                self.rt,
+                alloc,
+                relay,
+                self.settings.timeout(),
+                &mut place.notes,
+            );
         }
     }
 }

@@ -1,7 +1,7 @@
 //! How far the job is, told while it goes on.
 
 use crate::fetching::Counts;
-use std::fmt::Display;
+use std::fmt::{self, Display};
 use std::io::Write;
 use std::rt::Clock;
 use std::sync::{Mutex, Wait};
@@ -12,6 +12,23 @@ use std::time::Instant;
 #[derive(Drop)]
 pub struct Progress<P> {
     telling: Option<Mutex<Telling<P>>>,
+    // Whether a relay failed or an id is left.
+    fell_short: Mutex<bool>,
+}
+
+/// What is told of a relay, which has a number and a name.
+#[derive(Drop)]
+pub struct RelayLine<'a, D> {
+    pub relay: usize,
+    pub name: &'a str,
+    pub why: &'a D,
+}
+
+impl<D: Display> Display for RelayLine<'_, D> {
+    fn fmt<W: fmt::Write>(&self, f: &mut fmt::Formatter<W>) -> fmt::Result {
+        let (relay, name, why) = (self.relay, self.name, self.why);
+        write!(f, "relay {relay} {name}: {why}")
+    }
 }
 
 impl<P> Progress<P> {
@@ -23,16 +40,52 @@ impl<P> Progress<P> {
                 round: Fetching::default(),
                 last: None,
             })),
+            fell_short: Mutex::new(false),
         }
     }
 
     /// Tells nothing.
     pub fn none() -> Progress<P> {
-        Progress { telling: None }
+        Progress {
+            telling: None,
+            fell_short: Mutex::new(false),
+        }
+    }
+}
+
+impl<P> Progress<P> {
+    /// A relay failed, or an id is left.
+    pub fn fall_short<R: Wait>(&self, rt: &R) {
+        *self.fell_short.lock(rt) = true;
+    }
+
+    /// Whether a relay failed or an id was left.
+    pub fn fell_short<R: Wait>(&self, rt: &R) -> bool {
+        *self.fell_short.lock(rt)
     }
 }
 
 impl<P: Write> Progress<P> {
+    /// A relay failed: tells why.
+    pub fn fail<R: Wait, D: Display>(&self, rt: &R, line: RelayLine<'_, D>) {
+        self.fall_short(rt);
+        self.say(rt, line);
+    }
+
+    /// Tells that the store is full, if it is.
+    pub fn tell_full<R: Wait>(&self, rt: &R, is_full: bool) {
+        if is_full {
+            self.say(rt, "the store is full");
+        }
+    }
+
+    /// Notes whether ids are left in the end.
+    pub fn note_left<R: Wait>(&self, rt: &R, counts: &Counts) {
+        if counts.left > 0 {
+            self.fall_short(rt);
+        }
+    }
+
     /// Tells a count.
     pub fn tell<R: Wait>(&self, rt: &R, count: usize, what: &str) {
         if let Some(telling) = &self.telling {

@@ -7,21 +7,21 @@ ghost use Rattle.fetch_plan.specs.Plan.{Planned};
 ghost use Rattle.sync_run.specs.Lines.{ends_text, plan_text, round_text, counts_text};
 ghost use Rattle.sync_run.specs.Printed.{IsSynced, IsSyncDone, Prints, PrintsOfSome, rounds_text};
 
-use crate::fetching::{Counts, counts_of, fetched, finished_of, sources_of};
+use crate::fetching::{
+    Counts, Round, asked_of, counts_of, fetched, finished_of, planned, sources_of,
+};
 use crate::links::{finish_all, linked_all};
 use crate::progress::Progress;
 use crate::text::{put_counts, put_ends, put_plan, put_round};
-use claim_board::Cell;
-use event_file::NewFile;
 use event_store::{Blank, Desk, Naming, Reader, open_store};
 use fetch_plan::Plan;
-use mirror_core::{SyncFault, Synced, grown, next_plan, sync_plan};
+use mirror_core::{SyncFault, Synced, failover_plan, grown, sync_plan};
 use mirror_settings::{Settings, SettingsKey, read_settings};
 use neg_session::SessionLimits;
-use offer_table::Bases;
+use offer_table::{Bases, RelaySet};
 use serve_run::{
-    Hall, Refusal, Schedule, begin, open_hall, published, readers_for, save, save_meanwhile, say,
-    serve_beside,
+    Hall, Keeping, Refusal, begin, keep_beside, keep_meanwhile, keeping_of, open_hall, readers_for,
+    say, serve_beside,
 };
 use std::alloc::Global;
 use std::fs::File;
@@ -33,7 +33,6 @@ use std::random::RandomSource;
 use std::rt::{Clock, Files};
 use std::sync::{Mutex, Wait};
 use std::thread::Threads;
-use std::time::Duration;
 
 /// The loads that the relays begin with.
 fn bases_of(loads: &[u64]) -> Bases {
@@ -103,14 +102,14 @@ fn fetch_round<
     plan: &Plan,
     desk: &Mutex<Desk<J, D>>,
     progress: &Progress<P>,
-) -> Result<Vec<Cell>, Refusal>
-    ensures { IfOk result (λ v. length v.items ≡ length plan.now.gives) }
+) -> Result<Round, Refusal>
+    ensures { IfOk result (λ round. length round.cells.items ≡ length plan.now.gives) }
 {
     progress.tell(rt, plan.len(), "ids are planned");
     let (mut sources, relays) = sources_of(rt, alloc, settings, relays, progress)?;
     progress.begin(rt, plan.len());
     progress.tell(rt, sources.len(), "connections fetch");
-    let cells = fetched(
+    let round = fetched(
         rt,
         alloc,
         plan,
@@ -118,8 +117,9 @@ fn fetch_round<
         relays.as_slice(),
         desk,
     )?;
-    progress.tell_counts(rt, &counts_of(cells.as_slice()));
-    Ok(cells)
+    progress.tell_counts(rt, &counts_of(round.cells.as_slice()));
+    progress.tell_full(rt, round.is_full);
+    Ok(round)
 }
 
 /// Prints a later round and its plan.
@@ -186,34 +186,25 @@ fn fetch_rounds<
     let relays = finished_of(alloc, ends)?;
     let mut bases = bases_of(settings.bases.as_slice());
     let mut all = Counts::default();
+    let mut stopped = RelaySet::empty();
     for round in 1..settings.rounds {
-        let cells = fetch_round(
-            rt,
-            alloc,
-            settings,
-            relays.as_slice(),
-            &plan,
-            desk,
-            progress,
-        )?;
-        all = all.with(&counts_of(cells.as_slice()));
-        bases = grown(&bases, &plan, cells.as_slice());
-        plan = next_plan(alloc, &mut table, &plan, cells.as_slice(), &bases)?;
+        let given = planned(&plan);
+        let asked = asked_of(alloc, relays.as_slice(), given, stopped)?;
+        let ended = fetch_round(rt, alloc, settings, asked.as_slice(), &plan, desk, progress)?;
+        let cells = ended.cells.as_slice();
+        all = all.with(&counts_of(cells));
+        bases = grown(&bases, &plan, cells);
+        // One that wasn't asked since it stopped hasn't come back.
+        stopped = stopped.minus(given).union(ended.stopped);
+        plan = failover_plan(alloc, &mut table, &plan, cells, stopped, &bases)?;
         if plan.len() == 0 {
             return Ok(all);
         }
         say_round(alloc, writer, round.saturating_add(1), &plan)?;
     }
-    let cells = fetch_round(
-        rt,
-        alloc,
-        settings,
-        relays.as_slice(),
-        &plan,
-        desk,
-        progress,
-    )?;
-    Ok(all.with(&counts_of(cells.as_slice())))
+    let asked = asked_of(alloc, relays.as_slice(), planned(&plan), stopped)?;
+    let ended = fetch_round(rt, alloc, settings, asked.as_slice(), &plan, desk, progress)?;
+    Ok(all.with(&counts_of(ended.cells.as_slice())))
 }
 
 /// Runs the sessions, prints how they ended and the plan, and fetches by it.
@@ -242,10 +233,42 @@ fn run_all<
     let done = synced(rt, alloc, settings, reader, progress)?;
     say_synced(alloc, writer, &done)?;
     let counts = fetch_rounds(rt, alloc, settings, done, desk, writer, progress)?;
+    progress.note_left(rt, &counts);
     say_counts(alloc, writer, &counts)
 }
 
-/// Does the job over a store that isn't served, and writes the file. The desk is there until it is written.
+/// Does the job, which ends the keeping.
+fn run_kept<
+    J: Naming + Send + Sync,
+    D: Wait + Drop + Send + Sync,
+    R: Net<Listener = TcpListener, Stream = TcpStream>
+        + RandomSource
+        + Threads
+        + Wait
+        + Clock
+        + Sync,
+    W: Write,
+    P: Write + Send,
+    E: Write + Drop,
+>(
+    rt: &R,
+    alloc: Global,
+    settings: &Settings,
+    reader: &mut Reader<J>,
+    desk: &Mutex<Desk<J, D>>,
+    keeping: &Keeping<J, E>,
+    writer: &mut W,
+    progress: &Progress<P>,
+) -> Result<(), Refusal>
+    ensures { OnOk result (Prints settings.now.filter reader.new (W.contents writer.old) (W.contents writer.new)) }
+{
+    let ran = run_all(rt, alloc, settings, reader, desk, writer, progress);
+    keeping.end(rt);
+    ran
+}
+
+/// Does the job over a store that isn't served. What relays give is kept in the file meanwhile, also where the job is refused in the
+/// end. The desk is there until all is written.
 fn run_alone<
     J: Naming + Send + Sync,
     D: Wait + Drop + Send + Sync,
@@ -258,13 +281,14 @@ fn run_alone<
         + Sync,
     W: Write,
     P: Write + Send,
+    E: Write + Send + Drop,
 >(
     rt: &R,
     alloc: Global,
     settings: &Settings,
     desk: Desk<J, D>,
     reader: &mut Reader<J>,
-    file: NewFile,
+    keeping: Keeping<J, E>,
     writer: &mut W,
     progress: &Progress<P>,
 ) -> Result<(), Refusal>
@@ -272,19 +296,25 @@ fn run_alone<
 {
     // What the store holds is left to the system. To give it back event by event took a tenth of the job's time.
     let desk = ManuallyDrop::new(Mutex::new(desk));
-    match run_all(rt, alloc, settings, reader, &desk, writer, progress) {
-        Ok(()) => {
-            save(rt, alloc, reader, file)?;
-            Ok(())
-        }
-        Err(refusal) => {
-            let _ = file.discard(rt);
-            Err(refusal)
-        }
-    }
+    let ran = keep_beside(
+        rt,
+        &keeping,
+        ||
+            requires { IsSend J.row × IsSend D.row × IsSend P.row }
+        {
+            run_kept(
+                rt, alloc, settings, reader, &desk, &keeping, writer, progress,
+            )
+        },
+    );
+    let finished = keeping.finish(rt);
+    ran?;
+    finished?;
+    Ok(())
 }
 
-/// Does the job over the store that the hall serves. Where it is refused, the hall takes no further connections.
+/// Does the job over the store that the hall serves, and goes on until serving is over. Where it is refused, the hall takes no
+/// further connections.
 fn run_in_hall<
     J: Naming + Send + Sync,
     D: Wait + Drop + Send + Sync,
@@ -296,25 +326,44 @@ fn run_in_hall<
         + Sync,
     W: Write,
     P: Write + Send,
+    E: Write + Send + Drop,
 >(
     rt: &R,
     alloc: Global,
     settings: &Settings,
     hall: &Hall<Desk<J, D>>,
     reader: &mut Reader<J>,
+    keeping: &Keeping<J, E>,
     writer: &mut W,
     progress: &Progress<P>,
 ) -> Result<(), Refusal> {
-    let done = run_all(rt, alloc, settings, reader, hall.desk(), writer, progress);
-    if done.is_err() {
+    let ran = keep_beside(
+        rt,
+        keeping,
+        ||
+            requires { IsSend J.row × IsSend D.row × IsSend P.row }
+        {
+            run_kept(
+                rt,
+                alloc,
+                settings,
+                reader,
+                hall.desk(),
+                keeping,
+                writer,
+                progress,
+            )
+        },
+    );
+    if ran.is_err() {
         hall.close(rt);
     }
-    done
+    keep_meanwhile(rt, hall, keeping);
+    ran
 }
 
-/// Listens, does the job and serves connections meanwhile. The file is written behind the job, from then on as often as the
-/// settings say, and once the connections have ended: also where the job is refused, since clients may have put events in. The
-/// desk is there until it is written.
+/// Listens, does the job and serves connections meanwhile, until the last has ended. Events are kept in the file as they come in,
+/// also where the job is refused. The desk is there until all is written.
 fn run_serving<
     J: Naming + Send + Sync,
     D: Wait + Drop + Send + Sync,
@@ -327,54 +376,45 @@ fn run_serving<
         + Sync,
     W: Write,
     P: Write + Send,
+    E: Write + Send + Drop,
 >(
     rt: &R,
     alloc: Global,
     settings: &Settings,
-    desk: Desk<J, D>,
+    hall: Hall<Desk<J, D>>,
     readers: Vec<Reader<J>>,
     reader: &mut Reader<J>,
-    file: NewFile,
+    keeping: Keeping<J, E>,
     writer: &mut W,
     progress: &Progress<P>,
 ) -> Result<(), Refusal> {
-    let hall = match open_hall(rt, alloc, settings, desk, writer) {
-        Ok(hall) => hall,
-        Err(refusal) => {
-            let _ = file.discard(rt);
-            return Err(refusal);
-        }
-    };
-    let schedule = Schedule {
-        first: Duration::ZERO,
-        every: settings.save_every(),
-        has: published(alloc, reader),
-    };
     let ran = serve_beside(
         rt,
         alloc,
         &hall,
+        &keeping,
         readers,
         ||
-            requires { IsSend J.row × IsSend D.row × IsSend P.row }
+            requires { IsSend J.row × IsSend D.row × IsSend P.row × IsSend E.row }
         {
-            let ran = run_in_hall(rt, alloc, settings, &hall, reader, writer, progress);
-            save_meanwhile(rt, alloc, &hall, schedule, reader, &file);
-            ran
+            run_in_hall(
+                rt, alloc, settings, &hall, reader, &keeping, writer, progress,
+            )
         },
     );
-    let saved = save(rt, alloc, reader, file);
+    let finished = keeping.finish(rt);
     drop(hall);
     ran?;
-    saved?;
+    finished?;
     Ok(())
 }
 
-/// How many readers the job takes: one of its own, and where it listens one for each connection that is served at once.
+/// How many readers the job takes: one of its own, one for the file, and where it listens one for each connection that is served
+/// at once.
 fn readers_of(settings: &Settings) -> usize {
     match (&settings.listen, settings.conns) {
-        (Some(_), Some(conns)) => readers_for(conns).saturating_add(1),
-        _ => 1,
+        (Some(_), Some(conns)) => readers_for(conns).saturating_add(2),
+        _ => 2,
     }
 }
 
@@ -391,6 +431,7 @@ fn run_named<
         + Sync,
     W: Write,
     P: Write + Send,
+    E: Write + Send + Drop,
 >(
     rt: &R,
     keep: D,
@@ -399,46 +440,56 @@ fn run_named<
     settings: &Settings,
     writer: &mut W,
     progress: &Progress<P>,
+    mut errors: E,
 ) -> Result<(), Refusal>
     requires book { blank ≡ J.book }
     requires most { J.most ≡ 1000000 }
     ensures { settings.now.listen ≡ None → OnOk result (PrintsOfSome settings.now.filter (W.contents writer.old) (W.contents writer.new)) }
 {
     let (mut desk, mut readers) = open_store::<J, D>(keep, alloc, blank, readers_of(settings))?;
-    let Some(mut reader) = readers.pop() else {
+    let (Some(mut reader), Some(mut of_file)) = (readers.pop(), readers.pop()) else {
         return Err(Refusal::Store);
     };
     let path = settings.events.as_str();
-    let file = begin(rt, alloc, &mut desk, path)?;
+    let file = begin(rt, alloc, &mut desk, &mut of_file, path, &mut errors)?;
     if settings.listen.is_none() {
+        let keeping = keeping_of(alloc, file, of_file, errors, settings.fsync)?;
         return run_alone(
             rt,
             alloc,
             settings,
             desk,
             &mut reader,
-            file,
+            keeping,
             writer,
             progress,
         );
     }
+    let hall = match open_hall(rt, alloc, settings, desk, writer) {
+        Ok(hall) => hall,
+        Err(refusal) => {
+            file.discard(rt);
+            return Err(refusal);
+        }
+    };
+    let keeping = keeping_of(alloc, file, of_file, errors, settings.fsync)?;
     run_serving(
         rt,
         alloc,
         settings,
-        desk,
+        hall,
         readers,
         &mut reader,
-        file,
+        keeping,
         writer,
         progress,
     )
 }
 
 /// Reads settings, puts the events of the file into a store, has sessions with the relays, prints how they ended and the plan
-/// made of what they found, fetches by it, and writes the file. Where the settings say where to listen, it listens before the
-/// sessions, serves connections meanwhile, and goes on to the end of the last. How far it is goes to `progress`, whatever
-/// becomes of it there.
+/// made of what they found, and fetches by it. Events are kept in the file as they come in. Where the settings say where to listen,
+/// it listens before the sessions, serves connections meanwhile, and goes on to the end of the last. How far it is goes to
+/// `progress`, whatever becomes of it there; the file's faults, and what was torn off it, go to `errors`.
 pub fn run_sync<
     R: Net<Listener = TcpListener, Stream = TcpStream>
         + RandomSource
@@ -449,9 +500,26 @@ pub fn run_sync<
         + Sync,
     W: Write,
     P: Write + Send,
->(rt: &R, alloc: Global, text: &str, writer: &mut W, progress: &Progress<P>) -> Result<(), Refusal>
+    E: Write + Send + Drop,
+>(
+    rt: &R,
+    alloc: Global,
+    text: &str,
+    writer: &mut W,
+    progress: &Progress<P>,
+    errors: E,
+) -> Result<(), Refusal>
     ensures { OnOk result (IsSyncDone text.now (W.contents writer.old) (W.contents writer.new)) }
 {
     let settings = read_settings(alloc, text, true)?;
-    run_named::<Brand, &R, R, W, P>(rt, rt, alloc, Blank::new(), &settings, writer, progress)
+    run_named::<Brand, &R, R, W, P, E>(
+        rt,
+        rt,
+        alloc,
+        Blank::new(),
+        &settings,
+        writer,
+        progress,
+        errors,
+    )
 }

@@ -2,7 +2,7 @@
 
 ghost use Rattle.std.specs.Prelude.{◌≡◌, ◌+◌, ◌<◌, ◌^◌, ◌-◌, [], ◌∷◌, ◌++◌, IfOk, OnErr, Err};
 
-use crate::progress::Progress;
+use crate::progress::{Progress, RelayLine};
 use crate::text::SessionLine;
 use mirror_core::{Fetch, Source, SourceFault};
 use neg_codec::Id;
@@ -12,17 +12,34 @@ use nostr_event::Event;
 use std::io::Write;
 use std::rt::Clock;
 use std::sync::{Arc, Wait};
+use ws_link::Explains;
 
 /// A relay, whose session is told as it ends.
 #[derive(Drop)]
 pub struct ToldPeer<'a, Q, R, P> {
     pub peer: Q,
     pub relay: usize,
+    pub name: String,
     pub rt: &'a R,
     pub progress: &'a Progress<P>,
 }
 
-impl<Q: Peer, R: Wait, P: Write> Peer for ToldPeer<'_, Q, R, P> {
+impl<Q: Explains, R: Wait, P: Write> ToldPeer<'_, Q, R, P> {
+    /// Tells why the session failed: what is known of the link, or else the fault of the session.
+    fn tell_fault(&self, fault: SessionFault) {
+        let (relay, name) = (self.relay, self.name.as_str());
+        let notes = self.peer.notes();
+        if notes.reason().is_some() {
+            let why = notes;
+            self.progress.fail(self.rt, RelayLine { relay, name, why });
+        } else {
+            let why = &fault;
+            self.progress.fail(self.rt, RelayLine { relay, name, why });
+        }
+    }
+}
+
+impl<Q: Peer + Explains, R: Wait, P: Write> Peer for ToldPeer<'_, Q, R, P> {
     ghost log = { λ p. Q.log p.peer };
 
     ghost faults = { λ p. Q.faults p.peer };
@@ -57,6 +74,9 @@ impl<Q: Peer, R: Wait, P: Write> Peer for ToldPeer<'_, Q, R, P> {
             },
         };
         self.progress.say(self.rt, line);
+        if let Err(fault) = end {
+            self.tell_fault(fault);
+        }
     }
 }
 
@@ -64,11 +84,13 @@ impl<Q: Peer, R: Wait, P: Write> Peer for ToldPeer<'_, Q, R, P> {
 #[derive(Drop)]
 pub struct ToldSource<'a, S, R, P> {
     pub source: S,
+    pub relay: usize,
+    pub name: String,
     pub rt: &'a R,
     pub progress: &'a Progress<P>,
 }
 
-impl<S: Source, R: Wait + Clock, P: Write> Source for ToldSource<'_, S, R, P> {
+impl<S: Source + Explains, R: Wait + Clock, P: Write> Source for ToldSource<'_, S, R, P> {
     ghost log = { λ s. S.log s.source };
 
     ghost faults = { λ s. S.faults s.source };
@@ -81,8 +103,16 @@ impl<S: Source, R: Wait + Clock, P: Write> Source for ToldSource<'_, S, R, P> {
 
     fn fetch(&mut self, ids: &[Id]) -> Result<Vec<Arc<Event>>, SourceFault> {
         let fetched = self.source.fetch(ids);
-        if let Ok(events) = &fetched {
-            self.progress.fetched(self.rt, ids.len(), events.len());
+        match &fetched {
+            Ok(events) => self.progress.fetched(self.rt, ids.len(), events.len()),
+            Err(_) => self.progress.fail(
+                self.rt,
+                RelayLine {
+                    relay: self.relay,
+                    name: self.name.as_str(),
+                    why: self.source.notes(),
+                },
+            ),
         }
         fetched
     }

@@ -6,8 +6,8 @@ use Rattle.neg_session.specs.declared.peer.PeerFault.TheVariants as peer
 use Rattle.mirror_core.specs.Fetching.{Fetching}
 use Rattle.mirror_core.specs.declared.source.SourceFault.{SourceFault}
 use Rattle.mirror_core.specs.declared.source.SourceFault.TheVariants as source
-use Rattle.ws_link.specs.declared.fault.LinkFault.{LinkFault}
-use Rattle.ws_link.specs.declared.fault.LinkFault.TheVariants.{Link, Refused, Wire, TooManyOthers, Memory}
+use Rattle.ws_socket.specs.declared.fault.LinkFault.{LinkFault}
+use Rattle.ws_socket.specs.declared.fault.LinkFault.TheVariants.{Link, Refused, Wire, TooManyOthers, Memory}
 use Rattle.ws_link.specs.Wired.{Wired, failed_by}
 
 abbrev pub answer_of : LinkFault → PeerFault

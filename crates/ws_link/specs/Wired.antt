@@ -1,7 +1,7 @@
 -- What stands behind a stream, apart from the stream: a peer, whose log has exchanges, or a source, whose log has fetches.
 use Rattle.std.specs.Prelude.{ℕ, ◌+◌, List, [], Bool, false, Option, Some, None}
-use Rattle.ws_link.specs.declared.fault.LinkFault.{LinkFault}
-use Rattle.ws_link.specs.declared.fault.LinkFault.TheVariants.{Link, Refused, Wire, TooManyOthers, Memory}
+use Rattle.ws_socket.specs.declared.fault.LinkFault.{LinkFault}
+use Rattle.ws_socket.specs.declared.fault.LinkFault.TheVariants.{Link, Refused, Wire, TooManyOthers, Memory}
 
 pub record Wired (E : Type 0) : Type 0 where
   -- whether it may still answer

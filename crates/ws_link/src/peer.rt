@@ -2,12 +2,12 @@
 ghost use Rattle.std.specs.Prelude.{◌≡◌, ◌+◌, ◌<◌, ◌^◌, ◌-◌, [], ◌∷◌, ◌++◌, IfOk, IfErr, OnErr, true, false, Some, None, Err, Ok};
 ghost use Rattle.std.specs.Option.{option_copied};
 ghost use Rattle.neg_session.specs.Exchange.{exchange};
-ghost use Rattle.ws_link.specs.Faults.{IsOfStream};
+ghost use Rattle.ws_socket.specs.Faults.{IsOfStream};
 ghost use Rattle.ws_link.specs.Wired.{Wired, unused, failed_by};
 ghost use Rattle.ws_link.specs.Failing.{answer_of, FailsBy};
 
-use crate::client::{close, connected, heard, named, say};
-use crate::fault::LinkFault;
+use crate::client::{connected, copy_of, heard, named, say};
+use crate::notes::{Explains, Notes};
 use neg_session::{Pair, Peer, PeerFault};
 use nostr_event::Text;
 use nostr_filter::{Filter, FilterFault};
@@ -17,6 +17,7 @@ use std::io::{Read, Write};
 use std::marker::Model;
 use std::random::RandomSource;
 use tungstenite::{MaskKeys, RandomKeys, WebSocket};
+use ws_socket::{LinkFault, Reason, close};
 
 /// The name of the session.
 const NAME: &str = "mirror";
@@ -36,6 +37,7 @@ pub struct WsPeer<S, K> {
     pairs: Vec<Pair>,
     failures: u64,
     last_fault: Option<LinkFault>,
+    notes: Notes,
 }
 
 impl<S, K> Model for WsPeer<S, K> {
@@ -61,8 +63,24 @@ impl<S: Read + Write + Drop, R: RandomSource + Drop> WsPeer<S, RandomKeys<R>> {
         ensures ok { IfOk result (λ p. p ≡ unused true) }
         ensures err { IfErr result IsOfStream }
     {
+        WsPeer::start_at(alloc, source, stream, host, "/", filter, &mut Notes::none())
+    }
+
+    /// The same with the host and this path, which begins with a slash. It notes why it fails.
+    pub fn start_at(
+        alloc: Global,
+        source: R,
+        stream: S,
+        host: &str,
+        path: &str,
+        filter: &Filter,
+        notes: &mut Notes,
+    ) -> Result<WsPeer<S, RandomKeys<R>>, LinkFault>
+        ensures ok { IfOk result (λ p. p ≡ unused true) }
+        ensures err { IfErr result IsOfStream }
+    {
         let filter = copied(alloc, filter)?;
-        let socket = connected(alloc, source, stream, host)?;
+        let socket = connected(alloc, source, stream, host, path, notes)?;
         Ok(WsPeer {
             alloc,
             socket: Some(socket),
@@ -70,6 +88,7 @@ impl<S: Read + Write + Drop, R: RandomSource + Drop> WsPeer<S, RandomKeys<R>> {
             pairs: Vec::new(alloc),
             failures: 0,
             last_fault: None,
+            notes: Notes::none(),
         })
     }
 }
@@ -92,6 +111,13 @@ impl<S: Drop, K: Drop> WsPeer<S, K> {
     pub fn unreachable(alloc: Global) -> WsPeer<S, K>
         ensures { result ≡ unused false }
     {
+        WsPeer::unreachable_by(alloc, Notes::none())
+    }
+
+    /// The same, where it is known why.
+    pub fn unreachable_by(alloc: Global, notes: Notes) -> WsPeer<S, K>
+        ensures { result ≡ unused false }
+    {
         WsPeer {
             alloc,
             socket: None,
@@ -99,6 +125,7 @@ impl<S: Drop, K: Drop> WsPeer<S, K> {
             pairs: Vec::new(alloc),
             failures: 0,
             last_fault: None,
+            notes,
         }
     }
 
@@ -140,8 +167,13 @@ impl<S: Read + Write + Drop, K: MaskKeys + Drop> WsPeer<S, K> {
         let Some(socket) = &mut self.socket else {
             return Err(LinkFault::Link);
         };
-        say(alloc, socket, &message(alloc, filter, question)?)?;
-        let answer = answer(alloc, socket)?;
+        say(
+            alloc,
+            socket,
+            &message(alloc, filter, question)?,
+            &mut self.notes,
+        )?;
+        let answer = answer(alloc, socket, &mut self.notes)?;
         let pair = Pair {
             asked: question.to_vec(alloc)?,
             answered: answer.to_vec(alloc)?,
@@ -160,7 +192,12 @@ impl<S: Read + Write + Drop, K: MaskKeys + Drop> WsPeer<S, K> {
             return Err(LinkFault::Link);
         };
         let sub = session(alloc)?;
-        say(alloc, socket, &FromClient::NegClose { sub })?;
+        say(
+            alloc,
+            socket,
+            &FromClient::NegClose { sub },
+            &mut self.notes,
+        )?;
         close(socket)
     }
 }
@@ -194,35 +231,74 @@ fn message(
 fn answer<S: Read + Write + Drop, K: MaskKeys + Drop>(
     alloc: Global,
     socket: &mut WebSocket<S, K>,
+    notes: &mut Notes,
 ) -> Result<Vec<u8>, LinkFault> {
     for _read in 0..MOST_READS {
-        if let Some(message) = heard(alloc, socket)? {
-            if let Some(answer) = answer_in(message)? {
-                return Ok(answer);
+        if let Some(message) = heard(alloc, socket, notes)? {
+            match part_in(message) {
+                Part::Answer(answer) => return Ok(answer),
+                Part::NegErr(text) => {
+                    notes.tell(Reason::NegErr(copy_of(alloc, &text)?));
+                    return Err(LinkFault::Refused(text));
+                }
+                Part::Closed(text) => {
+                    notes.tell(Reason::ClosedSub(copy_of(alloc, &text)?));
+                    return Err(LinkFault::Refused(text));
+                }
+                Part::Other => {}
             }
         }
     }
+    notes.tell(Reason::TooManyOthers);
     Err(LinkFault::TooManyOthers)
 }
+/// What a message says of the session.
+#[derive(Drop)]
+enum Part {
+    /// The answer.
+    Answer(Vec<u8>),
+    /// A refusal by `NEG-ERR`.
+    NegErr(Text),
+    /// A refusal by `CLOSED`.
+    Closed(Text),
+    /// A message that has nothing to do with the session.
+    Other,
+}
 
-/// The answer that the message gives, if it is one of the session.
-fn answer_in(message: FromRelay) -> Result<Option<Vec<u8>>, LinkFault> {
+fn part_in(message: FromRelay) -> Part {
     match message {
         FromRelay::NegMsg { sub, message } => {
-            Ok((sub.as_str() == NAME).then_some(message.into_vec()))
+            if is_ours(&sub) {
+                Part::Answer(message.into_vec())
+            } else {
+                Part::Other
+            }
         }
-        FromRelay::NegErr { sub, reason } => refused(&sub, reason),
-        FromRelay::Closed { sub, text } => refused(&sub, text),
-        _other => Ok(None),
+        FromRelay::NegErr { sub, reason } => {
+            if is_ours(&sub) {
+                Part::NegErr(reason)
+            } else {
+                Part::Other
+            }
+        }
+        FromRelay::Closed { sub, text } => {
+            if is_ours(&sub) {
+                Part::Closed(text)
+            } else {
+                Part::Other
+            }
+        }
+        _other => Part::Other,
     }
 }
 
-/// A refusal, if it is one of the session.
-fn refused(sub: &Sub, text: Text) -> Result<Option<Vec<u8>>, LinkFault> {
-    if sub.as_str() == NAME {
-        Err(LinkFault::Refused(text))
-    } else {
-        Ok(None)
+fn is_ours(sub: &Sub) -> bool {
+    sub.as_str() == NAME
+}
+
+impl<S, K> Explains for WsPeer<S, K> {
+    fn notes(&self) -> &Notes {
+        &self.notes
     }
 }
 

@@ -2,12 +2,12 @@
 ghost use Rattle.std.specs.Prelude.{◌≡◌, ◌+◌, ◌<◌, ◌^◌, ◌-◌, [], ◌∷◌, ◌++◌, IfOk, IfErr, OnErr, true, false, Some, None, Err, Ok};
 ghost use Rattle.std.specs.Option.{option_copied};
 ghost use Rattle.mirror_core.specs.Fetching.{Fetching, fetching, ids_of};
-ghost use Rattle.ws_link.specs.Faults.{IsOfStream};
+ghost use Rattle.ws_socket.specs.Faults.{IsOfStream};
 ghost use Rattle.ws_link.specs.Wired.{Wired, unused, failed_by};
 ghost use Rattle.ws_link.specs.Failing.{gives, MissesBy};
 
-use crate::client::{close, connected, heard, named, say};
-use crate::fault::LinkFault;
+use crate::client::{connected, copy_of, heard, named, say};
+use crate::notes::{Explains, Notes};
 use mirror_core::{Fetch, Source, SourceFault};
 use neg_codec::Id;
 use nostr_event::{Event, Text};
@@ -19,6 +19,7 @@ use std::marker::Model;
 use std::random::RandomSource;
 use std::sync::Arc;
 use tungstenite::{MaskKeys, RandomKeys, WebSocket};
+use ws_socket::{LinkFault, Reason, close};
 
 /// The name of the subscription.
 const NAME: &str = "fetch";
@@ -36,6 +37,7 @@ pub struct WsSource<S, K> {
     fetches: Vec<Fetch>,
     failures: u64,
     last_fault: Option<LinkFault>,
+    notes: Notes,
 }
 
 impl<S, K> Model for WsSource<S, K> {
@@ -59,13 +61,29 @@ impl<S: Read + Write + Drop, R: RandomSource + Drop> WsSource<S, RandomKeys<R>> 
         ensures ok { IfOk result (λ s. s ≡ unused true) }
         ensures err { IfErr result IsOfStream }
     {
-        let socket = connected(alloc, source, stream, host)?;
+        WsSource::start_at(alloc, source, stream, host, "/", &mut Notes::none())
+    }
+
+    /// The same with the host and this path, which begins with a slash. It notes why it fails.
+    pub fn start_at(
+        alloc: Global,
+        source: R,
+        stream: S,
+        host: &str,
+        path: &str,
+        notes: &mut Notes,
+    ) -> Result<WsSource<S, RandomKeys<R>>, LinkFault>
+        ensures ok { IfOk result (λ s. s ≡ unused true) }
+        ensures err { IfErr result IsOfStream }
+    {
+        let socket = connected(alloc, source, stream, host, path, notes)?;
         Ok(WsSource {
             alloc,
             socket: Some(socket),
             fetches: Vec::new(alloc),
             failures: 0,
             last_fault: None,
+            notes: Notes::none(),
         })
     }
 }
@@ -108,14 +126,15 @@ impl<S: Read + Write + Drop, K: MaskKeys + Drop> WsSource<S, K> {
         let Some(socket) = &mut self.socket else {
             return Err(LinkFault::Link);
         };
-        say(alloc, socket, &request(alloc, ids)?)?;
-        let events = read_events(alloc, socket, ids.len())?;
+        say(alloc, socket, &request(alloc, ids)?, &mut self.notes)?;
+        let events = read_events(alloc, socket, ids, &mut self.notes)?;
         say(
             alloc,
             socket,
             &FromClient::Close {
                 sub: subscription(alloc)?,
             },
+            &mut self.notes,
         )?;
         self.fetches.push(Fetch::of(alloc, ids, &events)?)?;
         Ok(events)
@@ -157,25 +176,43 @@ fn request(alloc: Global, ids: &[Id]) -> Result<FromClient, LinkFault> {
     }
 }
 
-/// Reads until the end of the stored events, past at most 999 other messages. Events beyond the number asked for count among
-/// these.
+/// Whether the event was asked for, and hasn't come yet.
+fn is_due(ids: &[Id], events: &[Arc<Event>], event: &Event) -> bool {
+    let id = event.id();
+    ids.iter().any(|asked| *asked == id) && !events.iter().any(|came| came.id() == id)
+}
+
+/// Reads until the end of the stored events, past at most 999 other messages. Events that weren't asked for, or came already, are
+/// let go at once, and count among these.
 fn read_events<S: Read + Write + Drop, K: MaskKeys + Drop>(
     alloc: Global,
     socket: &mut WebSocket<S, K>,
-    asked: usize,
+    ids: &[Id],
+    notes: &mut Notes,
 ) -> Result<Vec<Arc<Event>>, LinkFault> {
     let mut events = Vec::new(alloc);
     let mut others = 0usize;
-    for _read in 0..asked.saturating_add(TOO_MANY) {
-        match hear(alloc, socket)? {
-            Part::Event(event) => events.push(event)?,
+    for _read in 0..ids.len().saturating_add(TOO_MANY) {
+        match hear(alloc, socket, notes)? {
+            Part::Event(event) => {
+                if is_due(ids, &events, &event) {
+                    events.push(event)?;
+                } else {
+                    others = others.saturating_add(1);
+                }
+            }
             Part::End => return Ok(events),
+            Part::Closed(text) => {
+                notes.tell(Reason::ClosedSub(copy_of(alloc, &text)?));
+                return Err(LinkFault::Refused(text));
+            }
             Part::Other => others = others.saturating_add(1),
         }
-        if others == TOO_MANY {
+        if others >= TOO_MANY {
             break;
         }
     }
+    notes.tell(Reason::TooManyOthers);
     Err(LinkFault::TooManyOthers)
 }
 
@@ -185,6 +222,8 @@ enum Part {
     Event(Arc<Event>),
     /// All stored events were given.
     End,
+    /// The fetch was refused.
+    Closed(Text),
     /// A message that has nothing to do with the fetch.
     Other,
 }
@@ -193,27 +232,38 @@ enum Part {
 fn hear<S: Read + Write + Drop, K: MaskKeys + Drop>(
     alloc: Global,
     socket: &mut WebSocket<S, K>,
+    notes: &mut Notes,
 ) -> Result<Part, LinkFault> {
-    match heard(alloc, socket)? {
-        Some(message) => part_in(message),
+    match heard(alloc, socket, notes)? {
+        Some(message) => Ok(part_in(message)),
         None => Ok(Part::Other),
     }
 }
 
-fn part_in(message: FromRelay) -> Result<Part, LinkFault> {
+fn part_in(message: FromRelay) -> Part {
     match message {
-        FromRelay::Event { sub, event } => Ok(if is_ours(&sub) {
-            Part::Event(event)
-        } else {
-            Part::Other
-        }),
-        FromRelay::Eose { sub } => Ok(if is_ours(&sub) {
-            Part::End
-        } else {
-            Part::Other
-        }),
-        FromRelay::Closed { sub, text } => refused(&sub, text),
-        _other => Ok(Part::Other),
+        FromRelay::Event { sub, event } => {
+            if is_ours(&sub) {
+                Part::Event(event)
+            } else {
+                Part::Other
+            }
+        }
+        FromRelay::Eose { sub } => {
+            if is_ours(&sub) {
+                Part::End
+            } else {
+                Part::Other
+            }
+        }
+        FromRelay::Closed { sub, text } => {
+            if is_ours(&sub) {
+                Part::Closed(text)
+            } else {
+                Part::Other
+            }
+        }
+        _other => Part::Other,
     }
 }
 
@@ -221,12 +271,9 @@ fn is_ours(sub: &Sub) -> bool {
     sub.as_str() == NAME
 }
 
-/// A refusal, if it is one of the fetch.
-fn refused(sub: &Sub, text: Text) -> Result<Part, LinkFault> {
-    if is_ours(sub) {
-        Err(LinkFault::Refused(text))
-    } else {
-        Ok(Part::Other)
+impl<S, K> Explains for WsSource<S, K> {
+    fn notes(&self) -> &Notes {
+        &self.notes
     }
 }
 

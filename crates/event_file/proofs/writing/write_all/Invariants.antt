@@ -1,6 +1,6 @@
 use Rattle.std.proofs.Common.{take}
 use Rattle.mirror_run.specs.Waiting.{Sends}
-use Rattle.event_file.specs.Text.{text_of}
+use Rattle.event_log.specs.Text.{text_of}
 use Rattle.event_file.proofs.writing.write_all.Given as goal
 
 abbrev pub invariant-loop-place : goal.invariant-loop-place

@@ -1,30 +1,8 @@
-use Rattle.std.proofs.Common.{ℕ, ◌&&◌, not, List, map, ap, ◌∙◌, subst}
-use Rattle.neg_codec.specs.declared.Id.{Id}
-use Rattle.sharing.specs.Sharing.{is_among}
-use Rattle.sharing.specs.Offers.{relays_of, Ascend}
-use Rattle.mirror_core.proofs.Struck.{struck_ids, left_of, less_of, next_of, on_err}
+use Rattle.mirror_core.proofs.Struck.{less_of, next_of, on_err}
 use Rattle.mirror_core.proofs.next.next_plan.Goals as goal
 
 pub returns-clause-planned : goal.returns-clause-planned
-returns-clause-planned c =
-    let old = c.args.table.now.offers in
-    let gives = c.args.last.now.gives in
-    let cells = c.args.cells.now in
-    let new = c.leave_out.new.self.offers in
-    let gone = c.in_ok-gone.ensures.struck in
-    let ids = subst Ascend (ap (map (λ o. o.0)) gone ∙ struck_ids old gives cells) c.in_ok-gone.ensures.ascend in
-    let left = left_of old new gives cells c.leave_out.ensures.table.offers_ok ids
-    (λ i r. c.in_ok-leave_out.ensures.offers i r ∙ ap (λ (z : List (Id × List ℕ)). is_among (relays_of old i) r && not (is_among (relays_of z i) r)) (c.deref.ensures.value ∙ gone)) in
-    next_of c.args.bases.now old new gives cells c.plan.result left c.plan.ensures.planned c.plan.ensures.least
+returns-clause-planned c = next_of c.args.bases.now c.args.table.now.offers c.strike.new.table.offers c.args.last.now.gives c.args.cells.now c.plan.result c.in_ok-strike.ensures.left c.plan.ensures.planned c.plan.ensures.least
 
 pub returns-clause-err : goal.returns-clause-err
-returns-clause-err c =
-    let old = c.args.table.now.offers in
-    let gives = c.args.last.now.gives in
-    let cells = c.args.cells.now in
-    let new = c.leave_out.new.self.offers in
-    let gone = c.in_ok-gone.ensures.struck in
-    let ids = subst Ascend (ap (map (λ o. o.0)) gone ∙ struck_ids old gives cells) c.in_ok-gone.ensures.ascend in
-    let left = left_of old new gives cells c.leave_out.ensures.table.offers_ok ids
-    (λ i r. c.in_ok-leave_out.ensures.offers i r ∙ ap (λ (z : List (Id × List ℕ)). is_among (relays_of old i) r && not (is_among (relays_of z i) r)) (c.deref.ensures.value ∙ gone)) in
-    on_err c.plan.result (less_of old new gives cells left)
+returns-clause-err c = on_err c.plan.result (less_of c.args.table.now.offers c.strike.new.table.offers c.args.last.now.gives c.args.cells.now c.in_ok-strike.ensures.left)

@@ -16,7 +16,7 @@ returns-clause-taken c =
     let read = same_read c.args.limit c.args.roll.now c.args.answered.now (findings_of c.args.found.now) (findings_of c.walk.new.found) mid.need mid.have (edge_of c.in_ok-draft.until) c.in_ok-draft.draft c.in_ok-tidy.ensures.need c.in_ok-tidy.ensures.have c.in_ok-draft.ensures.read in
     let w = walked c.args.limit c.args.roll.now c.args.asked.now c.args.answered.now (edge_of c.in_ok-draft.until) (findings_of c.args.found.now) mid new c.in_ok-draft.draft c.in_ok-draft.ensures.draft read c.in_ok-trust_skipped.ensures refl refl in
     let taken = taken_from c.args.limit c.args.roll.now c.args.asked.now c.args.answered.now c.in_ok-draft.draft.spans (edge_of c.in_ok-draft.until) (findings_of c.args.found.now) mid new c.args.found.now.most c.requires.enough c.requires.roll c.requires.ascends read.ascends c.requires.truth
-    read.found c.in_ok-trust_skipped.ensures refl refl c.in_ok-draft.ensures.draft.ascends c.in_ok-draft.ensures.draft.none_empty w in
+    read.found c.in_ok-trust_skipped.ensures refl refl c.in_ok-draft.ensures.draft.ascends c.in_ok-draft.ensures.draft.none_empty c.in_ok-draft.ensures.draft.skips_joined w in
     rw (c.into_message-next.ensures.value, c.tidy.ensures.kept.0, c.tidy.ensures.kept.1, c.walk.ensures.most) taken
 
 pub returns-clause-leaves_open : goal.returns-clause-leaves_open

@@ -14,5 +14,5 @@ pub returns-clause-finds : goal.returns-clause-finds
 returns-clause-finds c =
     let own : c.deref.result.now ≡ ids_of (part c.args.roll.now (edge_of c.args.lower.now) (edge_of c.args.upper.now)) =
     c.deref.ensures.value ∙ c.in_ok-own.ensures ∙ ap (λ (xs : List Item). ids_of xs) (sym c.places-lo.ensures.part) in
-    finds_ids c.args.roll.now (edge_of c.args.lower.now) (edge_of c.args.upper.now) c.args.listed.now c.deref.result.now (findings_of c.args.found.now) (findings_of c.compare.new.found) own
+    finds_ids c.args.roll.now (edge_of c.args.lower.now) (edge_of c.args.upper.now) c.args.listed.now c.deref.result.now (findings_of c.args.found.now) (findings_of c.compare.new.found) c.requires own
     c.in_ok-compare.ensures.need c.in_ok-compare.ensures.have (ap (λ v. map pair_of v.items) c.compare.ensures.kept.0)

@@ -8,7 +8,7 @@ use Rattle.neg_initiator.proofs.settle.settle_range.Goals as goal
 
 pub returns-in_ok-trust-in-Print-clause-finds : goal.returns-in_ok-trust-in-Print-clause-finds
 returns-in_ok-trust-in-Print-clause-finds c =
-    finds_print c.args.roll.now (edge_of c.args.lower.now) (span_of c.args.range.now) _ (findings_of c.args.found.now) _ (ap claim_of c.in-Print.is) (c.has_print.ensures.own.0 c.if-has_print.true) refl refl c.in_ok-trust-in-Print.ensures
+    finds_print c.args.roll.now (edge_of c.args.lower.now) (span_of c.args.range.now) _ (findings_of c.args.found.now) _ (c.is_below.ensures.0 c.if-not-is_below.false) (ap claim_of c.in-Print.is) (c.has_print.ensures.own.0 c.if-has_print.true) refl refl c.in_ok-trust-in-Print.ensures
 
 pub returns-in_ok-trust-in-Print-clause-settles : goal.returns-in_ok-trust-in-Print-clause-settles
 returns-in_ok-trust-in-Print-clause-settles c = inl (record {

@@ -5,30 +5,19 @@ use Rattle.neg_codec.specs.Text.{Spells}
 use Rattle.neg_codec.specs.Reading.{Fails, longest, message_at}
 use Rattle.neg_codec.specs.declared.CodecFault.{CodecFault}
 use Rattle.neg_codec.specs.declared.CodecFault.TheVariants as codec
-use Rattle.item_roll.specs.Truth.{Follows}
-use Rattle.neg_draft.specs.Coverage.{NoneEmpty}
-use Rattle.neg_responder.specs.Reply.{SkipsSame, TellsOthers, Refuses}
+use Rattle.neg_responder.specs.Reply.{Replies, Refuses}
 use Rattle.neg_responder.specs.declared.answering.AnswerFault.TheVariants as answer_fault
 use Rattle.neg_responder.proofs.answering.answer.Goals as goal
 
 same_message : (q m : List Span) → ◌≡◌ {A = Result (List Span) CodecFault} (Ok q) (Ok m) → m ≡ q
 same_message q m e = cc
 
-pub returns-in-Ok-clause-follows : goal.returns-in-Ok-clause-follows
-returns-in-Ok-clause-follows c =
-    IfOk-weaker c.answer_message.result
-    (λ v. (r : List Span) × Spells v.items r × Follows c.args.roll.now c.in-Ok.asked r × SkipsSame c.args.limit (length v.items) c.args.roll.now c.in-Ok.asked r × NoneEmpty r)
-    (λ v. (q : List Span) → length c.args.query.now ≤ longest → Spells c.args.query.now q → (r : List Span) × Spells v.items r × Follows c.args.roll.now q r × SkipsSame c.args.limit (length v.items) c.args.roll.now q r × NoneEmpty r)
-    (λ v h q le spelled. subst (λ (m : List Span). (r : List Span) × Spells v.items r × Follows c.args.roll.now m r × SkipsSame c.args.limit (length v.items) c.args.roll.now m r × NoneEmpty r) (same_message q c.in-Ok.asked (c.in-Ok.ensures.only q le spelled)) h)
-    c.answer_message.ensures.follows
-
-pub returns-in-Ok-clause-tells : goal.returns-in-Ok-clause-tells
-returns-in-Ok-clause-tells c =
-    IfOk-weaker c.answer_message.result
-    (λ v. (r : List Span) × Spells v.items r × TellsOthers c.args.limit (length v.items) c.args.roll.now c.in-Ok.asked r)
-    (λ v. (q : List Span) → length c.args.query.now ≤ longest → Spells c.args.query.now q → (r : List Span) × Spells v.items r × TellsOthers c.args.limit (length v.items) c.args.roll.now q r)
-    (λ v h q le spelled. subst (λ (m : List Span). (r : List Span) × Spells v.items r × TellsOthers c.args.limit (length v.items) c.args.roll.now m r) (same_message q c.in-Ok.asked (c.in-Ok.ensures.only q le spelled)) h)
-    c.answer_message.ensures.tells
+pub returns-in-Ok-clause-replies : goal.returns-in-Ok-clause-replies
+returns-in-Ok-clause-replies c =
+    IfOk-weaker c.answer_message.result (λ v. Replies c.args.limit c.args.roll.now c.in-Ok.asked v.items)
+    (λ v. (q : List Span) → length c.args.query.now ≤ longest → Spells c.args.query.now q → Replies c.args.limit c.args.roll.now q v.items)
+    (λ v h q le spelled. subst (λ (m : List Span). Replies c.args.limit c.args.roll.now m v.items) (same_message q c.in-Ok.asked (c.in-Ok.ensures.only q le spelled)) h)
+    c.answer_message.ensures.replies
 
 -- a fault that refuses is the reader's
 fault_read : (f : CodecFault) (read : Result (List Span) CodecFault) → Refuses f → Fails f read → read ≡ Err f
@@ -61,11 +50,8 @@ no_version f q b e h = let g = subst (λ (x : CodecFault). Fails x (found q)) e 
 
 pub returns-in-Err : goal.returns-in-Err
 returns-in-Err c = record {
-  follows = IfOk-weaker c.answer_fault.result (λ v. (b : ℕ) × (c.in-Err.fault ≡ codec.Version b))
-      (λ v. (q : List Span) → length c.args.query.now ≤ longest → Spells c.args.query.now q → (r : List Span) × Spells v.items r × Follows c.args.roll.now q r × SkipsSame c.args.limit (length v.items) c.args.roll.now q r × NoneEmpty r)
-      (λ v h q le spelled. absurd (no_version c.in-Err.fault q h.0 h.1 (c.in-Err.ensures.only q le spelled))) c.answer_fault.ensures.others;
-  tells = IfOk-weaker c.answer_fault.result (λ v. (b : ℕ) × (c.in-Err.fault ≡ codec.Version b))
-      (λ v. (q : List Span) → length c.args.query.now ≤ longest → Spells c.args.query.now q → (r : List Span) × Spells v.items r × TellsOthers c.args.limit (length v.items) c.args.roll.now q r)
+  replies = IfOk-weaker c.answer_fault.result (λ v. (b : ℕ) × (c.in-Err.fault ≡ codec.Version b))
+      (λ v. (q : List Span) → length c.args.query.now ≤ longest → Spells c.args.query.now q → Replies c.args.limit c.args.roll.now q v.items)
       (λ v h q le spelled. absurd (no_version c.in-Err.fault q h.0 h.1 (c.in-Err.ensures.only q le spelled))) c.answer_fault.ensures.others;
   short = IfOk-weaker c.answer_fault.result (λ v. v.items ≡ 0x61 ∷ []) (λ v. length v.items ≤ c.args.limit) (λ v e. omega (arith, ap length e, c.requires)) c.answer_fault.ensures.own;
   bad = λ f e.

@@ -1,6 +1,7 @@
 use Rattle.std.proofs.Common.{inl, inr, codes}
 use Rattle.std.proofs.lemmas.Result.{err_from_is_err_and}
 use Rattle.serde_json.specs.View.{view}
+use Rattle.nostr_filter.proofs.Bare.{bare_reads}
 use Rattle.nostr_filter.proofs.ShapeTests.{shapes_pass, not_hex_at, hex_at}
 use Rattle.nostr_filter.proofs.reading.read_filter.Goals as goal
 
@@ -24,3 +25,6 @@ returns-in_err-ids-clause-err c =
       | inl memory ↦ rw memory h.object
       | inr e ↦ rw (e.0) (shapes_pass d _ h, (hex_at (codes "authors") d _ _ h.authors a.0 a.1, not_hex_at (codes "ids") d _ h.ids e.1))
     ])
+
+pub returns-then-is_bare-clause-ok : goal.returns-then-is_bare-clause-ok
+returns-then-is_bare-clause-ok c = rw (c.is_bare.ensures c.if-is_bare.true, c.all.ensures) bare_reads

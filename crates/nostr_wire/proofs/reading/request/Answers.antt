@@ -72,5 +72,9 @@ returns-clause-ok c =
     let fs = take (length vs - 1) (drop 1 vs) in
     let whole = rest_is vs v c.in-len1-up.len_at_least c.first-item.is in
     let some : 1 ≤ length fs = grind (arith, common_steps, c.is_empty.ensures, c.if-is_empty.false) in
-    let read : AreFilters c.in-Ok.filters fs = subst (λ l. AreFilters l fs) (sym c.in-Ok.ensures.made.0) c.in_ok-filters_of.ensures.ok in
-    request_read vs fs v (sub c.in_ok-sub.sub ∷ map filter c.in-Ok.filters) whole some (ap (λ ps. a_sub ∷ ps) read.0, (c.in_ok-sub.ensures.ok, read.1))
+    let found = c.in_ok-filters_of.ensures.ok in
+    let read : AreFilters found.0 fs = found.2 in (
+      found.0,
+      c.in-Ok.ensures.made.0 ∙ found.1,
+      request_read vs fs v (sub c.in_ok-sub.sub ∷ map filter found.0) whole some (ap (λ ps. a_sub ∷ ps) read.0, (c.in_ok-sub.ensures.ok, read.1)),
+    )

@@ -1,11 +1,15 @@
-use Rattle.std.proofs.Common.{ap, ◌∙◌, length}
-use Rattle.relay_core.specs.Kept.{kept_of}
-use Rattle.relay_core.specs.Due.{due, marked}
+use Rattle.std.proofs.Common.{◌≤◌, ap, ◌∙◌, length, take, map, subst}
+use Rattle.nostr_wire.specs.Forms.{relay_form}
+use Rattle.relay_core.specs.Due.{due}
+use Rattle.relay_core.proofs.Passing.{catches_up}
 use Rattle.relay_core.proofs.catching.catch_up.Goals as goal
 
-pub returns-clause-due : goal.returns-clause-due
-returns-clause-due g c =
-    let t = c.args.talk.now in (
-      c.in_ok-out.ensures ∙ ap (λ ss. due ss c.events.result.now) c.subs.ensures ∙ ap (due t.subs) (c.events.ensures ∙ c.in_ok-all.ensures.list),
-      c.mark_all.ensures ∙ ap (λ n. kept_of (marked n t.subs) t.sessions) (c.front.ensures ∙ ap length c.in_ok-all.ensures.list),
-    )
+pub returns-clause-caught : goal.returns-clause-caught
+returns-clause-caught g c =
+    let t = c.args.talk.now in
+    let n = c.in_ok-caught.caught.front in
+    let whole = c.events.ensures ∙ c.in_ok-all.ensures.list in
+    catches_up c.all.new.self n (map relay_form c.in_ok-caught.caught.out.items) t c.mark_all.new.self
+    (subst (λ es. n ≤ length es) whole c.in_ok-caught.ensures.within)
+    (c.in_ok-caught.ensures.given ∙ ap (λ ss. due ss (take n c.events.result.now)) c.subs.ensures ∙ ap (λ es. due t.subs (take n es)) whole)
+    c.mark_all.ensures

@@ -7,7 +7,7 @@ use Rattle.relay_core.proofs.sessions.reply.Goals as goal
 pub returns-in-Ok-clause-answer : goal.returns-in-Ok-clause-answer
 returns-in-Ok-clause-answer c =
     let good : ¬ IsBad c.args.query.now = λ b. let other = sym c.in-Ok.is ∙ c.answer.ensures.refused b.0 b.1 b.2 in cc in
-    is_answer c.args.limit c.args.roll.now c.args.query.now c.in-Ok.bytes.items c.new.result c.new.ensures good c.in-Ok.ensures.follows c.in-Ok.ensures.short c.in-Ok.ensures.version
+    is_answer c.args.limit c.args.roll.now c.args.query.now c.in-Ok.bytes.items c.new.result c.new.ensures good c.in-Ok.ensures.replies c.in-Ok.ensures.short c.in-Ok.ensures.version
 
 pub returns-in-Err-Bad-clause-bad : goal.returns-in-Err-Bad-clause-bad
 returns-in-Err-Bad-clause-bad c none =

@@ -2,7 +2,7 @@ use Rattle.std.proofs.Common.{◌≡◌, List, ap, sym, subst, ◌∙◌, inl, i
 use Rattle.neg_codec.specs.Keys.{infinity}
 use Rattle.neg_codec.specs.Ranges.{Span}
 use Rattle.neg_codec.specs.Encoding.{text_of}
-use Rattle.neg_draft.specs.Coverage.{Written, NoneEmpty}
+use Rattle.neg_draft.specs.Coverage.{Written, NoneEmpty, SkipsJoined}
 use Rattle.neg_initiator.specs.Pairs.{pair_of}
 use Rattle.neg_initiator.specs.declared.phase.Phase.TheVariants as phase
 use Rattle.neg_initiator.proofs.Taking.{least_low, begun, first_split, told_limit}
@@ -15,7 +15,7 @@ pub invariant_of-initiator : goal.invariant_of-initiator
 invariant_of-initiator c =
     let b = begun c.args.roll.now c.args.limit c.in_ok-draft.draft c.new.result c.new.ensures c.in_ok-draft.ensures.told in
     record {
-      sound = record { roll = c.len.ensures.roll; ascends = rw c.into_message-asked.ensures.value c.into_message-asked.ensures.draft.ascends; none_empty = subst NoneEmpty (sym c.into_message-asked.ensures.value) c.into_message-asked.ensures.draft.none_empty; truth = rw c.into_message-asked.ensures.value b.truth; enough = c.requires };
+      sound = record { roll = c.len.ensures.roll; ascends = rw c.into_message-asked.ensures.value c.into_message-asked.ensures.draft.ascends; none_empty = subst NoneEmpty (sym c.into_message-asked.ensures.value) c.into_message-asked.ensures.draft.none_empty; skips_joined = subst SkipsJoined (sym c.into_message-asked.ensures.value) c.into_message-asked.ensures.draft.skips_joined; truth = rw c.into_message-asked.ensures.value b.truth; enough = c.requires };
       sets = λ e. absurd (let over : phase.Asking ≡ phase.Ended = e in cc);
     }
 
@@ -27,7 +27,7 @@ returns c =
       limit_is = refl;
       most = refl;
       phase = refl;
-      sound = record { roll = c.len.ensures.roll; ascends = rw c.into_message-asked.ensures.value c.into_message-asked.ensures.draft.ascends; none_empty = subst NoneEmpty (sym c.into_message-asked.ensures.value) c.into_message-asked.ensures.draft.none_empty; truth = rw c.into_message-asked.ensures.value b.truth; enough = c.requires };
+      sound = record { roll = c.len.ensures.roll; ascends = rw c.into_message-asked.ensures.value c.into_message-asked.ensures.draft.ascends; none_empty = subst NoneEmpty (sym c.into_message-asked.ensures.value) c.into_message-asked.ensures.draft.none_empty; skips_joined = subst SkipsJoined (sym c.into_message-asked.ensures.value) c.into_message-asked.ensures.draft.skips_joined; truth = rw c.into_message-asked.ensures.value b.truth; enough = c.requires };
       spelled = c.in_ok-text.ensures.spelled;
       short = omega (
         arith,

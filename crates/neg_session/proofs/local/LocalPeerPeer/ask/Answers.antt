@@ -18,10 +18,10 @@ pub returns-clause-becomes : goal.returns-clause-becomes
 returns-clause-becomes c =
     let pair : c.in_ok-pair.pair ≡ exchange c.args.question.now c.in-Ok.reply.items = search rules in
     let grew : c.push.new.self.items ≡ c.self.inside.pairs.items ++ exchange c.args.question.now c.in-Ok.reply.items ∷ [] = search rules in
-    let answers : AnswersBy c.self.inside.roll (exchange c.args.question.now c.in-Ok.reply.items) = answered_by _ _ _ _ c.in-Ok.ensures.follows (λ e. let bad = c.in-Ok.ensures.refused _ e tt in cc) in
+    let answers : AnswersBy c.self.inside.limit c.self.inside.roll (exchange c.args.question.now c.in-Ok.reply.items) = answered_by _ _ _ _ c.in-Ok.ensures.replies (λ e. let bad = c.in-Ok.ensures.refused _ e tt in cc) in
     keeps_one _ _ (exchange c.args.question.now c.in-Ok.reply.items) (ap (λ (v : Local). v.roll) c.self.view_is) (ap (λ (v : Local). v.limit) c.self.view_is)
     (grew ∙ ap (λ (v : Local). v.log ++ exchange c.args.question.now c.in-Ok.reply.items ∷ []) c.self.view_is)
-    (subst (λ (b : List Item). AnswersBy b (exchange c.args.question.now c.in-Ok.reply.items)) (ap (λ (v : Local). v.roll) c.self.view_is) answers)
+    (subst (λ (v : Local). AnswersBy v.limit v.roll (exchange c.args.question.now c.in-Ok.reply.items)) c.self.view_is answers)
     (subst (λ (n : ℕ). IsAnswered n (exchange c.args.question.now c.in-Ok.reply.items)) (ap (λ (v : Local). v.limit) c.self.view_is)
     (record { taken = λ h. let bad = c.in-Ok.ensures.refused h.0 h.1 h.2 in cc; short = c.in-Ok.ensures.short }))
 

@@ -5,10 +5,10 @@ use Rattle.nostr_event.specs.EventJson.{Refuses}
 use Rattle.nostr_event.proofs.Laws.{refused_none}
 use Rattle.nostr_event.proofs.event.Event.from_json.Goals as goal
 
-pub returns-in_err-_shapes-clause-no_event : goal.returns-in_err-_shapes-clause-no_event
-returns-in_err-_shapes-clause-no_event c =
+pub returns-in_err-_bare-clause-no_event : goal.returns-in_err-_bare-clause-no_event
+returns-in_err-_bare-clause-no_event c =
     let p = err_from_is_err_and c.from_residual.result c.from_residual.ensures.1 in
-    rw (p.1, p.2) (refused_none (view c.args.value.now) _ c.in_err-_shapes.ensures.err)
+    rw (p.1, p.2) (refused_none (view c.args.value.now) _ c.in_err-_bare.ensures.err)
 
 pub returns-clause-fault : goal.returns-clause-fault
 returns-clause-fault c = subst (λ d. IfErr c.take_json-read.result (Refuses d)) c.in_ok-copy.ensures.cases c.take_json-read.ensures.fault

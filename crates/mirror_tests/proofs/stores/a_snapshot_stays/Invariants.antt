@@ -1,5 +1,0 @@
-use Rattle.mirror_tests.proofs.stores.a_snapshot_stays.Given as goal
-
--- the store that is just opened
-abbrev pub ghosts-played : goal.ghosts-played
-ghosts-played g a = record { book = a.blank; most = 1000000 }

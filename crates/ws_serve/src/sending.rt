@@ -1,0 +1,80 @@
+//! What a client is sent.
+ghost use Rattle.std.specs.Prelude.{IfErr};
+ghost use mathlib.Core.List.{IsPrefix};
+ghost use Rattle.ws_socket.specs.Faults.{IsOfStream};
+
+use crate::fault::on_link;
+use crate::gathered::Gathered;
+use event_store::{Naming, Reader};
+use nostr_wire::{FromRelay, write_relay_in};
+use relay_core::Conn;
+use std::alloc::Global;
+use std::io::Write;
+use tungstenite::Error;
+use ws_socket::LinkFault;
+
+/// In so many parts what was published for the client is sent at once. Each has an event at least.
+const MOST_PARTS: u32 = 1_000_000;
+
+/// Puts what was published for the client behind what waits to be sent. Where that is much it comes in parts, and what waits is sent
+/// behind each but the last.
+pub fn catch_up<S: Write, J: Naming>(
+    alloc: Global,
+    stream: &mut Gathered<S>,
+    conn: &mut Conn,
+    reader: &mut Reader<J>,
+) -> Result<(), LinkFault>
+    ensures fault { IfErr result IsOfStream }
+    ensures reader { IsPrefix reader.old reader.new }
+{
+    for _part in 0..MOST_PARTS {
+        let caught = on_link(conn.catch_up(reader))?;
+        say_all(alloc, stream, caught.out)?;
+        if caught.is_all {
+            return Ok(());
+        }
+        send(stream)?;
+    }
+    Ok(())
+}
+
+/// Sends what waits.
+fn send<S: Write>(stream: &mut Gathered<S>) -> Result<(), LinkFault>
+    ensures { IfErr result IsOfStream }
+{
+    match stream.send() {
+        Ok(()) => Ok(()),
+        Err(error) => Err(Error::Io(error).into()),
+    }
+}
+
+/// Puts the messages behind what waits to be sent. Each is dropped once it is written, and its memory is at hand for the next.
+pub fn say_all<S: Write>(
+    alloc: Global,
+    stream: &mut Gathered<S>,
+    messages: Vec<FromRelay>,
+) -> Result<(), LinkFault>
+    ensures { IfErr result IsOfStream }
+{
+    let mut room = Vec::new(alloc);
+    for message in messages {
+        room = say(alloc, stream, room, &message)?;
+    }
+    Ok(())
+}
+
+/// Puts the message behind what waits to be sent. Its text is made where room is, which is given back.
+pub fn say<S: Write>(
+    alloc: Global,
+    stream: &mut Gathered<S>,
+    room: Vec<u8>,
+    message: &FromRelay,
+) -> Result<Vec<u8>, LinkFault>
+    ensures { IfErr result IsOfStream }
+{
+    let text = write_relay_in(alloc, room, message)?;
+    match stream.put_text(text.as_bytes()) {
+        Ok(()) => Ok(text.into_bytes()),
+        Err(error) => Err(Error::Io(error).into()),
+    }
+}

@@ -1,0 +1,242 @@
+//! Events that came together.
+
+ghost use Rattle.std.specs.Prelude.{IfErr};
+ghost use mathlib.Core.List.{IsPrefix};
+ghost use Rattle.ws_socket.specs.Faults.{IsOfStream};
+
+use crate::fault::on_link;
+use crate::gathered::Gathered;
+use crate::sending::{catch_up, say, say_all};
+use crate::turns::serve_text;
+use event_log::{Keeper, Kept};
+use event_store::{Desk, InsertFault, Naming, Placed, Reader};
+use neg_codec::Id;
+use nostr_event::Event;
+use nostr_wire::FromRelay;
+use relay_core::{Conn, Step, StoringFault};
+use std::alloc::Global;
+use std::io::Write;
+use std::sync::{Arc, Mutex, Wait};
+use ws_socket::LinkFault;
+
+/// So many events wait for no more.
+pub const MOST_TOGETHER: usize = 64;
+
+/// Hears the text of an event, which then waits for those that came with it. A text that has none is answered behind those
+/// that wait.
+pub fn take_event<W: Wait, S: Write, J: Naming, D: Wait + Drop, H: Keeper<J>>(
+    rt: &W,
+    alloc: Global,
+    stream: &mut Gathered<S>,
+    conn: &mut Conn,
+    reader: &mut Reader<J>,
+    desk: &Mutex<Desk<J, D>>,
+    keeper: &H,
+    turn: &Mutex<()>,
+    events: &mut Vec<Arc<Event>>,
+    text: &str,
+) -> Result<(), LinkFault>
+    ensures fault { IfErr result IsOfStream }
+    ensures reader { IsPrefix reader.old reader.new }
+{
+    let Step { out, store } = match serve_text(rt, conn, reader, turn, text) {
+        Ok(step) => step,
+        Err(fault) => {
+            // Those that wait came before: they are stored at least.
+            let _ = desk.lock(rt).insert_each(rt, events);
+            return Err(fault);
+        }
+    };
+    if let Some(event) = store {
+        events.push(event)?;
+        if events.len() < MOST_TOGETHER {
+            return Ok(());
+        }
+    }
+    answer_each(rt, alloc, stream, conn, reader, desk, keeper, events)?;
+    say_all(alloc, stream, out)?;
+    catch_up(alloc, stream, conn, reader)
+}
+
+/// Puts the events that wait into the store, sees to it that they are kept, and puts the answers to them and what was published
+/// for the client behind what waits to be sent.
+pub fn answer_all<W: Wait, S: Write, J: Naming, D: Wait + Drop, H: Keeper<J>>(
+    rt: &W,
+    alloc: Global,
+    stream: &mut Gathered<S>,
+    conn: &mut Conn,
+    reader: &mut Reader<J>,
+    desk: &Mutex<Desk<J, D>>,
+    keeper: &H,
+    events: &mut Vec<Arc<Event>>,
+) -> Result<(), LinkFault>
+    ensures fault { IfErr result IsOfStream }
+    ensures reader { IsPrefix reader.old reader.new }
+{
+    if events.is_empty() {
+        return Ok(());
+    }
+    answer_each(rt, alloc, stream, conn, reader, desk, keeper, events)?;
+    catch_up(alloc, stream, conn, reader)
+}
+
+/// The same without what was published for the client.
+fn answer_each<W: Wait, S: Write, J: Naming, D: Wait + Drop, H: Keeper<J>>(
+    rt: &W,
+    alloc: Global,
+    stream: &mut Gathered<S>,
+    conn: &mut Conn,
+    reader: &mut Reader<J>,
+    desk: &Mutex<Desk<J, D>>,
+    keeper: &H,
+    events: &mut Vec<Arc<Event>>,
+) -> Result<(), LinkFault>
+    ensures fault { IfErr result IsOfStream }
+    ensures reader { IsPrefix reader.old reader.new }
+{
+    if events.is_empty() {
+        return Ok(());
+    }
+    let all = stored_all(rt, alloc, desk, events)?;
+    let kept = kept_of(rt, keeper, all.as_slice());
+    let mut room = Vec::new(alloc);
+    for one in all {
+        let message = told(conn, reader, one, kept.as_ref())?;
+        room = say(alloc, stream, room, &message)?;
+    }
+    events.clear();
+    Ok(())
+}
+
+/// What became of an event that was put into the store.
+#[derive(Drop)]
+struct Stored<J: Naming> {
+    id: Id,
+    placed: Result<Placed<J>, InsertFault<J>>,
+}
+
+/// Puts the events into the store, and tells what became of each.
+fn stored_all<W: Wait, J: Naming, D: Wait + Drop>(
+    rt: &W,
+    alloc: Global,
+    desk: &Mutex<Desk<J, D>>,
+    events: &[Arc<Event>],
+) -> Result<Vec<Stored<J>>, LinkFault>
+    ensures { IfErr result IsOfStream }
+{
+    let mut all = Vec::with_capacity(alloc, events.len())?;
+    let mut placed = placed_together(rt, alloc, desk, events).into_iter();
+    for event in events {
+        let one = match placed.next() {
+            Some(placed) => Stored {
+                id: placed.id(),
+                placed: Ok(placed),
+            },
+            None => stored_one(rt, desk, Arc::try_clone(event)?),
+        };
+        all.push(one)?;
+    }
+    Ok(all)
+}
+
+/// Puts several events into the store at once, as many as it takes; none where no memory was found. Each that is left is put in by
+/// itself, which tells why it can't be.
+fn placed_together<W: Wait, J: Naming, D: Wait + Drop>(
+    rt: &W,
+    alloc: Global,
+    desk: &Mutex<Desk<J, D>>,
+    events: &[Arc<Event>],
+) -> Vec<Placed<J>> {
+    if events.len() < 2 {
+        return Vec::new(alloc);
+    }
+    match desk.lock(rt).insert_each(rt, events) {
+        Ok(placed) => placed,
+        Err(_) => Vec::new(alloc),
+    }
+}
+
+/// Puts the event into the store, and tells what became of it.
+fn stored_one<W: Wait, J: Naming, D: Wait + Drop>(
+    rt: &W,
+    desk: &Mutex<Desk<J, D>>,
+    event: Arc<Event>,
+) -> Stored<J> {
+    let id = event.id();
+    let placed = match desk.lock(rt).insert(rt, event) {
+        Ok(placed) => Ok(placed),
+        Err((fault, _event)) => Err(fault),
+    };
+    Stored { id, placed }
+}
+
+/// Sees to it that the events that were placed are kept, the last of which was placed behind all others.
+fn kept_of<W: Wait, J: Naming, H: Keeper<J>>(
+    rt: &W,
+    keeper: &H,
+    all: &[Stored<J>],
+) -> Option<Kept<J, H::On>> {
+    let mut last: Option<&Placed<J>> = None;
+    for one in all {
+        if let Ok(placed) = &one.placed {
+            last = Some(placed);
+        }
+    }
+    keeper.kept(rt, last?)
+}
+
+/// Tells whether the event is in the store, and kept there.
+fn told<J: Naming, M>(
+    conn: &mut Conn,
+    reader: &mut Reader<J>,
+    stored: Stored<J>,
+    kept: Option<&Kept<J, M>>,
+) -> Result<FromRelay, LinkFault>
+    ensures fault { IfErr result IsOfStream }
+    ensures reader { IsPrefix reader.old reader.new }
+{
+    let Stored { id, placed } = stored;
+    match placed {
+        Ok(placed) => acknowledged(conn, reader, &placed, kept),
+        Err(fault) => on_link(conn.unstored(id, &StoringFault::Refused(fault))),
+    }
+}
+
+/// Tells that an event that is in the store is kept there, or that it can't be.
+fn acknowledged<J: Naming, M>(
+    conn: &mut Conn,
+    reader: &mut Reader<J>,
+    placed: &Placed<J>,
+    kept: Option<&Kept<J, M>>,
+) -> Result<FromRelay, LinkFault>
+    ensures fault { IfErr result IsOfStream }
+    ensures reader { IsPrefix reader.old reader.new }
+{
+    match kept {
+        Some(kept) if placed.front() <= kept.len() => on_link(conn.stored(reader, placed, kept)),
+        _ => {
+            let fault: StoringFault<J> = StoringFault::Unkept;
+            on_link(conn.unstored(placed.id(), &fault))
+        }
+    }
+}
+
+/// Puts the event into the store, sees to it that it is kept, and tells whether it is.
+pub fn answer_to<W: Wait, J: Naming, D: Wait + Drop, H: Keeper<J>>(
+    rt: &W,
+    conn: &mut Conn,
+    reader: &mut Reader<J>,
+    desk: &Mutex<Desk<J, D>>,
+    keeper: &H,
+    event: Arc<Event>,
+) -> Result<FromRelay, LinkFault>
+    ensures fault { IfErr result IsOfStream }
+    ensures reader { IsPrefix reader.old reader.new }
+{
+    let one = stored_one(rt, desk, event);
+    let kept = match &one.placed {
+        Ok(placed) => keeper.kept(rt, placed),
+        Err(_) => None,
+    };
+    told(conn, reader, one, kept.as_ref())
+}

@@ -1,0 +1,33 @@
+//! Long texts, which are read one at a time.
+ghost use Rattle.std.specs.Prelude.{IfErr};
+ghost use mathlib.Core.List.{IsPrefix};
+ghost use Rattle.ws_socket.specs.Faults.{IsOfStream};
+
+use crate::fault::on_link;
+use event_store::{Naming, Reader};
+use relay_core::{Conn, Step};
+use std::sync::{Mutex, Wait};
+use ws_socket::LinkFault;
+
+/// A text of more bytes is long. What is read of it may take a hundred times as much memory meanwhile.
+const LONG_TEXT: usize = 262_144;
+
+/// Serves the text. A long one waits for its turn.
+pub fn serve_text<W: Wait, J: Naming>(
+    rt: &W,
+    conn: &mut Conn,
+    reader: &mut Reader<J>,
+    turn: &Mutex<()>,
+    text: &str,
+) -> Result<Step, LinkFault>
+    ensures fault { IfErr result IsOfStream }
+    ensures reader { IsPrefix reader.old reader.new }
+{
+    if text.len() <= LONG_TEXT {
+        return on_link(conn.serve(reader, text));
+    }
+    let held = turn.lock(rt);
+    let step = on_link(conn.serve(reader, text));
+    drop(held);
+    step
+}

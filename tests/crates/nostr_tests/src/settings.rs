@@ -1,0 +1,251 @@
+//! Settings from a table of texts. What is told of wrong ones is tried by runs of the program (`tests/jobs.py`).
+
+use mirror_settings::{Address, Relay, Settings, SettingsFault, SettingsKey, Syncing, read_settings};
+use std::test::*;
+
+/// What a run has.
+struct Row {
+    /// Whether it synchronises.
+    sync: bool,
+    text: &'static str,
+    events: &'static str,
+    relays: &'static [(&'static str, u16)],
+    listen: Option<(&'static str, u16)>,
+    bases: &'static [u64],
+    /// Connections, and the two times.
+    rest: [Option<u64>; 3],
+    fsync: Syncing,
+    slow_bytes: u64,
+    workers: u64,
+    rounds: u64,
+    has_kinds: bool,
+}
+
+static ROWS: [Row; 6] = [
+    Row {
+        sync: false,
+        text: "events = 'e'\nlisten = '127.0.0.1:0'\nconns = 1\nrelays = 7\nworkers = 9\nslow_bytes = 0\n",
+        events: "e",
+        relays: &[],
+        listen: Some(("127.0.0.1", 0)),
+        bases: &[],
+        rest: [Some(1), None, None],
+        fsync: Syncing::Always,
+        slow_bytes: 10_000,
+        workers: 1,
+        rounds: 1,
+        has_kinds: false,
+    },
+    Row {
+        sync: false,
+        text: "push_ms = 60000\nconns = 1000000\nlisten = 'relay.example:65535'\nevents = 'a b'\n",
+        events: "a b",
+        relays: &[],
+        listen: Some(("relay.example", 65535)),
+        bases: &[],
+        rest: [Some(1_000_000), Some(60_000), None],
+        fsync: Syncing::Always,
+        slow_bytes: 10_000,
+        workers: 1,
+        rounds: 1,
+        has_kinds: false,
+    },
+    Row {
+        sync: true,
+        text: "events = 'e'\nrelays = ['localhost:7000']\n",
+        events: "e",
+        relays: &[("localhost", 7000)],
+        listen: None,
+        bases: &[0],
+        rest: [None, None, None],
+        fsync: Syncing::Always,
+        slow_bytes: 10_000,
+        workers: 1,
+        rounds: 1,
+        has_kinds: false,
+    },
+    Row {
+        sync: true,
+        text: "events = 'e'\nlisten = '[::1]:80'\nconns = 5\nrelays = ['a:1', 'b:2']\nfilter = '{\"kinds\":[1]}'\nworkers = 4\nbases = [0, 1000000000]\nrounds = 16\npush_ms = 1\ntimeout_ms = 3600000\nfsync = 'everysec'\nslow_bytes = 1000000000\n",
+        events: "e",
+        relays: &[("a", 1), ("b", 2)],
+        listen: Some(("[::1]", 80)),
+        bases: &[0, 1_000_000_000],
+        rest: [Some(5), Some(1), Some(3_600_000)],
+        fsync: Syncing::EverySecond,
+        slow_bytes: 1_000_000_000,
+        workers: 4,
+        rounds: 16,
+        has_kinds: true,
+    },
+    Row {
+        sync: true,
+        text: "events = ''\nconns = 3\nrelays = ['a:0']\nfilter = '{}'\n",
+        events: "",
+        relays: &[("a", 0)],
+        listen: None,
+        bases: &[0],
+        rest: [Some(3), None, None],
+        fsync: Syncing::Always,
+        slow_bytes: 10_000,
+        workers: 1,
+        rounds: 1,
+        has_kinds: false,
+    },
+    Row {
+        sync: true,
+        text: "# none\nother = [1, { a = 2 }]\nevents = 'e'\nrelays = ['a:1']\nworkers = 2\n",
+        events: "e",
+        relays: &[("a", 1)],
+        listen: None,
+        bases: &[0],
+        rest: [None, None, None],
+        fsync: Syncing::Always,
+        slow_bytes: 10_000,
+        workers: 2,
+        rounds: 1,
+        has_kinds: false,
+    },
+];
+
+/// Whether that is the address.
+fn is_at(address: &Address, want: (&str, u16)) -> bool {
+    address.host.as_str() == want.0 && address.port == want.1
+}
+
+/// Whether these are the relays.
+fn are_at(relays: &[Relay], want: &[(&str, u16)]) -> bool {
+    for (relay, want) in relays.iter().zip(want) {
+        if !is_at(&relay.via, *want) {
+            return false;
+        }
+    }
+    relays.len() == want.len()
+}
+
+/// Whether that is where the run listens, if it does.
+fn listens_at(settings: &Settings, want: Option<(&str, u16)>) -> bool {
+    match (&settings.listen, want) {
+        (Some(address), Some(want)) => is_at(address, want),
+        (None, None) => true,
+        _ => false,
+    }
+}
+
+/// Whether these are the row's settings.
+fn are_of(settings: &Settings, row: &Row) -> bool {
+    listens_at(settings, row.listen)
+        && are_at(settings.relays.as_slice(), row.relays)
+        && settings.bases.as_slice() == row.bases
+        && [
+            settings.conns,
+            settings.push_ms,
+            settings.timeout_ms,
+        ] == row.rest
+        && settings.fsync == row.fsync
+        && settings.slow_bytes == row.slow_bytes
+        && (settings.workers, settings.rounds) == (row.workers, row.rounds)
+        && settings.events.as_str() == row.events
+        && settings.filter.kinds.is_some() == row.has_kinds
+}
+
+#[test]
+fn settings_are_told(rt: HostRuntime) -> Result<(), Fail> {
+    for row in &ROWS {
+        let settings = read_settings(rt.alloc(), row.text, row.sync)?;
+        assert!(rt; are_of(&settings, row));
+    }
+    Ok(())
+}
+
+/// As many relays as there may be.
+#[test]
+fn so_many_relays(rt: HostRuntime) -> Result<(), Fail> {
+    let alloc = rt.alloc();
+    let many = "'a:1', ".repeat(alloc, 255)?;
+    let text = format!(in alloc; "events = 'e'\nrelays = [{many}'b:2']\n")?;
+    let settings = read_settings(alloc, text.as_str(), true)?;
+    assert_eq!(rt; settings.relays.as_slice().len(), 256);
+    Ok(())
+}
+
+/// An entry of `relays`, with the host, the path and the address that it means.
+static ENTRIES: [(&str, &str, &str, (&str, u16)); 10] = [
+    ("'localhost:7000'", "localhost:7000", "/", ("localhost", 7000)),
+    ("'[::1]:80'", "[::1]:80", "/", ("[::1]", 80)),
+    ("'a b:65535'", "a b:65535", "/", ("a b", 65535)),
+    ("'ws://a.example'", "a.example", "/", ("a.example", 80)),
+    ("'ws://a.example/'", "a.example", "/", ("a.example", 80)),
+    ("'ws://a:7000/b/c?d=ws://e'", "a:7000", "/b/c?d=ws://e", ("a", 7000)),
+    ("'ws://[::1]'", "[::1]", "/", ("[::1]", 80)),
+    ("'ws://[::1]:0//'", "[::1]:0", "//", ("[::1]", 0)),
+    ("'ws://127.0.0.1:65535'", "127.0.0.1:65535", "/", ("127.0.0.1", 65535)),
+    ("'ws:80'", "ws:80", "/", ("ws", 80)),
+];
+
+#[test]
+fn entries_name_relays(rt: HostRuntime) -> Result<(), Fail> {
+    let alloc = rt.alloc();
+    for (entry, host, path, via) in ENTRIES {
+        let text = format!(in alloc; "events = 'e'\nrelays = ['x:1', {entry}]\n")?;
+        let settings = read_settings(alloc, text.as_str(), true)?;
+        let relay = &settings.relays.as_slice()[1];
+        assert_eq!(rt; relay.host.as_str(), host);
+        assert_eq!(rt; relay.path.as_str(), path);
+        assert!(rt; is_at(&relay.via, via));
+    }
+    Ok(())
+}
+
+/// Entries that name no relay.
+static NO_ENTRIES: [&str; 26] = [
+    "''",
+    "'a'",
+    "':80'",
+    "'a:'",
+    "'a:065'",
+    "'a:65536'",
+    "7",
+    "['a:1']",
+    "'wss://a'",
+    "'wss://a:443/'",
+    "'WS://a:80'",
+    "'http://a:80'",
+    "' ws://a:80'",
+    "'a://b:80'",
+    "'ws://'",
+    "'ws:///a'",
+    "'ws://:80'",
+    "'ws://a:'",
+    "'ws://a:080'",
+    "'ws://a:65536'",
+    "'ws://::1'",
+    "'ws://a:b:80'",
+    "'ws://[::1]a'",
+    "'ws://a b/'",
+    "'ws://a/b c'",
+    "\"ws://a/\\r\\nb\"",
+];
+
+#[test]
+fn entries_are_refused(rt: HostRuntime) -> Result<(), Fail> {
+    let alloc = rt.alloc();
+    for entry in NO_ENTRIES {
+        let text = format!(in alloc; "events = 'e'\nrelays = ['x:1', {entry}]\nslow_bytes = 0\n")?;
+        let fault = read_settings(alloc, text.as_str(), true).err();
+        assert_eq!(rt; fault, Some(SettingsFault::Key(SettingsKey::Relays)));
+    }
+    Ok(())
+}
+
+/// Values of `slow_bytes` that are wrong.
+#[test]
+fn slow_bytes_are_refused(rt: HostRuntime) -> Result<(), Fail> {
+    let alloc = rt.alloc();
+    for value in ["0", "-1", "1000000001", "'1'", "1.5"] {
+        let text = format!(in alloc; "events = 'e'\nrelays = ['x:1']\nslow_bytes = {value}\n")?;
+        let fault = read_settings(alloc, text.as_str(), true).err();
+        assert_eq!(rt; fault, Some(SettingsFault::Key(SettingsKey::SlowBytes)));
+    }
+    Ok(())
+}
