@@ -57,9 +57,40 @@ pub struct Keeping<J: Naming, E> {
     // What is kept, which is read beside who writes.
     kept: Mutex<Option<Kept<J, EventsFile>>>,
     fsync: Syncing,
-    // Whether the job is over.
+}
+
+/// Whether the work is over that events are kept beside.
+#[derive(Drop)]
+struct Ending {
     over: Mutex<bool>,
-    ending: Condvar,
+    come: Condvar,
+}
+
+impl Ending {
+    // The work goes on.
+    fn new() -> Ending {
+        Ending {
+            over: Mutex::new(false),
+            come: Condvar::new(),
+        }
+    }
+
+    // The work is over.
+    fn end<R: Wait>(&self, rt: &R) {
+        let mut over = self.over.lock(rt);
+        *over = true;
+        drop(over);
+        self.come.notify_all();
+    }
+
+    // Whether the work is over, which is waited for as long as that.
+    fn is_over<R: Wait + Clock>(&self, rt: &R, patience: Duration) -> bool {
+        let over = self.over.lock(rt);
+        let (over, _) = self
+            .come
+            .wait_timeout_while(rt, over, patience, |over| !*over);
+        *over
+    }
 }
 
 /// Whether that long has gone by since. Where the clock told no time, it has.
@@ -164,8 +195,6 @@ impl<J: Naming, E: Write + Drop> Keeping<J, E> {
             }),
             kept: Mutex::new(None),
             fsync,
-            over: Mutex::new(false),
-            ending: Condvar::new(),
         })
     }
 
@@ -208,23 +237,10 @@ impl<J: Naming, E: Write + Drop> Keeping<J, E> {
         }
     }
 
-    /// The job is over.
-    pub fn end<R: Wait>(&self, rt: &R) {
-        let mut over = self.over.lock(rt);
-        *over = true;
-        drop(over);
-        self.ending.notify_all();
-    }
-
-    // Does what nobody waits for, until the job is over.
-    fn tend<R: Wait + Clock>(&self, rt: &R) {
+    // Does what nobody waits for, until the work is over.
+    fn tend<R: Wait + Clock>(&self, rt: &R, ending: &Ending) {
         for _ in 0..u64::MAX {
-            let over = self.over.lock(rt);
-            let (over, waited) = self
-                .ending
-                .wait_timeout_while(rt, over, Duration::from_millis(TICK), |over| !*over);
-            drop(over);
-            if !waited.timed_out() {
+            if ending.is_over(rt, Duration::from_millis(TICK)) {
                 return;
             }
             self.tick(rt);
@@ -255,18 +271,18 @@ pub fn keeping_of<J: Naming, E: Write + Drop>(
     }
 }
 
-/// What is done beside other work, until that ends it.
+/// What is done beside work, until that is over.
 trait Tend {
-    fn tend_on<R: Wait + Clock>(&self, rt: &R);
+    fn tend_on<R: Wait + Clock>(&self, rt: &R, ending: &Ending);
 }
 
 impl<J: Naming, E: Write + Drop> Tend for Keeping<J, E> {
-    fn tend_on<R: Wait + Clock>(&self, rt: &R) {
-        self.tend(rt);
+    fn tend_on<R: Wait + Clock>(&self, rt: &R, ending: &Ending) {
+        self.tend(rt, ending);
     }
 }
 
-/// Does it in a thread of its own beside other work, and waits for both.
+/// Does it in a thread of its own beside the work, and waits for both.
 fn tend_beside<R: Threads + Wait + Clock + Sync, K: Tend + Sync, G: FnOnce() -> B, B>(
     rt: &R,
     tended: &K,
@@ -275,17 +291,24 @@ fn tend_beside<R: Threads + Wait + Clock + Sync, K: Tend + Sync, G: FnOnce() -> 
     requires { G.pre work }
     ensures { G.post work result }
 {
+    let ending = Ending::new();
     let (_, done) = join(
         rt,
         ||
             requires { IsSync R.row × IsSync K.row }
-        { tended.tend_on(rt) },
-        work,
+        { tended.tend_on(rt, &ending) },
+        ||
+            requires { G.pre work }
+        {
+            let done = work();
+            ending.end(rt);
+            done
+        },
     );
     done
 }
 
-/// Does what nobody waits for beside other work, until that ends it.
+/// Keeps events beside the work.
 pub fn keep_beside<
     R: Threads + Wait + Clock + Sync,
     J: Naming + Send + Sync,

@@ -1,6 +1,6 @@
 //! The job `sync`.
 
-ghost use Rattle.std.specs.Prelude.{◌≡◌, ◌++◌, ℕ, List, None, length, IfOk, OnOk};
+ghost use Rattle.std.specs.Prelude.{◌≡◌, ◌++◌, ◌<◌, ◌^◌, ◌-◌, ℕ, All, List, None, length, IfOk, OnOk};
 ghost use Rattle.std.specs.Io.KnownBytes.{Appends};
 ghost use Rattle.std.specs.Thread.{IsSend};
 ghost use Rattle.fetch_plan.specs.Plan.{Planned};
@@ -83,7 +83,8 @@ fn synced<
     }
 }
 
-/// Fetches what a plan gives from these relays, connected anew, and tells what became of each of its ids.
+/// Fetches what a plan gives from these relays, connected anew, and tells what became of each of its ids. What they give is kept in
+/// the file meanwhile.
 fn fetch_round<
     J: Naming + Send + Sync,
     D: Wait + Drop + Send + Sync,
@@ -94,6 +95,7 @@ fn fetch_round<
         + Clock
         + Sync,
     P: Write + Send,
+    E: Write + Send + Drop,
 >(
     rt: &R,
     alloc: Global,
@@ -101,6 +103,7 @@ fn fetch_round<
     relays: &[u16],
     plan: &Plan,
     desk: &Mutex<Desk<J, D>>,
+    keeping: &Keeping<J, E>,
     progress: &Progress<P>,
 ) -> Result<Round, Refusal>
     ensures { IfOk result (λ round. length round.cells.items ≡ length plan.now.gives) }
@@ -109,13 +112,14 @@ fn fetch_round<
     let (mut sources, relays) = sources_of(rt, alloc, settings, relays, progress)?;
     progress.begin(rt, plan.len());
     progress.tell(rt, sources.len(), "connections fetch");
-    let round = fetched(
+    let (sources, relays) = (sources.as_mut_slice(), relays.as_slice());
+    let round = keep_beside(
         rt,
-        alloc,
-        plan,
-        sources.as_mut_slice(),
-        relays.as_slice(),
-        desk,
+        keeping,
+        ||
+            requires { IsSend J.row × IsSend D.row × IsSend P.row × All (λ s. s.source.faults < 2 ^ 64 - 1) sources.now }
+            ensures { IfOk result (λ round. length round.cells.items ≡ length plan.entry.now.gives) }
+        { fetched(rt, alloc, plan, sources, relays, desk) },
     )?;
     progress.tell_counts(rt, &counts_of(round.cells.as_slice()));
     progress.tell_full(rt, round.is_full);
@@ -167,12 +171,14 @@ fn fetch_rounds<
         + Sync,
     W: Write,
     P: Write + Send,
+    E: Write + Send + Drop,
 >(
     rt: &R,
     alloc: Global,
     settings: &Settings,
     done: Synced,
     desk: &Mutex<Desk<J, D>>,
+    keeping: &Keeping<J, E>,
     writer: &mut W,
     progress: &Progress<P>,
 ) -> Result<Counts, Refusal>
@@ -190,7 +196,16 @@ fn fetch_rounds<
     for round in 1..settings.rounds {
         let given = planned(&plan);
         let asked = asked_of(alloc, relays.as_slice(), given, stopped)?;
-        let ended = fetch_round(rt, alloc, settings, asked.as_slice(), &plan, desk, progress)?;
+        let ended = fetch_round(
+            rt,
+            alloc,
+            settings,
+            asked.as_slice(),
+            &plan,
+            desk,
+            keeping,
+            progress,
+        )?;
         let cells = ended.cells.as_slice();
         all = all.with(&counts_of(cells));
         bases = grown(&bases, &plan, cells);
@@ -203,7 +218,16 @@ fn fetch_rounds<
         say_round(alloc, writer, round.saturating_add(1), &plan)?;
     }
     let asked = asked_of(alloc, relays.as_slice(), planned(&plan), stopped)?;
-    let ended = fetch_round(rt, alloc, settings, asked.as_slice(), &plan, desk, progress)?;
+    let ended = fetch_round(
+        rt,
+        alloc,
+        settings,
+        asked.as_slice(),
+        &plan,
+        desk,
+        keeping,
+        progress,
+    )?;
     Ok(all.with(&counts_of(ended.cells.as_slice())))
 }
 
@@ -219,37 +243,7 @@ fn run_all<
         + Sync,
     W: Write,
     P: Write + Send,
->(
-    rt: &R,
-    alloc: Global,
-    settings: &Settings,
-    reader: &mut Reader<J>,
-    desk: &Mutex<Desk<J, D>>,
-    writer: &mut W,
-    progress: &Progress<P>,
-) -> Result<(), Refusal>
-    ensures { OnOk result (Prints settings.now.filter reader.new (W.contents writer.old) (W.contents writer.new)) }
-{
-    let done = synced(rt, alloc, settings, reader, progress)?;
-    say_synced(alloc, writer, &done)?;
-    let counts = fetch_rounds(rt, alloc, settings, done, desk, writer, progress)?;
-    progress.note_left(rt, &counts);
-    say_counts(alloc, writer, &counts)
-}
-
-/// Does the job, which ends the keeping.
-fn run_kept<
-    J: Naming + Send + Sync,
-    D: Wait + Drop + Send + Sync,
-    R: Net<Listener = TcpListener, Stream = TcpStream>
-        + RandomSource
-        + Threads
-        + Wait
-        + Clock
-        + Sync,
-    W: Write,
-    P: Write + Send,
-    E: Write + Drop,
+    E: Write + Send + Drop,
 >(
     rt: &R,
     alloc: Global,
@@ -262,9 +256,11 @@ fn run_kept<
 ) -> Result<(), Refusal>
     ensures { OnOk result (Prints settings.now.filter reader.new (W.contents writer.old) (W.contents writer.new)) }
 {
-    let ran = run_all(rt, alloc, settings, reader, desk, writer, progress);
-    keeping.end(rt);
-    ran
+    let done = synced(rt, alloc, settings, reader, progress)?;
+    say_synced(alloc, writer, &done)?;
+    let counts = fetch_rounds(rt, alloc, settings, done, desk, keeping, writer, progress)?;
+    progress.note_left(rt, &counts);
+    say_counts(alloc, writer, &counts)
 }
 
 /// Does the job over a store that isn't served. What relays give is kept in the file meanwhile, also where the job is refused in the
@@ -296,16 +292,8 @@ fn run_alone<
 {
     // What the store holds is left to the system. To give it back event by event took a tenth of the job's time.
     let desk = ManuallyDrop::new(Mutex::new(desk));
-    let ran = keep_beside(
-        rt,
-        &keeping,
-        ||
-            requires { IsSend J.row × IsSend D.row × IsSend P.row }
-        {
-            run_kept(
-                rt, alloc, settings, reader, &desk, &keeping, writer, progress,
-            )
-        },
+    let ran = run_all(
+        rt, alloc, settings, reader, &desk, &keeping, writer, progress,
     );
     let finished = keeping.finish(rt);
     ran?;
@@ -343,7 +331,7 @@ fn run_in_hall<
         ||
             requires { IsSend J.row × IsSend D.row × IsSend P.row }
         {
-            run_kept(
+            run_all(
                 rt,
                 alloc,
                 settings,
