@@ -2,3 +2,4 @@ mod Forms
 mod Colons
 mod Urls
 mod Refusals
+mod Tables

@@ -1,7 +1,7 @@
 -- The relays that entries of the setting `relays` name.
-use Rattle.std.specs.Prelude.{◌≡◌, ◌≢◌, ℕ, ◌<◌, ◌≤◌, ◌^◌, List, [], ◌∷◌, ◌++◌, length, get_or, All, codes, ◌⊎◌}
+use Rattle.std.specs.Prelude.{◌≡◌, ◌≢◌, ℕ, ◌<◌, ◌≤◌, ◌^◌, List, [], ◌∷◌, ◌++◌, length, get_or, All, Some, MatchOption, codes, ◌⊎◌}
 use Rattle.std.specs.Str.Iter.{HasSubslice}
-use Rattle.toml.specs.Data.{Data, string}
+use Rattle.toml.specs.Data.{Data, string, table, Members, get_member}
 use Rattle.mirror_settings.specs.declared.address.Address.{Address}
 use Rattle.mirror_settings.specs.declared.relay.Relay.{Relay}
 use Rattle.mirror_settings.specs.Addresses.{IsAddress, spelled}
@@ -48,9 +48,33 @@ IsUrl text r = All IsGraphic text × Lacks 47 r.host × IsAuthority r.host r.via
 abbrev pub IsRelayText : List ℕ → Relay → Type 0
 IsRelayText text r = (IsPlain text r × ¬ HasScheme text) ⊎ IsUrl text r
 
+-- what the handshake may name as its host: as a URL has it
+abbrev pub IsNamed : List ℕ → Type 0
+IsNamed host = All IsGraphic host × Lacks 47 host × ((a : Address) × IsAuthority host a)
+
+-- what the handshake may ask for
+abbrev pub IsAsked : List ℕ → Type 0
+IsAsked path = All IsGraphic path × IsPath path
+
+abbrev pub HasHost : Members → List ℕ → Type 0
+HasHost t host = (get_member (codes "host") t ≡ Some (string host)) × IsNamed host
+
+-- `/` where it is left out
+abbrev pub HasPath : Members → List ℕ → Type 0
+HasPath t path = MatchOption (get_member (codes "path") t) (path ≡ codes "/") (λ d. (d ≡ string path) × IsAsked path)
+
+abbrev pub HasVia : Members → Address → Type 0
+HasVia t a = (get_member (codes "via") t ≡ Some (string (spelled a))) × IsAddress a
+
+-- a table of what is named, what is asked for and where to connect to
+abbrev pub IsTunnelled : Members → Relay → Type 0
+IsTunnelled t r = HasHost t r.host × HasPath t r.path × HasVia t r.via
+
 -- an entry that names the relay
 abbrev pub IsRelay : Data → Relay → Type 0
-IsRelay d r = (text : List ℕ) × (d ≡ string text) × IsRelayText text r
+IsRelay (string text) r = IsRelayText text r
+IsRelay (table t) r = IsTunnelled t r
+IsRelay _ r = ⊥
 
 -- the entries name the relays, one by one
 abbrev pub AreRelays : List Data → List Relay → Type 0

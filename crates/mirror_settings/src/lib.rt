@@ -7,6 +7,7 @@ mod lists;
 mod reading;
 mod relay;
 mod settings;
+mod tunnel;
 mod url;
 mod values;
 

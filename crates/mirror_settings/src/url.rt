@@ -50,7 +50,7 @@ fn is_host(host: &str) -> bool
 }
 
 /// The host and the port that a text names as `HOST:PORT` or as `HOST`.
-fn authority_of(text: &str) -> Option<(&str, u16)>
+pub fn authority_of(text: &str) -> Option<(&str, u16)>
     ensures found { IfSome result (λ p. IsAuthority text.now (record { host = p.0.now; port = p.1 })) }
     ensures none { IfNone result ((a : AnAddress) → ¬ IsAuthority text.now a) }
 {

@@ -16,6 +16,7 @@ use crate::fault::{SettingsFault, SettingsKey};
 use crate::lists::{Loads, Relays};
 use crate::relay::{Relay, plain_relay};
 use crate::settings::Syncing;
+use crate::tunnel::table_relay;
 use crate::url::url_relay;
 use nostr_filter::{Filter, FilterFault};
 use serde_json::Value as Json;
@@ -109,15 +110,24 @@ fn relay_in_text(alloc: Global, text: &str) -> Result<Option<Relay>, AllocError>
     }
 }
 
+/// The relay that an entry names, if it names one: a text, or a table.
+fn named_by(alloc: Global, value: &Value) -> Result<Option<Relay>, AllocError>
+    ensures found { IfOk result (λ o. IfSome o (IsRelay (view value.now))) }
+    ensures none { IfOk result (λ o. IfNone o ((r : ARelay) → ¬ IsRelay (view value.now) r)) }
+{
+    match value {
+        Value::String(text) => relay_in_text(alloc, text.as_str()),
+        Value::Table(table) => table_relay(alloc, table),
+        _ => Ok(None),
+    }
+}
+
 /// The relay that an entry names.
 fn relay_in(alloc: Global, value: &Value) -> Result<Relay, SettingsFault>
     ensures ok { IfOk result (IsRelay (view value.now)) }
     ensures err { IfErr result (Fails SettingsKey.Relays ((r : ARelay) → ¬ IsRelay (view value.now) r)) }
 {
-    let Some(text) = value.as_str() else {
-        return Err(SettingsFault::Key(SettingsKey::Relays));
-    };
-    match relay_in_text(alloc, text)? {
+    match named_by(alloc, value)? {
         Some(relay) => Ok(relay),
         None => Err(SettingsFault::Key(SettingsKey::Relays)),
     }
