@@ -1,10 +1,8 @@
 -- What keeps events in a file may cross threads.
-use denote.Builtin.{bool}
 use denote.RattleType.{RattleType}
 use denote.Struct.Field.{row_field}
-use denote.Param.Send.{IsSend, IsSync, sendable}
+use denote.Param.Send.{IsSend, IsSync}
 use denote.Param.SendFields.{as_row_send, declared_send, declared_sync}
-use Rattle.core.proofs.chan.Condvar.TheSendSync as condvar
 use Rattle.core.proofs.option.Option.TheSendSync as option
 use Rattle.std.proofs.Crossing.{crosses}
 use Rattle.std.proofs.time.Instant.TheSendSync as instant
@@ -36,4 +34,4 @@ module _ (J : RattleType) (g : Ghosts J.Denot) (E : RattleType) where
   kept_send = option.the_send (Kept.the_row J EventsFile.the_row g) (kept.the_send J EventsFile.the_row g)
 
   pub keeping_sync : IsSend E → IsSync (Keeping.the_row J E g)
-  keeping_sync s = declared_sync (Keeping.the_type J E g) (locked_sync (Writing.the_row J E g) (writing_send s), (locked_sync (Option.the_row (Kept.the_row J EventsFile.the_row g)) kept_send, (syncing.the_sync, (locked_sync bool (search sendable), (condvar.the_sync, tt)))))
+  keeping_sync s = declared_sync (Keeping.the_type J E g) (locked_sync (Writing.the_row J E g) (writing_send s), (locked_sync (Option.the_row (Kept.the_row J EventsFile.the_row g)) kept_send, (syncing.the_sync, tt)))
