@@ -3,6 +3,7 @@
 ghost use Rattle.std.specs.Prelude.{◌≡◌, ◌<◌, ◌^◌, ◌-◌, All, IfOk, IfSome, length};
 
 use crate::links::{SourcePlace, connect_all, name_of};
+use crate::pace::Paced;
 use crate::progress::{Progress, RelayLine};
 use crate::told::ToldSource;
 use claim_board::{Board, BoardFault, Cell};
@@ -16,6 +17,7 @@ use std::alloc::{AllocError, Global};
 use std::io::Write;
 use std::net::{Net, TcpListener, TcpStream};
 use std::random::RandomSource;
+use std::rt::Clock;
 use std::sync::{Mutex, Wait};
 use std::thread::Threads;
 use tungstenite::RandomKeys;
@@ -64,7 +66,7 @@ pub struct Round {
 }
 
 /// A source over a connection.
-type Fetcher<'a, R, P> = ToldSource<'a, WsSource<TcpStream, RandomKeys<&'a R>>, R, P>;
+type Fetcher<'a, R, P> = ToldSource<'a, WsSource<Paced<'a, R>, RandomKeys<&'a R>>, R, P>;
 
 /// The relays whose sessions finished. What these found is let go.
 pub fn finished_of(alloc: Global, ends: Vec<End>) -> Result<Vec<u16>, AllocError> {
@@ -148,7 +150,7 @@ fn places_of<S: Drop, K: Drop>(
     let mut places = Vec::new(alloc);
     for relay in relays {
         for _worker in 0..workers {
-            places.push(SourcePlace::new(*relay))?;
+            places.push(SourcePlace::new(alloc, *relay)?)?;
         }
     }
     Ok(places)
@@ -157,24 +159,30 @@ fn places_of<S: Drop, K: Drop>(
 /// The source of a place, and its relay. Why there is none is told.
 fn source_in<
     'a,
-    R: Net<Listener = TcpListener, Stream = TcpStream> + RandomSource + Threads + Wait + Sync,
+    R: Net<Listener = TcpListener, Stream = TcpStream>
+        + RandomSource
+        + Threads
+        + Wait
+        + Clock
+        + Sync,
     P: Write,
 >(
     rt: &'a R,
     alloc: Global,
     settings: &Settings,
-    place: SourcePlace<TcpStream, RandomKeys<&'a R>>,
+    place: SourcePlace<Paced<'a, R>, RandomKeys<&'a R>>,
     progress: &'a Progress<P>,
 ) -> Result<Option<(Fetcher<'a, R, P>, u16)>, Refusal>
     ensures { IfOk result (λ o. IfSome o (λ found. found.0.source.faults < 2 ^ 64 - 1)) }
 {
-    let (relay, found, notes) = place.into_parts()?;
+    let (relay, found, pace, notes) = place.into_parts()?;
     let name = name_of(alloc, settings, usize::from(relay))?;
     if let Some(source) = found {
         let fetcher = ToldSource {
             source,
             relay: usize::from(relay),
             name,
+            pace,
             rt,
             progress,
         };
@@ -194,7 +202,12 @@ fn source_in<
 /// Sources at the relays, which are connected to side by side, and the relay of each. Why one can't be reached is told.
 pub fn sources_of<
     'a,
-    R: Net<Listener = TcpListener, Stream = TcpStream> + RandomSource + Threads + Wait + Sync,
+    R: Net<Listener = TcpListener, Stream = TcpStream>
+        + RandomSource
+        + Threads
+        + Wait
+        + Clock
+        + Sync,
     P: Write,
 >(
     rt: &'a R,

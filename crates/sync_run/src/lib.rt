@@ -3,6 +3,7 @@
 
 mod fetching;
 mod links;
+mod pace;
 mod progress;
 mod run;
 mod text;

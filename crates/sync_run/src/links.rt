@@ -2,6 +2,7 @@
 
 ghost use Rattle.std.specs.Prelude.{◌≡◌, ◌<◌, ◌^◌, ◌-◌, All, IfOk, IfSome};
 
+use crate::pace::{Pace, Paced, SharedPace};
 use crate::progress::Progress;
 use crate::told::ToldPeer;
 use mirror_settings::{Relay, Settings};
@@ -11,7 +12,8 @@ use std::io::{Read, Write};
 use std::marker::Model;
 use std::net::{Net, TcpListener, TcpStream, ToSocketAddrs};
 use std::random::RandomSource;
-use std::sync::Wait;
+use std::rt::Clock;
+use std::sync::{Arc, Mutex, Wait};
 use std::thread::Threads;
 use std::time::Duration;
 use tungstenite::RandomKeys;
@@ -169,19 +171,21 @@ pub fn linked_all<
 }
 
 /// A source that is this relay, if it can be reached, else it is noted why not.
-fn source_at<'a, R: Net<Listener = TcpListener, Stream = TcpStream> + RandomSource>(
+fn source_at<'a, R: Net<Listener = TcpListener, Stream = TcpStream> + RandomSource + Wait + Clock>(
     rt: &'a R,
     alloc: Global,
     relay: &Relay,
-    timeout: Duration,
+    settings: &Settings,
+    pace: &SharedPace,
     notes: &mut Notes,
-) -> Result<Option<WsSource<TcpStream, RandomKeys<&'a R>>>, Refusal>
+) -> Result<Option<WsSource<Paced<'a, R>, RandomKeys<&'a R>>>, Refusal>
     ensures { IfOk result (λ o. IfSome o (λ source. source.faults ≡ 0)) }
 {
     let via = &relay.via;
     let address = format!(in alloc; "{via}")?;
+    let timeout = settings.timeout();
     let stream = match connected(rt, address.as_str(), timeout) {
-        Ok(stream) => stream,
+        Ok(stream) => Paced::new(rt, stream, pace.clone()?, timeout, settings.slow_bytes),
         Err(reason) => {
             notes.tell(reason);
             return Ok(None);
@@ -206,6 +210,8 @@ fn source_at<'a, R: Net<Listener = TcpListener, Stream = TcpStream> + RandomSour
 pub struct SourcePlace<S, K> {
     relay: u16,
     source: Result<Option<WsSource<S, K>>, Refusal>,
+    // The pace of its fetches.
+    pace: SharedPace,
     // Why there is none.
     notes: Notes,
 }
@@ -222,38 +228,41 @@ impl<S, K> Model for SourcePlace<S, K> {
 
 impl<S, K> SourcePlace<S, K> {
     /// A place without a source.
-    pub fn new(relay: u16) -> SourcePlace<S, K> {
-        SourcePlace {
+    pub fn new(alloc: Global, relay: u16) -> Result<SourcePlace<S, K>, AllocError> {
+        let pace = Arc::new(alloc, Mutex::new(Pace::default()))?;
+        Ok(SourcePlace {
             relay,
             source: Ok(None),
+            pace,
             notes: Notes::none(),
-        }
+        })
     }
 
-    /// The relay, and the source if it could be reached, or why not.
-    pub fn into_parts(self) -> Result<(u16, Option<WsSource<S, K>>, Notes), Refusal>
+    /// The relay, the source if it could be reached, the pace of its fetches, and why it couldn't be reached.
+    pub fn into_parts(self) -> Result<(u16, Option<WsSource<S, K>>, SharedPace, Notes), Refusal>
         ensures { IfOk result (λ p. IfSome p.1 (λ source. source.faults ≡ 0)) }
     {
         let SourcePlace {
             relay,
             source,
+            pace,
             notes,
         } = self;
         match source {
-            Ok(found) => Ok((relay, found, notes)),
+            Ok(found) => Ok((relay, found, pace, notes)),
             Err(refusal) => Err(refusal),
         }
     }
 }
 
-impl<'a, 's, R: Net<Listener = TcpListener, Stream = TcpStream> + RandomSource> Duty<
-    SourcePlace<TcpStream, RandomKeys<&'a R>>,
+impl<'a, 's, R: Net<Listener = TcpListener, Stream = TcpStream> + RandomSource + Wait + Clock> Duty<
+    SourcePlace<Paced<'a, R>, RandomKeys<&'a R>>,
 > for Connecting<'a, 's, R> {
     fn work<W: Wait>(
         &self,
         _waits: &W,
         alloc: Global,
-        place: &mut SourcePlace<TcpStream, RandomKeys<&'a R>>,
+        place: &mut SourcePlace<Paced<'a, R>, RandomKeys<&'a R>>,
     ) {
         if let Some(relay) = self
             .settings
@@ -265,7 +274,8 @@ impl<'a, 's, R: Net<Listener = TcpListener, Stream = TcpStream> + RandomSource> 
                 self.rt,
                 alloc,
                 relay,
-                self.settings.timeout(),
+                self.settings,
+                &place.pace,
                 &mut place.notes,
             );
         }
@@ -275,12 +285,17 @@ impl<'a, 's, R: Net<Listener = TcpListener, Stream = TcpStream> + RandomSource> 
 /// Connects to the relay of each place, side by side.
 pub fn connect_all<
     'a,
-    R: Net<Listener = TcpListener, Stream = TcpStream> + RandomSource + Threads + Wait + Sync,
+    R: Net<Listener = TcpListener, Stream = TcpStream>
+        + RandomSource
+        + Threads
+        + Wait
+        + Clock
+        + Sync,
 >(
     rt: &'a R,
     alloc: Global,
     settings: &Settings,
-    places: &mut [SourcePlace<TcpStream, RandomKeys<&'a R>>],
+    places: &mut [SourcePlace<Paced<'a, R>, RandomKeys<&'a R>>],
 ) {
     run_workers(rt, alloc, &Connecting { rt, settings }, places);
 }

@@ -86,6 +86,16 @@ impl<P: Write> Progress<P> {
         }
     }
 
+    /// Tells how many events the file had.
+    pub fn tell_loaded<R: Wait>(&self, rt: &R, count: u64) {
+        self.say(rt, format_args!("{count} events are loaded"));
+    }
+
+    /// Tells how many events the file has in the end.
+    pub fn tell_kept<R: Wait>(&self, rt: &R, count: u64) {
+        self.say(rt, format_args!("{count} events are kept"));
+    }
+
     /// Tells a count.
     pub fn tell<R: Wait>(&self, rt: &R, count: usize, what: &str) {
         if let Some(telling) = &self.telling {

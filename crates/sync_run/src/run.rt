@@ -297,7 +297,7 @@ fn run_alone<
     );
     let finished = keeping.finish(rt);
     ran?;
-    finished?;
+    progress.tell_kept(rt, finished?);
     Ok(())
 }
 
@@ -393,7 +393,7 @@ fn run_serving<
     let finished = keeping.finish(rt);
     drop(hall);
     ran?;
-    finished?;
+    progress.tell_kept(rt, finished?);
     Ok(())
 }
 
@@ -440,6 +440,7 @@ fn run_named<
     };
     let path = settings.events.as_str();
     let file = begin(rt, alloc, &mut desk, &mut of_file, path, &mut errors)?;
+    progress.tell_loaded(rt, of_file.front().len());
     if settings.listen.is_none() {
         let keeping = keeping_of(alloc, file, of_file, errors, settings.fsync)?;
         return run_alone(

@@ -2,6 +2,7 @@
 
 ghost use Rattle.std.specs.Prelude.{◌≡◌, ◌+◌, ◌<◌, ◌^◌, ◌-◌, [], ◌∷◌, ◌++◌, IfOk, OnErr, Err};
 
+use crate::pace::SharedPace;
 use crate::progress::{Progress, RelayLine};
 use crate::text::SessionLine;
 use mirror_core::{Fetch, Source, SourceFault};
@@ -12,6 +13,7 @@ use nostr_event::Event;
 use std::io::Write;
 use std::rt::Clock;
 use std::sync::{Arc, Wait};
+use std::time::Instant;
 use ws_link::Explains;
 
 /// A relay, whose session is told as it ends.
@@ -86,6 +88,8 @@ pub struct ToldSource<'a, S, R, P> {
     pub source: S,
     pub relay: usize,
     pub name: String,
+    /// The pace of its fetches, which its stream keeps.
+    pub pace: SharedPace,
     pub rt: &'a R,
     pub progress: &'a Progress<P>,
 }
@@ -102,6 +106,7 @@ impl<S: Source + Explains, R: Wait + Clock, P: Write> Source for ToldSource<'_, 
     ghost goes_on = { λ s t u h k. S.goes_on s.source t.source u.source h k };
 
     fn fetch(&mut self, ids: &[Id]) -> Result<Vec<Arc<Event>>, SourceFault> {
+        self.pace.lock(self.rt).begin(Instant::now(self.rt).ok());
         let fetched = self.source.fetch(ids);
         match &fetched {
             Ok(events) => self.progress.fetched(self.rt, ids.len(), events.len()),
