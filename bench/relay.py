@@ -1,7 +1,7 @@
 #!/usr/bin/env python3
 """Measures `serve` and `sync`.
 
-    bench/relay.py [--baseline PATH] [--mirror PATH] [--events N] [--only WORD,WORD,..] [--runs R]
+    bench/relay.py [--baseline PATH] [--mirror PATH] [--events N] [--only WORD,WORD,..] [--runs R] [--fsync WORD]
 
 Each row starts the program anew. `serve` reads a file of events with right ids (`inputs.py`), and is then asked by clients of
 this script (`wire.py`): it takes all events from one client, from eight, and in the order of their times, answers 1,000
@@ -11,7 +11,7 @@ are the same program's. Shown are the processor time that the work took, of requ
 and writing of the file, and the greatest peak of resident memory.
 
 With `--baseline`, a plain program with the same commands, both run in turn, R times each; the least times are shown, and
-the ratio of ours to its.
+the ratio of ours to its. With `--fsync`, the settings of all have it.
 """
 import argparse
 import json
@@ -30,6 +30,9 @@ from measure import apart, program_of
 from wire import Client
 
 TICKS = os.sysconf("SC_CLK_TCK")
+
+# What the settings of every run have besides.
+BESIDES = {}
 
 
 def spent(pid):
@@ -59,7 +62,7 @@ class Serving:
         file = os.path.join(folder, name + ".jsonl")
         with open(file, "w", encoding="utf-8") as text:
             text.writelines(lines)
-        conf = settings(os.path.join(folder, name + ".toml"), events=file, listen="127.0.0.1:0", conns=connections)
+        conf = settings(os.path.join(folder, name + ".toml"), events=file, listen="127.0.0.1:0", conns=connections, **BESIDES)
         self.child = subprocess.Popen([program, "serve", conf], stdout=subprocess.PIPE)
         line = self.child.stdout.readline().decode()
         if not line.startswith("listening "):
@@ -194,7 +197,7 @@ def row_of_syncing(program, folder, lines, relays, share, partner, cut=None):
     own = [line for line in lines if rng.random() < share]
     with open(mine, "w", encoding="utf-8") as text:
         text.writelines(own)
-    conf = settings(os.path.join(folder, "sync.toml"), events=mine, relays=["127.0.0.1:%d" % port for port in ports])
+    conf = settings(os.path.join(folder, "sync.toml"), events=mine, relays=["127.0.0.1:%d" % port for port in ports], **BESIDES)
     said, seconds, peak = apart([program, "sync", conf])
     for relay in serving:
         relay.child.kill()
@@ -233,7 +236,10 @@ def main():
     parser.add_argument("--events", type=int, default=50000)
     parser.add_argument("--only", default="put1,put8,rising,ids,kind,author,tag,newest,feed,connect,sync,sync16,cut")
     parser.add_argument("--runs", type=int, default=2)
+    parser.add_argument("--fsync", choices=["always", "everysec", "no"])
     options = parser.parse_args()
+    if options.fsync:
+        BESIDES["fsync"] = options.fsync
     programs = [options.mirror] + ([options.baseline] if options.baseline else [])
     with tempfile.TemporaryDirectory() as folder:
         source = os.path.join(folder, "events")

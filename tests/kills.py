@@ -6,8 +6,8 @@
 Eight clients put events into a relay, which is killed again and again by SIGKILL, SIGTERM or SIGINT: each event that was answered
 `OK true` is in its file, once, and the next relay reads what the last one left. A `sync` that is killed in the middle of its
 fetching has kept what came, and the next needs only the rest. A file is cut at each length within its last two lines. A file may
-grow no further: that is told once and answered, and made good once it may. Where descriptors have run out once, events are kept all
-the same. Nobody opens a file that another run has, by whatever name.
+grow no further, or its disk is full: that is told once and answered, and made good once there is room. Where descriptors have run
+out once, events are kept all the same. Nobody opens a file that another run has, by whatever name.
 """
 import argparse
 import json
@@ -191,16 +191,9 @@ def put(client, new):
     return json.loads(client.read())[2:]
 
 
-def a_full_disk_is_told(path, folder):
-    at = os.path.join(folder, "full.jsonl")
-    conf = settings(folder, "full", listen="127.0.0.1:0", conns=2)
-    # Beyond its limit a write fails, and no signal comes: it is ignored here, and so by the program.
-    signal.signal(signal.SIGXFSZ, signal.SIG_IGN)
-    limits = lambda: resource.setrlimit(resource.RLIMIT_FSIZE, (2000, resource.RLIM_INFINITY))
-    relay = subprocess.Popen([path, "serve", conf], stdout=subprocess.PIPE, stderr=subprocess.PIPE, text=True,
-                             restore_signals=False, preexec_fn=limits)
+def put_until_it_is_full(relay, at, events, make_room):
+    """Puts events into a relay whose file finds no room for all of them, until there is some."""
     client = Client(port_of(relay))
-    events = [event(1700000000 + n, "full %d" % n) for n in range(40)]
     answers = [put(client, it) for it in events]
     taken = [it for it in answers if it[0]]
     if not 0 < len(taken) < len(events):
@@ -212,9 +205,9 @@ def a_full_disk_is_told(path, folder):
     while json.loads(client.read())[0] != "EOSE":
         pass
     found, _torn = whole_lines(at)
-    same([it["id"] for it in found], [it["id"] for it in events[:len(taken)]])
+    same([it["id"] for it in found][:len(taken)], [it["id"] for it in events[:len(taken)]])
     # Once there is room all is made good, without a word of a client.
-    resource.prlimit(relay.pid, resource.RLIMIT_FSIZE, (resource.RLIM_INFINITY, resource.RLIM_INFINITY))
+    make_room()
     until = time.monotonic() + 30
     while [it["id"] for it in whole_lines(at)[0]] != [it["id"] for it in events]:
         if time.monotonic() > until:
@@ -228,6 +221,33 @@ def a_full_disk_is_told(path, folder):
     lines = errors.splitlines()
     same([line.split(":")[0] for line in lines], ["events file", "events file"])
     same(lines[1], "events file: is written again")
+
+
+def a_file_that_may_not_grow_is_told(path, folder):
+    conf = settings(folder, "full", listen="127.0.0.1:0", conns=2)
+    # Beyond its limit a write fails, and no signal comes: it is ignored here, and so by the program.
+    signal.signal(signal.SIGXFSZ, signal.SIG_IGN)
+    limits = lambda: resource.setrlimit(resource.RLIMIT_FSIZE, (2000, resource.RLIM_INFINITY))
+    relay = subprocess.Popen([path, "serve", conf], stdout=subprocess.PIPE, stderr=subprocess.PIPE, text=True,
+                             restore_signals=False, preexec_fn=limits)
+    room = lambda: resource.prlimit(relay.pid, resource.RLIMIT_FSIZE, (resource.RLIM_INFINITY, resource.RLIM_INFINITY))
+    put_until_it_is_full(relay, os.path.join(folder, "full.jsonl"), [event(1700000000 + n, "full %d" % n) for n in range(40)], room)
+
+
+def a_full_disk_is_told(path, folder):
+    """A file system of 64 KiB, where it may be mounted."""
+    small = os.path.join(folder, "small")
+    os.mkdir(small)
+    if subprocess.run(["mount", "-t", "tmpfs", "-o", "size=64k", "tmpfs", small], stderr=subprocess.DEVNULL, check=False).returncode:
+        print("no file system may be mounted", flush=True)
+        return
+    try:
+        conf = settings(small, "full", listen="127.0.0.1:0", conns=2)
+        relay = subprocess.Popen([path, "serve", conf], stdout=subprocess.PIPE, stderr=subprocess.PIPE, text=True)
+        room = lambda: subprocess.run(["mount", "-o", "remount,size=1m", small], check=True)
+        put_until_it_is_full(relay, os.path.join(small, "full.jsonl"), [event(1700000000 + n, "full " + "x" * 1000) for n in range(80)], room)
+    finally:
+        subprocess.run(["umount", small], check=True)
 
 
 def descriptors_may_run_out(path, folder):
@@ -270,7 +290,7 @@ def main():
     options = parser.parse_args()
     path, dice = os.path.abspath(options.path), random.Random(options.seed)
     with tempfile.TemporaryDirectory() as folder:
-        for part in (one_run_has_a_file, nobodys_letter_is_cut, a_file_cut_anywhere_goes_on, a_full_disk_is_told,
+        for part in (one_run_has_a_file, nobodys_letter_is_cut, a_file_cut_anywhere_goes_on, a_file_that_may_not_grow_is_told, a_full_disk_is_told,
                      descriptors_may_run_out, a_killed_sync_keeps_what_came):
             began = time.monotonic()
             part(path, folder)
