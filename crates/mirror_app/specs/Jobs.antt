@@ -1,9 +1,11 @@
 -- Which job the words name, what it writes, and how the program ends.
-use Rattle.std.specs.Prelude.{◌≡◌, ◌≢◌, ◌⊎◌, ℕ, List, [], ◌∷◌, ◌++◌, codes, Option, Result, Ok, Err, IfSome, string_bytes}
+use Rattle.std.specs.Prelude.{◌≡◌, ◌≢◌, ◌⊎◌, ℕ, Bool, true, false, List, [], ◌∷◌, ◌++◌, codes, Option, Result, Ok, Err, IfSome, string_bytes}
 use Rattle.mirror_run.specs.declared.refusal.Refusal.{Refusal}
 use Rattle.mirror_run.specs.declared.refusal.Refusal.TheVariants.{Write, Memory as NoMemory}
 use Rattle.mirror_run.specs.Reconciled.{IsPrinted, IsReconRefusal}
 use Rattle.mirror_run.specs.RefusalText.{refusal_text}
+use Rattle.serve_run.specs.declared.refusal.Refusal.{Refusal as ServiceRefusal}
+use Rattle.serve_run.specs.RefusalText.{refusal_text as service_text}
 use Rattle.plan_run.specs.Jobs.{IsPlanWritten, IsPlanRefusal, IsLeastWritten, IsCheckRefusal}
 use Rattle.clap.specs.Words.{Text, fault_of, subcommand_of}
 use Rattle.mirror_app.specs.declared.words.Words.{Words}
@@ -11,7 +13,7 @@ use Rattle.mirror_app.specs.declared.words.Words.TheVariants.{Recon, Plan, Check
 use Rattle.mirror_app.specs.declared.usage.WordsFault.{WordsFault}
 use Rattle.mirror_app.specs.declared.usage.WordsFault.TheVariants as fault
 use Rattle.mirror_app.specs.declared.jobs.End.{End}
-use Rattle.mirror_app.specs.declared.jobs.End.TheVariants.{Done, Refused, Usage}
+use Rattle.mirror_app.specs.declared.jobs.End.TheVariants.{Done, Refused, Usage, Stopped, Short}
 use Rattle.mirror_app.specs.declared.jobs.Went.{Went}
 use Rattle.mirror_app.specs.declared.jobs.Went.TheVariants.{Ended, Left}
 use Rattle.mirror_app.specs.CommandLine.{nostr_mirror, IsAccepted, IsNamed, IsWithin, Tells}
@@ -52,6 +54,8 @@ EndsAs words input old new Done = (job : Words) × Names words job × IfSome inp
 EndsAs words input old new (Refused e) =
     (e ≡ NoMemory) ⊎ ((job : Words) × Names words job × IfSome input (λ text. IsRefusedBy job text e))
 EndsAs words input old new (Usage text) = fault_of nostr_mirror words ≢ []
+EndsAs words input old new (Stopped e) = ⊥
+EndsAs words input old new Short = ⊥
 
 -- How the program goes: it ends, or the words name a job that isn't done on standard input.
 abbrev pub RunsAs : List Text → Option (List ℕ) → Option (List ℕ) → Option (List ℕ) → Went → Type 0
@@ -63,6 +67,8 @@ abbrev pub MayHaveWritten : Went → Type 0
 MayHaveWritten (Ended Done) = Unit {0}
 MayHaveWritten (Ended (Refused e)) = e ≡ Write
 MayHaveWritten (Ended (Usage text)) = ⊥
+MayHaveWritten (Ended (Stopped e)) = ⊥
+MayHaveWritten (Ended Short) = ⊥
 MayHaveWritten (Left job) = ⊥
 
 -- the end of a job
@@ -70,17 +76,27 @@ abbrev pub ending : Result (Unit {0}) Refusal → End
 ending (Ok done) = Done
 ending (Err e) = Refused e
 
+-- the end of `serve` or `sync`
+abbrev pub settled : Result (Unit {0}) ServiceRefusal → Bool → End
+settled (Ok done) false = Done
+settled (Ok done) true = Short
+settled (Err e) short = Stopped e
+
 -- the exit status
 abbrev pub status_of : End → ℕ
 status_of Done = 0
 status_of (Refused e) = 1
 status_of (Usage text) = 2
+status_of (Stopped e) = 1
+status_of Short = 3
 
 -- what stands on standard error
 abbrev pub end_text : End → List ℕ
 end_text Done = []
 end_text (Refused e) = codes "refused: " ++ refusal_text e ++ 10 ∷ []
 end_text (Usage text) = string_bytes text
+end_text (Stopped e) = codes "refused: " ++ service_text e ++ 10 ∷ []
+end_text Short = []
 
 abbrev pub end_of : WordsFault → End
 end_of (fault.Usage text) = Usage text

@@ -8,6 +8,7 @@ use crate::usage::WordsFault;
 use crate::words::{Words, read_words};
 use mirror_run::{Refusal, run_recon};
 use plan_run::{run_check, run_plan};
+use serve_run::Refusal as ServiceRefusal;
 use std::alloc::Global;
 use std::fmt;
 use std::io::{Read, Write};
@@ -21,6 +22,10 @@ pub enum End {
     Refused(Refusal),
     /// The words name no job: what is told then.
     Usage(String),
+    /// `serve` or `sync` wasn't done.
+    Stopped(ServiceRefusal),
+    /// `sync` was done, and a relay failed or an id is left, where that is asked.
+    Short,
 }
 
 impl End {
@@ -32,6 +37,8 @@ impl End {
             End::Done => 0,
             End::Refused(_) => 1,
             End::Usage(_) => 2,
+            End::Stopped(_) => 1,
+            End::Short => 3,
         }
     }
 }
@@ -47,6 +54,8 @@ impl fmt::Display for End {
             End::Done => Ok(()),
             End::Refused(refusal) => write!(f, "refused: {refusal}\n"),
             End::Usage(text) => write!(f, "{text}"),
+            End::Stopped(refusal) => write!(f, "refused: {refusal}\n"),
+            End::Short => Ok(()),
         }
     }
 }

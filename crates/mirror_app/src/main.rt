@@ -8,7 +8,7 @@ mod version;
 mod words;
 
 use jobs::{End, Went, run};
-use settled::{serve, sync, told};
+use settled::{ended, serve, sync};
 use std::fs::File;
 use std::io;
 use std::process::ExitCode;
@@ -38,7 +38,7 @@ fn main(rt: HostRuntime) -> io::Result<ExitCode> {
         Went::Ended(end) => end,
         Went::Left(Words::Serve(path)) => {
             let done = serve(&rt, alloc, path.as_str(), &mut rt.stdout(), rt.stderr());
-            return Ok(told(&mut rt.stderr(), done));
+            ended(done, false)
         }
         Went::Left(Words::Sync(path, is_wanted, is_strict)) => {
             let progress = if is_wanted {
@@ -48,9 +48,7 @@ fn main(rt: HostRuntime) -> io::Result<ExitCode> {
             };
             let (out, errors) = (&mut rt.stdout(), rt.stderr());
             let done = sync(&rt, alloc, path.as_str(), out, &progress, errors);
-            let is_short = is_strict && done.is_ok() && progress.fell_short(&rt);
-            let status = told(&mut rt.stderr(), done);
-            return Ok(if is_short { ExitCode::from(3) } else { status });
+            ended(done, is_strict && progress.fell_short(&rt))
         }
         // The other jobs have ended.
         Went::Left(_) => End::Done,

@@ -1,11 +1,14 @@
 //! The jobs that a file of settings tells.
 
+ghost use Rattle.std.specs.Prelude.{◌≡◌};
+ghost use Rattle.mirror_app.specs.Jobs.{settled};
+
+use crate::jobs::End;
 use serve_run::{Refusal, run_serve};
 use std::alloc::Global;
 use std::fs::File;
 use std::io::{ErrorKind, Write};
 use std::net::{Net, TcpListener, TcpStream};
-use std::process::ExitCode;
 use std::random::RandomSource;
 use std::rt::{Clock, Files};
 use std::sync::Wait;
@@ -22,14 +25,14 @@ fn refusal_of(error: &io::Error) -> Refusal {
     }
 }
 
-/// The status of a job, after its refusal is told.
-pub fn told<E: Write>(error: &mut E, done: Result<(), Refusal>) -> ExitCode {
+/// How the job ended. `is_short` says whether a relay failed or an id is left, where that is asked.
+pub fn ended(done: Result<(), Refusal>, is_short: bool) -> End
+    ensures { result ≡ settled done is_short }
+{
     match done {
-        Ok(()) => ExitCode::SUCCESS,
-        Err(refusal) => {
-            let _ = write!(error, "refused: {refusal}\n");
-            ExitCode::from(1)
-        }
+        Ok(()) if is_short => End::Short,
+        Ok(()) => End::Done,
+        Err(refusal) => End::Stopped(refusal),
     }
 }
 
