@@ -1,7 +1,7 @@
 //! Why a link failed.
 ghost use Rattle.std.specs.Prelude.{◌≡◌};
 ghost use Rattle.ws_socket.specs.declared.fault.LinkFault.TheVariants.{Memory};
-ghost use Rattle.ws_socket.specs.Faults.{number_of, IsOfStream};
+ghost use Rattle.ws_socket.specs.Faults.{number_of, ComesTo, IsOfStream};
 
 use nostr_event::Text;
 use std::alloc::{AllocError, AllocFailed};
@@ -62,29 +62,45 @@ impl<T: Drop> From<AllocFailed<T>> for LinkFault {
     }
 }
 
+/// What a socket's error comes to.
+fn fault_of(error: &SocketError) -> LinkFault
+    ensures comes { ComesTo error.now result }
+    ensures stream { IsOfStream result }
+{
+    match error {
+        SocketError::OutOfMemory | SocketError::Handshake(HandshakeError::OutOfMemory) => {
+            LinkFault::Memory
+        }
+        SocketError::Io(error) => {
+            if error.kind() == ErrorKind::OutOfMemory {
+                LinkFault::Memory
+            } else {
+                LinkFault::Link
+            }
+        }
+        // The stream ended, or was closed, or the host's name makes no address.
+        SocketError::ConnectionClosed
+        | SocketError::AlreadyClosed
+        | SocketError::HandshakeIncomplete
+        | SocketError::Protocol(ProtocolError::ResetWithoutClosingHandshake)
+        | SocketError::WriteBufferFull
+        | SocketError::Url => LinkFault::Link,
+        SocketError::Handshake(_)
+        | SocketError::Protocol(_)
+        | SocketError::Capacity(_)
+        | SocketError::Utf8
+        | SocketError::AttackAttempt
+        | SocketError::JunkAfterRequest
+        | SocketError::CustomResponseSuccessful
+        | SocketError::Http(_)
+        | SocketError::Refused(_) => LinkFault::Wire,
+    }
+}
+
 impl From<SocketError> for LinkFault {
-    ghost from_gives = { λ _ f. IsOfStream f };
+    ghost from_gives = { λ e f. ComesTo e f × IsOfStream f };
 
     fn from(error: SocketError) -> LinkFault {
-        match error {
-            SocketError::OutOfMemory | SocketError::Handshake(HandshakeError::OutOfMemory) => {
-                LinkFault::Memory
-            }
-            SocketError::Io(error) => {
-                if error.kind() == ErrorKind::OutOfMemory {
-                    LinkFault::Memory
-                } else {
-                    LinkFault::Link
-                }
-            }
-            // The stream ended, or was closed, or the host's name makes no address.
-            SocketError::ConnectionClosed
-            | SocketError::AlreadyClosed
-            | SocketError::HandshakeIncomplete
-            | SocketError::Protocol(ProtocolError::ResetWithoutClosingHandshake)
-            | SocketError::WriteBufferFull
-            | SocketError::Url => LinkFault::Link,
-            _ => LinkFault::Wire,
-        }
+        fault_of(&error)
     }
 }
