@@ -53,8 +53,9 @@ def serves_meanwhile(path, folder):
     out, progress = mirror.communicate(timeout=60)
     same(out, "relay 0 need 300\nleast 300\ngroup 0\ngiven 300\nmissed 0\nleft 0\n")
     lines = progress.splitlines()
-    same(lines[1:3], ["1 relays are asked", "relay 0 need 300"])
-    same(lines[-1], "300 ids given, 0 missed, 0 left")
+    same(lines[0], "1 events are loaded")
+    same(lines[2:4], ["1 relays are asked", "relay 0 need 300"])
+    same(lines[-2:], ["300 ids given, 0 missed, 0 left", "302 events are kept"])
     same(mirror.wait(), 0)
     same(by_id(read(os.path.join(folder, "mirror.jsonl"))), by_id(theirs + [mine, put_in]))
     relay.communicate(timeout=60)
@@ -184,8 +185,8 @@ def tells_progress(path, folder):
         ports = server.getsockname()[1], relays[1][1]
         mirror = begin(path, "sync", settings(folder, "mirror", relays=["127.0.0.1:%d" % port for port in ports]),
                        "--progress")
-        lines = [mirror.stderr.readline() for _line in range(3)]
-        same(lines, ["1 events are compared\n", "2 relays are asked\n", "relay 1 need 20\n"])
+        lines = [mirror.stderr.readline() for _line in range(4)]
+        same(lines, ["1 events are loaded\n", "1 events are compared\n", "2 relays are asked\n", "relay 1 need 20\n"])
         same(doors[0].is_set(), False)
         doors[0].set()
         lines = [mirror.stderr.readline() for _line in range(3)]
@@ -196,9 +197,9 @@ def tells_progress(path, folder):
     late.cancel()
     out = mirror.stdout.read()
     same(out, "relay 0 need 30\nrelay 1 need 20\nleast 30\ngroup 0\ngiven 50\nmissed 0\nleft 0\n")
-    same(lines[-1], "50 ids given, 0 missed, 0 left")
-    same([bool(re.fullmatch("[0-9]+ ids given, [0-9]+ missed, [0-9]+ left so far", line)) for line in lines[:-1]],
-         [True] * max(1, len(lines) - 1))
+    same(lines[-2:], ["50 ids given, 0 missed, 0 left", "51 events are kept"])
+    same([bool(re.fullmatch("[0-9]+ ids given, [0-9]+ missed, [0-9]+ left so far", line)) for line in lines[:-2]],
+         [True] * max(1, len(lines) - 2))
     same(mirror.wait(), 0)
     for relay, _port in relays:
         relay.communicate(timeout=60)
