@@ -89,6 +89,13 @@ def tag_values(port):
     return client
 
 
+def held_values(port):
+    client = Client(port)
+    for at in range(32):
+        asks(client, several(b'"v"', 2_190, b'["REQ","%d",{"limit":0,"#t":[' % at, b"]}]"))
+    return client
+
+
 def no_values(port):
     client = Client(port)
     for at in range(32):
@@ -156,6 +163,12 @@ def empty_filters(port):
 
 def small_filters(port):
     text = several(b'{"a":1}', 1 << 30, b'["REQ","a",', b"]")
+    return side_by_side(16, lambda client: asks(client, text), port)
+
+
+def small_objects(port):
+    """Small objects where none is looked for."""
+    text = several(b'{"a":1}', 1 << 30, b'["EVENT",{"a":[', b"]}]")
     return side_by_side(16, lambda client: asks(client, text), port)
 
 
@@ -244,6 +257,7 @@ def filters_asked(port):
 
 ROWS = [
     ("values", "32 subscriptions of 545,000 values of a tag each", tag_values, 80, None),
+    ("held", "32 subscriptions of 2,190 values of a tag each", held_values, 20, None),
     ("empty", "32 subscriptions of 730,000 empty values each", no_values, 80, None),
     ("ids", "32 subscriptions of 32,000 ids each", listed_ids, 80, None),
     ("kinds", "32 subscriptions of 1,090,000 kinds each", listed_kinds, 80, None),
@@ -251,7 +265,8 @@ ROWS = [
     ("tags", "512 filters of 52 letters each, and an event of 150,000 tags", many_tags, None, 0.5),
     ("asked", "16 filters of 52 letters each, asked of 4 events of 150,000 tags", many_tags_asked, None, None),
     ("filters", "16 clients, 733,000 empty filters each", empty_filters, 400, 3),
-    ("small", "16 clients, 275,000 small filters each", small_filters, None, None),
+    ("small", "16 clients, 275,000 small filters each", small_filters, 400, None),
+    ("objects", "16 clients, an event with 275,000 small objects in it each", small_objects, None, None),
     ("lists", "16 clients, an event of 730,000 empty tags each", empty_tags, 400, None),
     ("nested", "16 clients, 2,200,000 brackets each", nested, 400, None),
     ("sessions", "16 sessions over 50,000 events, picked by a kind", sessions, None, None),

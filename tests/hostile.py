@@ -159,13 +159,18 @@ def send_long(relay):
 def crowd(relay):
     """Requests of very many filters, events of very many tags, and subscriptions with very many values."""
     closed = lambda name: b'["CLOSED","%s","blocked: too many filters"]' % name
+    ends = lambda name: b'["EOSE","%s"]' % name
     bad = b'["NOTICE","invalid: bad message"]'
     many = 500_000
     texts = [(b'["REQ","a"' + b",{}" * many + b"]", closed(b"a")), (b'["REQ","a"' + b",{}" * many + b",{]", bad),
              (b'["REQ","a"' + b",{}" * many + b',{"ids":[1]}]', bad), (b'["REQ","a"' + b",{}" * many + b",1]", bad),
-             (b'["REQ",""' + b",{}" * many + b"]", bad)]
-    values = b",".join(b'"%d"' % (at % 10) for at in range(many))
-    held = [(b'["REQ","%d",{"limit":0,"#t":[%s]}]' % (at, values), b'["EOSE","0"]' if at == 0 else closed(b"%d" % at)) for at in range(4)]
+             (b'["REQ",""' + b",{}" * many + b"]", bad), (b'["REQ","a"' + b",{}" * many + b"]]", bad),
+             (b'["REQ","a"' + b",{}" * many + b",1e999]", bad), (b'["REQ"' + b",{}" * many + b"]", bad),
+             (b' [ "\\u0052EQ" , "a" ' + b', {"a":1}' * 200_000 + b" ] ", closed(b"a")),
+             (b'["REQ","a"' + b',{"a":[]}' * 200_000 + b',{"limit":-1}]', bad)]
+    # Each value counts 57 bytes, and 4,000,000 are the most.
+    held = [(b'["REQ","%d",{"limit":0,"#t":[%s]}]' % (at, b",".join([b'"%d"' % at] * count)), wanted(b"%d" % at))
+            for at, count, wanted in ((0, many, closed), (1, 70_000, ends), (2, 175, ends), (3, 1, closed))]
     clients = [relay.client() for _ in range(2)]
     for text, wanted in texts + held:
         for client in clients:

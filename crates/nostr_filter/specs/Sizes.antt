@@ -3,10 +3,10 @@ use Rattle.std.specs.Prelude.{ℕ, ◌+◌, ◌*◌, List, [], ◌∷◌, length
 use Rattle.nostr_filter.specs.declared.conditions.TagCondition.{TagCondition}
 use Rattle.nostr_filter.specs.declared.filter.Filter.{Filter}
 
--- a text takes its bytes, and four to tell where it stands
+-- a text takes its bytes, and 56 to keep them and to tell where it stands
 abbrev pub texts_size : List (List ℕ) → ℕ
 texts_size [] = 0
-texts_size (t ∷ ts) = length t + 4 + texts_size ts
+texts_size (t ∷ ts) = length t + 56 + texts_size ts
 
 abbrev pub conditions_size : List TagCondition → ℕ
 conditions_size [] = 0

@@ -18,7 +18,7 @@ fn texts_in(alloc: Global, values: &[Value], at: FilterField) -> Result<Texts, F
     ensures ok { IfOk result (λ t. each_item as_str (items_view values.now) ≡ Some t) }
     ensures err { IfErr result (λ e. (e ≡ FilterFault.Memory) ⊎ ((e ≡ FilterFault.Shape at) × (each_item as_str (items_view values.now) ≡ None))) }
 {
-    let mut texts = Vec::new(alloc);
+    let mut texts = Vec::with_capacity(alloc, values.len())?;
     for value in values {
         let Some(text) = value.as_str() else {
             return Err(FilterFault::Shape(at));
@@ -33,7 +33,7 @@ fn kinds_in(alloc: Global, values: &[Value]) -> Result<Kinds, FilterFault>
     ensures ok { IfOk result (λ k. each_item kind_of (items_view values.now) ≡ Some k) }
     ensures err { IfErr result (λ e. (e ≡ FilterFault.Memory) ⊎ ((e ≡ FilterFault.Shape FilterField.Kinds) × (each_item kind_of (items_view values.now) ≡ None))) }
 {
-    let mut kinds = Vec::new(alloc);
+    let mut kinds = Vec::with_capacity(alloc, values.len())?;
     for value in values {
         let Some(kind) = kind_at(value) else {
             return Err(FilterFault::Shape(FilterField::Kinds));
@@ -136,7 +136,7 @@ fn bytes_in(alloc: Global, texts: &[Text], at: FilterField) -> Result<Bytes32Lis
     ensures err { IfErr result (λ e. (e ≡ FilterFault.Memory)
         ⊎ ((e ≡ FilterFault.Hex at) × ((values : List (List ℕ)) → All (IsBytesOf 32) values → ¬ (texts.now ≡ hex_texts values)))) }
 {
-    let mut values = Vec::new(alloc);
+    let mut values = Vec::with_capacity(alloc, texts.len())?;
     for text in texts {
         let Some(bytes) = bytes32_of(text.as_str()) else {
             return Err(FilterFault::Hex(at));

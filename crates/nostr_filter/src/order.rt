@@ -1,11 +1,11 @@
 // An event's tags in an order in which conditions look them up.
-ghost use Rattle.std.specs.Prelude.{◌≡◌, ◌∷◌, [], List, ℕ, IfOk};
+ghost use Rattle.std.specs.Prelude.{◌≡◌, ◌∷◌, [], List, ℕ, map, IfOk};
 ghost use Rattle.std.specs.List.{list_all, list_any};
 ghost use Rattle.std.specs.Ordering.{nat_cmp};
 ghost use Rattle.std.specs.Cmp.Lexicographic.{slice_cmp};
 ghost use Rattle.nostr_filter.specs.Matching.{tags_meet, matches_of};
 ghost use Rattle.nostr_filter.specs.Members.{text_at as at_place, has_text, AreInOrder};
-ghost use Rattle.nostr_filter.specs.TagOrders.{key_of, keys_of, IsOrderOf};
+ghost use Rattle.nostr_filter.specs.TagOrders.{key_is, key_of, keys_of, IsOrderOf};
 
 use crate::conditions::TagCondition;
 use crate::filter::{Filter, condition_met};
@@ -40,32 +40,6 @@ fn compare_key(tag: &Tag, letter: u8, value: &str) -> Ordering
     }
 }
 
-// How the tag's key stands to none.
-fn compare_none(tag: &Tag) -> Ordering
-    ensures { result ≡ slice_cmp nat_cmp (key_of tag.now) [] }
-{
-    match tag.texts() {
-        [name, _own, ..] => match name.as_str().as_bytes() {
-            [_first] => Ordering::Greater,
-            _ => Ordering::Equal,
-        },
-        _ => Ordering::Equal,
-    }
-}
-
-// How the tags' keys stand to each other.
-fn compare_tags(a: &Tag, b: &Tag) -> Ordering
-    ensures { result ≡ slice_cmp nat_cmp (key_of a.now) (key_of b.now) }
-{
-    match b.texts() {
-        [name, value, ..] => match name.as_str().as_bytes() {
-            [letter] => compare_key(a, *letter, value.as_str()),
-            _ => compare_none(a),
-        },
-        _ => compare_none(a),
-    }
-}
-
 // How the key of the tag at the place stands to another.
 fn compare(tags: &[Tag], place: usize, letter: u8, value: &str) -> Ordering
     ensures { result ≡ slice_cmp nat_cmp (at_place (keys_of tags.now) place) (letter ∷ value.now) }
@@ -76,24 +50,77 @@ fn compare(tags: &[Tag], place: usize, letter: u8, value: &str) -> Ordering
     }
 }
 
-// How the keys of the tags at two places stand to each other.
-fn compare_at(tags: &[Tag], a: usize, b: usize) -> Ordering
-    ensures { result ≡ slice_cmp nat_cmp (at_place (keys_of tags.now) a) (at_place (keys_of tags.now) b) }
+/// What a tag is looked up by.
+#[derive(Clone, Copy, Drop)]
+pub enum Key<'t> {
+    /// The letter that is its name, and the first value behind it.
+    Tagged(u8, &'t str),
+    /// It isn't looked up.
+    None,
+}
+
+fn key_at(tag: &Tag) -> Key<'_>
+    ensures { key_is result ≡ key_of tag.now }
 {
-    match (tags.get(a), tags.get(b)) {
-        (Some(a), Some(b)) => compare_tags(a, b),
-        (Some(a), None) => compare_none(a),
-        (None, Some(b)) => compare_none(b).reverse(),
-        (None, None) => Ordering::Equal,
+    match tag.texts() {
+        [name, own, ..] => match name.as_str().as_bytes() {
+            [letter] => Key::Tagged(*letter, own.as_str()),
+            _ => Key::None,
+        },
+        _ => Key::None,
     }
+}
+
+// What the tags are looked up by. It is read once, as a tag's texts lie apart from it.
+fn keys_in(alloc: Global, tags: &[Tag]) -> Result<Vec<Key<'_>>, AllocError>
+    ensures { IfOk result (λ k. map key_is k.items ≡ keys_of tags.now) }
+{
+    let mut keys = Vec::with_capacity(alloc, tags.len())?;
+    for tag in tags {
+        keys.push(key_at(tag))?;
+    }
+    Ok(keys)
+}
+
+fn compare_keys(a: Key<'_>, b: Key<'_>) -> Ordering
+    ensures { result ≡ slice_cmp nat_cmp (key_is a.entry) (key_is b.entry) }
+{
+    match (a, b) {
+        (Key::Tagged(a, own), Key::Tagged(b, other)) => match a.cmp(&b) {
+            Ordering::Equal => own.cmp(other),
+            apart => apart,
+        },
+        (Key::Tagged(_, _), Key::None) => Ordering::Greater,
+        (Key::None, Key::Tagged(_, _)) => Ordering::Less,
+        (Key::None, Key::None) => Ordering::Equal,
+    }
+}
+
+// The key at the place, or none.
+fn key_or_none<'t>(keys: &[Key<'t>], place: usize) -> Key<'t>
+    ensures { key_is result ≡ at_place (map key_is keys.now) place }
+{
+    match keys.get(place) {
+        Some(key) => *key,
+        None => Key::None,
+    }
+}
+
+// How the keys at two places stand to each other.
+fn compare_at(keys: &[Key<'_>], a: usize, b: usize) -> Ordering
+    ensures { result ≡ slice_cmp nat_cmp (at_place (map key_is keys.now) a) (at_place (map key_is keys.now) b) }
+{
+    compare_keys(key_or_none(keys, a), key_or_none(keys, b))
 }
 
 // The places of the tags, in the order of their keys.
 fn ordered(alloc: Global, tags: &[Tag]) -> Result<Vec<usize>, AllocError>
     ensures { IfOk result (λ p. AreInOrder (keys_of tags.now) p.items) }
 {
+    let keys = keys_in(alloc, tags)?;
+    let keys = keys.as_slice();
     let mut places = places_to(alloc, tags.len())?;
-    places.sort_unstable_by(|a, b| compare_at(tags, *a, *b));
+    places.sort_unstable_by(|a, b| compare_at(keys, *a, *b));
     Ok(places)
 }
 

@@ -6,6 +6,9 @@ use crate::conditions::{Bytes32List, Kinds, TagCondition};
 use crate::filter::Filter;
 use nostr_event::Text;
 
+// So many bytes a text takes beside its own.
+const EACH_TEXT: usize = 56;
+
 // What is left of the room behind so many values of a size.
 fn behind(room: usize, count: usize, each: usize) -> Option<usize>
     requires { 0 < each }
@@ -25,10 +28,10 @@ fn behind_texts(room: usize, texts: &[Text]) -> Option<usize>
     let mut left = room;
     for text in texts {
         let size = text.as_str().len();
-        if left < 4 || left - 4 < size {
+        if left < EACH_TEXT || left - EACH_TEXT < size {
             return None;
         }
-        left = left - 4 - size;
+        left = left - EACH_TEXT - size;
     }
     Some(left)
 }
@@ -67,7 +70,7 @@ fn behind_kinds(room: usize, kinds: &Option<Kinds>) -> Option<usize>
 
 impl Filter {
     /// What is left of so many bytes behind the filter's values, if these fit: 32 for each id and author, 2 for each kind, and
-    /// for each value of a tag 4 beside its own.
+    /// for each value of a tag 56 beside its own.
     pub fn room_behind(&self, room: usize) -> Option<usize>
         ensures { SomeIff result (size_of self.now ≤ room) (room - size_of self.now) }
     {

@@ -1,15 +1,14 @@
 -- Requests of which the first filters are kept.
-use Rattle.std.proofs.Common.{◌≡◌, ℕ, ◌+◌, ◌≤◌, ◌<◌, ◌++◌, Bool, true, false, true≢false, cond, List, [], ◌∷◌, length, take, Option, None, Some, refl, sym, ap, ◌∙◌, subst, arith}
+use Rattle.std.proofs.Common.{◌≡◌, ℕ, ◌+◌, ◌≤◌, ◌++◌, Bool, true, false, cond, List, [], ◌∷◌, length, take, Option, None, Some, refl, sym, ap, ◌∙◌, subst, arith}
 use Rattle.std.specs.Prelude.{nat_le}
 use Rattle.std.proofs.lemmas.Bool.Decides.{nat_tests}
 use Rattle.std.proofs.lemmas.Grind.{common_steps}
 use Rattle.std.proofs.lemmas.List.{take_all, take-append-le, length-append}
-use Rattle.serde_json.specs.Data.{Data}
 use Rattle.nostr_filter.specs.declared.filter.Filter.{Filter}
 use Rattle.nostr_wire.specs.declared.messages.FromClient.{FromClient}
 use Rattle.nostr_wire.specs.declared.messages.FromClient.TheVariants as client
 use Rattle.nostr_wire.specs.Forms.{client_form, client_table}
-use Rattle.nostr_wire.specs.Reading.{kept_filters, keeps_more, with_filter, IsMessage, IsHeard, Hears, Reads}
+use Rattle.nostr_wire.specs.Reading.{kept_filters, with_filter, IsMessage, Hears, Reads}
 
 one_behind : (n : ℕ) (all : List Filter) (f : Filter) (b : Bool) → nat_le (length (take (n + 1) all)) n ≡ b
     → cond b (take (n + 1) all ++ f ∷ []) (take (n + 1) all) ≡ take (n + 1) (all ++ f ∷ [])

@@ -2,5 +2,9 @@ pub mod Arrays
 pub mod Few
 pub mod Laws
 pub mod Plain
+pub mod Requests
 pub mod Several
+pub mod Stands
+pub mod Streams
 pub mod Texts
+pub mod Turns

@@ -1,4 +1,5 @@
 pub mod Elements
 pub mod Forms
 pub mod Reading
+pub mod Stream
 pub mod Writing

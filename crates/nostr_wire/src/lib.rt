@@ -8,6 +8,8 @@ mod fault;
 mod lists;
 mod messages;
 mod reading;
+mod streaming;
+mod values;
 mod writing;
 
 pub use fault::WireFault;

@@ -13,9 +13,13 @@ use crate::elements::{Element, filter_of, sub_of};
 use crate::fault::WireFault;
 use crate::lists::{Filters, Sub};
 use crate::messages::{FromClient, FromRelay};
+use crate::streaming::request_text;
 use nostr_filter::Filter;
 use serde_json::Value;
 use std::alloc::{AllocError, Global};
+
+// A longer request is read an element at a time.
+const LONG: usize = 16_384;
 
 // The first element, if it is a string, and those behind it.
 fn name_and_rest(value: &mut Value) -> Option<(&str, &mut [Value])>
@@ -106,7 +110,7 @@ fn keeps(most: Option<usize>, count: usize) -> bool
 }
 
 // Puts the filter behind the others, if it is kept.
-fn put_filter(
+pub fn put_filter(
     filters: &mut Vec<Filter>,
     most: Option<usize>,
     filter: Filter,
@@ -271,12 +275,22 @@ pub fn read_client(alloc: Global, text: &str) -> Result<FromClient, WireFault>
     read
 }
 
+// Whether a text may be a request that takes much memory when it is read whole.
+fn may_be_great(text: &str) -> bool {
+    text.len() > LONG && !text.as_bytes().starts_with(b"[\"EVENT\"")
+}
+
 /// The same, but that of a request's filters only the first are kept, so many and one more: where it has more than so many, these
-/// tell that, and take no more memory. Each of the others is read, too.
+/// tell that, and take no more memory. Each of the others is read, too, and given back before the next one is.
 pub fn read_client_few(alloc: Global, text: &str, most: usize) -> Result<FromClient, WireFault>
     ensures message { IfOk result (λ m. Hears (Some most) text.now m) }
     ensures fault { IfErr result (λ f. Refuses client_table text.now f) }
 {
+    if may_be_great(text) {
+        if let Some(message) = request_text(alloc, text, Some(most))? {
+            return Ok(message);
+        }
+    }
     client_text(alloc, text, Some(most))
 }
 

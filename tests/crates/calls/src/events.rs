@@ -4,8 +4,10 @@ use crate::said::Said;
 use id_text::parse_bytes;
 use neg_codec::Id;
 use nostr_event::{Event, EventFault, Spelling, bytes32_of, id_of, id_text};
-use nostr_filter::{Filter, FilterFault, choose};
-use nostr_wire::{WireFault, read_client, read_relay, write_client, write_relay};
+use nostr_filter::{Filter, FilterFault, TagOrder, choose};
+use nostr_wire::{
+    WireFault, read_client, read_client_few, read_relay, write_client, write_relay,
+};
 use serde_json::Value;
 use std::alloc::Global;
 use std::sync::Arc;
@@ -21,9 +23,12 @@ pub const NAMES: &[&str] = &[
     "Filter::from_json",
     "Filter::to_json",
     "choose",
+    "TagOrder::new",
     "read_client EVENT",
     "read_client REQ",
     "read_client NEG-OPEN",
+    "read_client_few",
+    "read_client_few long",
     "write_client EVENT",
     "write_client NEG-OPEN",
     "read_relay EVENT",
@@ -45,9 +50,12 @@ pub fn said_of(alloc: Global, name: &str) -> Option<Said> {
         "Filter::from_json" => read_filter(alloc),
         "Filter::to_json" => write_filter(alloc),
         "choose" => chosen(alloc),
+        "TagOrder::new" => tags_in_order(alloc),
         "read_client EVENT" => read_as_client(alloc, event_text(alloc, GIVEN, 0)?.as_str()),
         "read_client REQ" => read_as_client(alloc, REQUEST),
         "read_client NEG-OPEN" => read_as_client(alloc, NEG_OPEN),
+        "read_client_few" => read_few(alloc, REQUEST),
+        "read_client_few long" => read_few(alloc, long_request(alloc)?.as_str()),
         "write_client EVENT" => write_as_client(alloc, event_text(alloc, GIVEN, 0)?.as_str()),
         "write_client NEG-OPEN" => write_as_client(alloc, NEG_OPEN),
         "read_relay EVENT" => read_as_relay(alloc, event_text(alloc, SENT, 0)?.as_str()),
@@ -65,6 +73,10 @@ const EVENTS: [&str; 3] = [
     r##"{"content":"second","created_at":10,"id":"4494e0cd2ca6f5a18a838a302c242faf521850657c61d3583d75e195e1b2692f","kind":7,"pubkey":"81b637d8fcd2c6da6359e6963113a1170de795e4b725b84d1e0b4cfd9ec58ce9","sig":"5a5a5a5a5a5a5a5a5a5a5a5a5a5a5a5a5a5a5a5a5a5a5a5a5a5a5a5a5a5a5a5a5a5a5a5a5a5a5a5a5a5a5a5a5a5a5a5a5a5a5a5a5a5a5a5a5a5a5a5a5a5a5a5a","tags":[["e"],["t","z","x"],[]]}"##,
     r##"{"content":"third","created_at":10,"id":"b5feb4c9c8dc073f982789a9ef1d37de92dee17a5464728203d367c7fc742c45","kind":30023,"pubkey":"2bd806c97f0e00af1a1fc3328fa763a9269723c8db8fac4f93af71db186d6e90","sig":"5a5a5a5a5a5a5a5a5a5a5a5a5a5a5a5a5a5a5a5a5a5a5a5a5a5a5a5a5a5a5a5a5a5a5a5a5a5a5a5a5a5a5a5a5a5a5a5a5a5a5a5a5a5a5a5a5a5a5a5a5a5a5a5a","tags":[]}"##,
 ];
+
+/// An event of 64 tags, made by another program.
+const TAGGED: &str =
+    r##"{"content":"many","created_at":11,"id":"9289f1717600f4aaf7e33580fab47bab5c433e4a915b35d1c639cf6d2d6e2f1c","kind":1,"pubkey":"2bd806c97f0e00af1a1fc3328fa763a9269723c8db8fac4f93af71db186d6e90","sig":"5a5a5a5a5a5a5a5a5a5a5a5a5a5a5a5a5a5a5a5a5a5a5a5a5a5a5a5a5a5a5a5a5a5a5a5a5a5a5a5a5a5a5a5a5a5a5a5a5a5a5a5a5a5a5a5a5a5a5a5a5a5a5a5a","tags":[["t","0"],["t","1"],["t","2"],["t","3"],["t","4"],["t","5"],["t","6"],["t","7"],["t","8"],["t","9"],["t","10"],["t","11"],["t","12"],["t","13"],["t","14"],["t","15"],["t","16"],["t","17"],["t","18"],["t","19"],["t","20"],["t","21"],["t","22"],["t","23"],["t","24"],["t","25"],["t","26"],["t","27"],["t","28"],["t","29"],["t","30"],["t","31"],["t","32"],["t","33"],["t","34"],["t","35"],["t","36"],["t","37"],["t","38"],["t","39"],["t","40"],["t","41"],["t","42"],["t","43"],["t","44"],["t","45"],["t","46"],["t","47"],["t","48"],["t","49"],["t","50"],["t","51"],["t","52"],["t","53"],["t","54"],["t","55"],["t","56"],["t","57"],["t","58"],["t","59"],["t","60"],["t","61"],["t","62"],["t","63"]]}"##;
 
 /// The text whose digest is the first event's id.
 const ID_TEXT: &str =
@@ -206,6 +218,40 @@ fn chosen(alloc: Global) -> Option<Said> {
     match choose(alloc, &filters, &events) {
         Ok(places) => Said::ample(places.as_slice() == [1, 0].as_slice()),
         Err(_) => Said::memory(true),
+    }
+}
+
+/// Looks for one of the event's tags, and for one that it hasn't.
+fn tags_in_order(alloc: Global) -> Option<Said> {
+    let event = read(alloc, TAGGED)?;
+    let (there, missing) = (
+        filter(alloc, r##"{"#t":["63"]}"##)?,
+        filter(alloc, r##"{"#t":["64"]}"##)?,
+    );
+    match TagOrder::new(alloc, &event) {
+        Ok(order) => {
+            Said::ample(there.matches_by(&event, &order) && !missing.matches_by(&event, &order))
+        }
+        Err(_) => Said::memory(true),
+    }
+}
+
+/// A request of a filter more, in a text that is long by spaces.
+fn long_request(alloc: Global) -> Option<String> {
+    let mut text = String::from_str(alloc, r##"["REQ","s",{"kinds":[1]},{"limit":2},"##).ok()?;
+    for _space in 0..20_000 {
+        text.push_str(" ").ok()?;
+    }
+    text.push_str(r##"{"limit":3}]"##).ok()?;
+    Some(text)
+}
+
+/// Reads a request of which two filters are kept.
+fn read_few(alloc: Global, text: &str) -> Option<Said> {
+    match read_client_few(alloc, text, 1) {
+        Ok(message) => Said::ample(write_client(alloc, &message).ok()?.as_str() == REQUEST),
+        Err(WireFault::Memory) => Said::memory(true),
+        Err(_) => Said::wrong(),
     }
 }
 

@@ -17,6 +17,7 @@ pub enum Call {
     InsertEach,
     Pin,
     PinAll,
+    PinFew,
     Choose,
     Event,
     Request,
@@ -39,6 +40,7 @@ pub fn call_of(name: &str) -> Option<Call> {
         "Desk::insert_each" => Some(Call::InsertEach),
         "Reader::pin" => Some(Call::Pin),
         "Reader::pin all" => Some(Call::PinAll),
+        "Reader::pin_few" => Some(Call::PinFew),
         "AllEvents::choose" => Some(Call::Choose),
         "Conn::serve EVENT" => Some(Call::Event),
         "Conn::serve REQ" => Some(Call::Request),
@@ -64,6 +66,7 @@ fn held(call: Call) -> usize {
         | Call::InsertEach
         | Call::Pin
         | Call::PinAll
+        | Call::PinFew
         | Call::Choose
         | Call::WriteLines => 2,
         _ => 1,
@@ -92,6 +95,7 @@ pub fn over_store<J: Naming + Send + Sync, R: Threads + Wait + Sync>(
         Call::InsertEach => stores::insert_each(rt, alloc, &mut desk, &mut reader),
         Call::Pin => stores::pin(alloc, &mut reader, r##"{"kinds":[7]}"##, 1),
         Call::PinAll => stores::pin(alloc, &mut reader, "{}", 2),
+        Call::PinFew => stores::pin_few(alloc, &mut reader),
         Call::Choose => stores::chosen(alloc, &mut reader),
         _ => conns::said_of(rt, alloc, call, &mut desk, &mut reader),
     }

@@ -18,6 +18,7 @@ pub const NAMES: &[&str] = &[
     "Desk::insert_each",
     "Reader::pin",
     "Reader::pin all",
+    "Reader::pin_few",
     "AllEvents::choose",
 ];
 
@@ -180,8 +181,30 @@ pub fn pin<J: Naming>(
         Ok(pinned) => Said::ample(
             pinned.front() == 2 && pinned.events().len() == count && pinned.roll().len() == count,
         ),
-        Err(PinFault::Memory) => Said::memory(publishes(alloc, reader, 2)),
-        Err(PinFault::Gone) => Said::allowed(publishes(alloc, reader, 2)),
+        Err(fault) => unpinned(alloc, reader, fault),
+    }
+}
+
+/// Pins the event that a filter matches, where it may be one, and where it may be none.
+pub fn pin_few<J: Naming>(alloc: Global, reader: &mut Reader<J>) -> Option<Said> {
+    let filter = filter(alloc, r##"{"kinds":[7]}"##)?;
+    let most = match reader.pin_few(alloc, &filter, 0) {
+        Ok(None) => 1,
+        Ok(Some(_)) => return Said::wrong(),
+        Err(fault) => return unpinned(alloc, reader, fault),
+    };
+    match reader.pin_few(alloc, &filter, most) {
+        Ok(Some(pinned)) => Said::ample(pinned.front() == 2 && pinned.events().len() == 1),
+        Ok(None) => Said::wrong(),
+        Err(fault) => unpinned(alloc, reader, fault),
+    }
+}
+
+/// What a fault comes to of a store of two events.
+fn unpinned<J: Naming>(alloc: Global, reader: &mut Reader<J>, fault: PinFault) -> Option<Said> {
+    match fault {
+        PinFault::Memory => Said::memory(publishes(alloc, reader, 2)),
+        PinFault::Gone => Said::allowed(publishes(alloc, reader, 2)),
     }
 }
 
