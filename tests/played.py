@@ -24,6 +24,8 @@ class Connection(Client):
         while b"\r\n\r\n" not in self.held:
             self.fill()
         head, self.held = self.held.split(b"\r\n\r\n", 1)
+        # The path and the host that the handshake names.
+        self.named = head.split()[1].decode(), re.search(rb"\r\nHost: *(\S+)", head, re.I)[1].decode()
         key = re.search(rb"Sec-WebSocket-Key: *(\S+)", head, re.I)[1]
         accept = base64.b64encode(hashlib.sha1(key + GUID).digest())
         stream.sendall(b"HTTP/1.1 101 Switching Protocols\r\nUpgrade: websocket\r\nConnection: Upgrade\r\n"

@@ -296,6 +296,23 @@ def tells_reasons(path, folder):
     same(sum(": " in line for line in told), len(wanted))
 
 
+def is_named(path, folder):
+    some, named = event(5000, "of one that is named"), []
+    answer = lists([some["id"]], gives_of([some]))
+
+    def answers(connection, asked):
+        named.append(connection.named)
+        answer(connection, asked)
+    at = Played(answers).at
+    for entry, wanted in ((at, ("/", at)), ("ws://" + at, ("/", at)), ("ws://%s/a/b?c=d" % at, ("/a/b?c=d", at)),
+                          ({"host": "relay.example.com", "path": "/a?b", "via": at}, ("/a?b", "relay.example.com")),
+                          ({"host": "relay.example.com:8080", "via": at}, ("/", "relay.example.com:8080"))):
+        same(synced(path, folder, [entry], "--strict")[2:], (0, [some]))
+        # Of the session and of the fetching.
+        same(sorted(set(named)), [wanted])
+        named.clear()
+
+
 def all_are_down(path, folder):
     up, nobody = Played(lists([], gives_none)), Server(None)
     nobody.__exit__()
@@ -325,7 +342,7 @@ def main():
     options = parser.parse_args()
     path, rng = os.path.abspath(options.program), random.Random(1)
     alone = event(4000, "of one alone")
-    parts = [is_slow_enough] + [partial(is_too_slow, place) for place in (0, 1)] + [tells_reasons, all_are_down]
+    parts = [is_slow_enough] + [partial(is_too_slow, place) for place in (0, 1)] + [tells_reasons, all_are_down, is_named]
     parts += [partial(is_cut, place) for place in (0, 1)]
     parts += [partial(fails_over, *refusal, place, it) for refusal in REFUSALS for place in (0, 1) for it in ([], [alone])]
     for _ in range(options.runs):

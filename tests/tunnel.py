@@ -6,7 +6,7 @@
 nginx has certificates of an authority that is made here, and knows its relay by the host and the path that a handshake names. What
 it serves comes through the tunnel where the settings name both. Another host, another path, and the tunnel's own address as the
 host get a status. Where the certificate is for another name or of another authority, and where nothing listens behind the tunnel,
-the connection is closed. None of these reaches the relay. Where one of the programs isn't installed, it says so, and does nothing.
+the connection is closed; it is refused where there is no tunnel. None of these reaches the relay. Where one of the programs isn't installed, it says so, and does nothing.
 """
 import atexit
 import os
@@ -137,12 +137,12 @@ def through(path, folder, stunnel, nginx):
     certify(folder, "authority", "right", HOST)
     certify(folder, "authority", "other", OTHER)
     certify(folder, "stranger", "strange", HOST)
-    far, near = free_ports(3), free_ports(4)
+    far, near, nobody = free_ports(3), free_ports(4), free_ports(1)[0]
     servers = zip(far, ("right", "other", "strange"))
     with open(os.path.join(folder, "nginx.conf"), "w") as text:
         text.write(NGINX % "".join(SERVER % {"port": it, "certificate": name, "relay": port} for it, name in servers))
     children = [run_until_up(folder, far, nginx, "-p", folder, "-e", "nginx.log", "-c", "nginx.conf"),
-                run_until_up(folder, near, stunnel, stunnel_conf(folder, list(zip(near, far + free_ports(1)))))]
+                run_until_up(folder, near, stunnel, stunnel_conf(folder, list(zip(near, far + [nobody]))))]
     tunnels = ["127.0.0.1:%d" % it for it in near]
     named = {"host": HOST, "path": "/nostr", "via": tunnels[0]}
     # Each entry, the name by which it is told, and why it fails.
@@ -150,6 +150,7 @@ def through(path, folder, stunnel, nginx):
                ("ws://%s/nostr" % tunnels[0], tunnels[0], "status 421"), (dict(named, host=OTHER), OTHER, "status 421"),
                (dict(named, path="/other"), HOST, "status 404"), ({"host": HOST, "via": tunnels[0]}, HOST, "status 404")]
     entries += [(dict(named, via=it), HOST, "closed") for it in tunnels[1:]]
+    entries.append((dict(named, via="127.0.0.1:%d" % nobody), HOST, "connection refused"))
     mirror = begin(path, "sync", settings(folder, "mirror", relays=[it[0] for it in entries]), "--progress", "--strict")
     out, told = mirror.communicate(timeout=60)
     lines = ["relay 0 need 150"] + ["relay %d failed 1" % it for it in range(1, len(entries))]
