@@ -170,7 +170,7 @@ def main():
     programs = {"stunnel4": found("stunnel4", "stunnel"), "nginx": found("nginx"), "openssl": found("openssl")}
     missing = [name for name, place in programs.items() if place is None]
     if missing:
-        print("tunnel.py was left out: %s not installed" % " and ".join(missing), file=sys.stderr)
+        print("tunnel.py was left out: not installed: %s" % ", ".join(missing), file=sys.stderr)
         return
     with tempfile.TemporaryDirectory() as folder:
         through(program(), folder, programs["stunnel4"], programs["nginx"])
