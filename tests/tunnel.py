@@ -6,7 +6,8 @@
 nginx has certificates of an authority that is made here, and knows its relay by the host and the path that a handshake names. What
 it serves comes through the tunnel where the settings name both. Another host, another path, and the tunnel's own address as the
 host get a status. Where the certificate is for another name or of another authority, and where nothing listens behind the tunnel,
-the connection is closed; it is refused where there is no tunnel. None of these reaches the relay. Where one of the programs isn't installed, it says so, and does nothing.
+the connection is closed; it is refused where there is no tunnel, and gets a status where TLS itself is named. None of these
+reaches the relay. Where one of the programs isn't installed, it says so, and does nothing.
 """
 import atexit
 import os
@@ -150,7 +151,9 @@ def through(path, folder, stunnel, nginx):
                ("ws://%s/nostr" % tunnels[0], tunnels[0], "status 421"), (dict(named, host=OTHER), OTHER, "status 421"),
                (dict(named, path="/other"), HOST, "status 404"), ({"host": HOST, "via": tunnels[0]}, HOST, "status 404")]
     entries += [(dict(named, via=it), HOST, "closed") for it in tunnels[1:]]
-    entries.append((dict(named, via="127.0.0.1:%d" % nobody), HOST, "connection refused"))
+    # Where there is no tunnel, and where TLS is spoken.
+    entries += [(dict(named, via="127.0.0.1:%d" % it), HOST, why)
+                for it, why in ((nobody, "connection refused"), (far[0], "status 400"))]
     mirror = begin(path, "sync", settings(folder, "mirror", relays=[it[0] for it in entries]), "--progress", "--strict")
     out, told = mirror.communicate(timeout=60)
     lines = ["relay 0 need 150"] + ["relay %d failed 1" % it for it in range(1, len(entries))]
