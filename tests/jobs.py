@@ -57,6 +57,9 @@ WRONG = [
     ("push_ms = 60001", "push_ms"),
     ("timeout_ms = 0", "timeout_ms"),
     ("timeout_ms = 3600001", "timeout_ms"),
+    ("slow_bytes = 0", "slow_bytes"),
+    ("slow_bytes = 1000000001", "slow_bytes"),
+    ("slow_bytes = 0\nfsync = 1", "fsync"),
     ("fsync = 1", "fsync"),
     ("fsync = 'Always'", "fsync"),
     ("fsync = 'every'\ntimeout_ms = 0", "timeout_ms"),
@@ -83,6 +86,9 @@ REFUSED = [
     ("sync", "events = 'e'\nrelays = ['a:1', 'b']", " relays"),
     ("sync", "events = 'e'\nrelays = 'a:1'", " relays"),
     ("sync", "events = 'e'\nrelays = [['a:1']]", " relays"),
+    ("sync", "events = 'e'\nrelays = ['wss://a:1']", " relays"),
+    ("sync", "events = 'e'\nrelays = ['a:1', { host = 'a' }]", " relays"),
+    ("sync", "events = 'e'\nrelays = [{ host = 'a', path = 'b', via = 'a:1' }]", " relays"),
     ("sync", "events = 'e'\nrelays = [%s]" % ", ".join(["'a:1'"] * 257), " relays"),
 ]
 

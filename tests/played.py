@@ -6,6 +6,7 @@ import re
 import socket
 import struct
 import threading
+import time
 
 import told  # Its path leads to `wire`.
 from wire import Client, Gone
@@ -18,9 +19,13 @@ class Connection(Client):
 
     def __init__(self, stream):
         self.socket, self.held = stream, b""
+        # How many bytes of events it was given.
+        self.given = 0
         while b"\r\n\r\n" not in self.held:
             self.fill()
         head, self.held = self.held.split(b"\r\n\r\n", 1)
+        # The path and the host that the handshake names.
+        self.named = head.split()[1].decode(), re.search(rb"\r\nHost: *(\S+)", head, re.I)[1].decode()
         key = re.search(rb"Sec-WebSocket-Key: *(\S+)", head, re.I)[1]
         accept = base64.b64encode(hashlib.sha1(key + GUID).digest())
         stream.sendall(b"HTTP/1.1 101 Switching Protocols\r\nUpgrade: websocket\r\nConnection: Upgrade\r\n"
@@ -82,6 +87,34 @@ def gives_of(events):
     return gives
 
 
+def answer_of(events, sub, ids):
+    """The bytes by which those of these events that are asked for are given."""
+    texts = [["EVENT", sub, it] for it in events if it["id"] in ids] + [["EOSE", sub]]
+    return b"".join(Connection.frame(json.dumps(it).encode()) for it in texts)
+
+
+def drips(events, a_second):
+    """Those of these events that are asked for, so many bytes a second."""
+    def gives(connection, sub, ids):
+        whole, step = answer_of(events, sub, ids), a_second // 10
+        for at in range(0, len(whole), step):
+            connection.socket.sendall(whole[at:at + step])
+            time.sleep(0.1)
+    return gives
+
+
+def cut_after(events, most):
+    """Those of these events that are asked for, until a connection has had so many bytes of them, in the middle of a frame."""
+    def gives(connection, sub, ids):
+        whole = answer_of(events, sub, ids)
+        connection.socket.sendall(whole[:most - connection.given])
+        connection.given += len(whole)
+        if connection.given > most:
+            connection.socket.close()
+            raise Gone("closed")
+    return gives
+
+
 def closes(events):
     """The first of these events, and then no more."""
     def gives(connection, sub, _ids):
@@ -102,6 +135,13 @@ def answered(stream, answer):
     stream.close()
 
 
+def unavailable(stream):
+    """Answers a handshake by a status."""
+    stream.recv(1 << 16)
+    stream.sendall(b"HTTP/1.1 503 Service Unavailable\r\nContent-Length: 0\r\n\r\n")
+    stream.close()
+
+
 def accepting(server, serve):
     try:
         while True:
@@ -111,19 +151,37 @@ def accepting(server, serve):
         pass
 
 
-class Played:
-    """A played relay at a port of its own, which notes for each connection what it is asked to compare or to give."""
+class Server:
+    """A server at a port of its own, which hands each connection to a function."""
 
-    def __init__(self, answer):
-        self.answer, self.asked = answer, []
+    def __init__(self, serve):
         self.server = socket.create_server(("127.0.0.1", 0))
         self.at = "127.0.0.1:%d" % self.server.getsockname()[1]
-        threading.Thread(target=accepting, args=(self.server, self.serve), daemon=True).start()
+        threading.Thread(target=accepting, args=(self.server, serve), daemon=True).start()
+
+    def __enter__(self):
+        return self
+
+    def __exit__(self, *_why):
+        self.server.shutdown(socket.SHUT_RDWR)
+        self.server.close()
+
+
+class Played(Server):
+    """A played relay, which notes for each connection what it is asked to compare or to give. Where it is busy, it takes no
+    handshake but the first."""
+
+    def __init__(self, answer, is_busy=False):
+        self.answer, self.is_busy, self.asked = answer, is_busy, []
+        super().__init__(self.serve)
 
     def serve(self, stream):
         # Before the handshake: a mirror that has made a connection is seen.
         asked = []
         self.asked.append(asked)
+        if self.is_busy and len(self.asked) > 1:
+            unavailable(stream)
+            return
 
         def answer(connection, text):
             if text[0] not in ("CLOSE", "NEG-CLOSE"):
@@ -138,10 +196,3 @@ class Played:
     def fetched(self):
         """The ids that it was asked to give on each connection but the first, sorted."""
         return [sorted(id for text in asked for id in text[2]["ids"]) for asked in self.asked[1:]]
-
-    def __enter__(self):
-        return self
-
-    def __exit__(self, *_why):
-        self.server.shutdown(socket.SHUT_RDWR)
-        self.server.close()

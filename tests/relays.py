@@ -8,22 +8,26 @@ one gives other events and events whose ids are wrong, one closes in the middle 
 one a frame and one a message that never ends; one doesn't shake hands. The honest relay's events have to come all the same, and no
 others but those that were asked for with right ids; the mirror's file has to be whole, and its memory within a bound.
 
-Then two relays have the same events, and one of them, the first or the second, refuses to give any: what it was to give comes from
-the other in the next round, and `--progress` says why it failed. An id that only the one that fails has stays with it. Where all
-are down, and where one can't be reached, the reason is told too, and `--strict` ends with status 3. Last, a relay gives 60 events
-of 1 MB that nobody asked for.
+A relay gives 60 events of 1 MB that nobody asked for.
+
+Then two relays have the same events, and one of them, the first or the second, refuses to give any, is cut after a megabyte, drips
+or says nothing: what it was to give comes from the other in the next round, and `--progress` says why it failed. An id that only
+the one that fails has stays with it. One that drips as fast as `slow_bytes` asks is waited for. Where a session fails, where all
+relays are down, and where one can't be reached, the reason is told too, and `--strict` ends with status 3. Last, a handshake names
+the host and the path that the settings name.
 """
 import argparse
 import json
 import os
 import random
-import socket
 import struct
 import tempfile
 import threading
 import time
+from concurrent.futures import ThreadPoolExecutor
+from functools import partial
 
-from played import Played, accepting, answered, closes, gives_none, gives_of, lists
+from played import (Played, Server, answered, closes, cut_after, drips, gives_none, gives_of, listing, lists, unavailable)
 from told import ROOT, begin, by_id, event, read, same, settings, start, written
 from wire import Gone
 
@@ -107,7 +111,7 @@ def waited(child):
     return out, errors, child.returncode, max(peaks)
 
 
-def meet(path, folder, rng):
+def meet(rng, path, folder):
     theirs = [event(1000 + n, "honest") for n in range(150)]
     partly = [event(2000 + n, "given in part") for n in range(2)]
     unknown = ["%064x" % rng.getrandbits(256) for _ in range(3000)]
@@ -119,14 +123,9 @@ def meet(path, folder, rng):
            lists([it["id"] for it in partly], closes(partly)), says_else, compares, sends_long, frame_without_end,
            message_without_end]
     serves = [lambda stream, answer=answer: answered(stream, answer) for answer in odd] + [shakes_no_hands]
-    servers = [socket.create_server(("127.0.0.1", 0)) for _ in serves]
-    for server, serve in zip(servers, serves):
-        threading.Thread(target=accepting, args=(server, serve), daemon=True).start()
-    ports = [server.getsockname()[1] for server in servers] + [port]
-    out, errors, status, memory = waited(begin(path, "sync", settings(
-        folder, "mirror", relays=["127.0.0.1:%d" % it for it in ports])))
-    for server in servers:
-        server.close()
+    servers = [Server(serve) for serve in serves]
+    relays = [server.at for server in servers] + ["127.0.0.1:%d" % port]
+    out, errors, status, memory = waited(begin(path, "sync", settings(folder, "mirror", relays=relays)))
     same(out, TOLD)
     same([errors, status], ["", 0])
     same(by_id(read(os.path.join(folder, "mirror.jsonl"))), by_id([mine, *theirs]))
@@ -134,74 +133,6 @@ def meet(path, folder, rng):
     if memory > MEMORY:
         raise SystemExit("sync took %.0f MiB" % memory)
     return memory
-
-
-def closes_at_once(connection, _sub, _ids):
-    connection.socket.close()
-    raise Gone("closed")
-
-
-def says_closed(connection, sub, _ids):
-    connection.say(["CLOSED", sub, "auth-required: \u001b[31mwho are you?"])
-
-
-def says_notice(connection, sub, ids):
-    connection.say(["NOTICE", "not today"])
-    closes_at_once(connection, sub, ids)
-
-
-def says_nothing(connection, _sub, _ids):
-    connection.read()
-
-
-# How a relay refuses to give, and what is told of it.
-REFUSALS = [(closes_at_once, "closed"), (says_closed, "CLOSED auth-required:  [31mwho are you?"),
-            (says_notice, "closed after NOTICE not today"), (says_nothing, "timed out")]
-
-
-def synced(path, folder, relays, *words, **values):
-    """What a mirror without events of its own tells of a sync with these relays, its reasons, its status and its events."""
-    conf = settings(folder, "mirror", relays=[relay.at for relay in relays], **values)
-    kept = os.path.join(folder, "mirror.jsonl")
-    if os.path.exists(kept):
-        os.remove(kept)
-    child = begin(path, "sync", conf, "--progress", *words)
-    out, told = child.communicate(timeout=120)
-    return out.splitlines(), told.splitlines(), child.returncode, read(kept)
-
-
-def fails_over(path, folder):
-    both = [event(3000 + n, "of both") for n in range(40)]
-    alone = event(4000, "of one alone")
-    for refuses, why in REFUSALS:
-        for place in (0, 1):
-            twins = [Played(lists([it["id"] for it in both], gives_of(both))),
-                     Played(lists([it["id"] for it in both] + [alone["id"]], refuses))]
-            if place == 0:
-                twins.reverse()
-            out, told, status, kept = synced(path, folder, twins, "--strict", rounds=2, timeout_ms=1000)
-            same(out[-3:], ["given 40", "missed 0", "left 1"])
-            same(by_id(kept), by_id(both))
-            same(["relay %d %s: %s" % (place, twins[place].at, why) in told, status], [True, 3])
-            # In the second round it is asked for no more than what it alone has.
-            same(twins[place].fetched()[1:], [[alone["id"]]])
-
-
-def tells_reasons(path, folder):
-    some = [event(5000, "of one that is up")]
-    up = Played(lists([some[0]["id"]], gives_of(some)))
-    nobody = Played(lists([], gives_none))
-    nobody.__exit__()
-    down = "relay 0 %s: connection refused" % nobody.at
-    out, told, status, kept = synced(path, folder, [nobody, up], "--strict")
-    same([out[0], out[-3:], down in told, status, kept], ["relay 0 failed 1", ["given 1", "missed 0", "left 0"], True, 3, some])
-    same(synced(path, folder, [nobody, up])[2], 0)
-    same(synced(path, folder, [up], "--strict")[2], 0)
-    out, told, status, _kept = synced(path, folder, [nobody, nobody], "--strict")
-    same([out[:2], down in told, status], [["relay 0 failed 1", "relay 1 failed 1"], True, 3])
-    refuses = Played(lambda connection, asked: connection.say(["NEG-ERR", asked[1], "blocked: too big"]))
-    out, told, status, _kept = synced(path, folder, [refuses])
-    same([out[0], "relay 0 %s: NEG-ERR blocked: too big" % refuses.at in told, status], ["relay 0 failed 1", True, 0])
 
 
 def gives_unasked(path, folder):
@@ -221,18 +152,205 @@ def gives_unasked(path, folder):
     return memory
 
 
+def closes_at_once(connection, *_asked):
+    connection.socket.close()
+    raise Gone("closed")
+
+
+def says_nothing(connection, *_asked):
+    connection.read()
+
+
+def says_goodbye(connection, *_asked):
+    connection.socket.sendall(connection.frame(b"\x03\xe8", 8))
+    says_nothing(connection)
+
+
+def no_json(connection, *_asked):
+    connection.send(b"hello")
+
+
+def no_frame(connection, *_asked):
+    # A text whose reserved bits are set.
+    connection.socket.sendall(connection.frame(b"[]", 0x71))
+
+
+def says_closed(connection, sub, _ids):
+    connection.say(["CLOSED", sub, "auth-required: \u001b[31mwho are you?"])
+
+
+def says_others(connection, sub, _ids):
+    connection.say(*[["EVENT", sub, event(5, "not asked for")]] * 1000)
+
+
+def behind_notice(then):
+    """Says what isn't asked for before it does so."""
+    def does(connection, *asked):
+        connection.say(["NOTICE", "not now"], ["NOTICE", "not today"])
+        then(connection, *asked)
+    return does
+
+
+# How a relay refuses to give, and what is told of it. The last takes no connection but the session's.
+REFUSALS = [(closes_at_once, "closed"), (says_closed, "CLOSED auth-required:  [31mwho are you?"),
+            (behind_notice(closes_at_once), "closed after NOTICE not today"),
+            (behind_notice(says_nothing), "timed out after NOTICE not today"), (says_nothing, "timed out"),
+            (says_others, "too many other messages"), (no_json, "no valid message"), (None, "status 503")]
+
+# How a relay's session fails, and what is told of it.
+FAULTS = [(closes_at_once, "closed"), (says_goodbye, "closed"), (says_nothing, "timed out"),
+          (behind_notice(closes_at_once), "closed after NOTICE not today"),
+          (behind_notice(says_nothing), "timed out after NOTICE not today"),
+          (says_else, "too many other messages after NOTICE wait"),
+          (lambda connection, asked: connection.say(["NEG-ERR", asked[1], "blocked: too big"]), "NEG-ERR blocked: too big"),
+          (lambda connection, asked: connection.say(["CLOSED", asked[1], "x" * 300]), "CLOSED " + "x" * 200),
+          (no_json, "no valid message"), (no_frame, "no valid message"), (sends_long, "no valid message"),
+          (lambda connection, asked: connection.say(["NEG-MSG", asked[1], "62"]), "bad answer: version byte 98"),
+          (compares, "too many rounds")]
+
+# How a connection isn't made, and what is told of it.
+REFUSED = [(unavailable, "status 503"), (shakes_no_hands, "no WebSocket handshake"), (lambda stream: stream.close(), "closed"),
+           (lambda stream: stream.recv(1 << 16) and stream.recv(1), "timed out")]
+
+
+def synced(path, folder, relays, *words, **values):
+    """What a mirror without events of its own tells of a sync with these relays, its reasons, its status and its events."""
+    conf = settings(folder, "mirror", relays=relays, **values)
+    kept = os.path.join(folder, "mirror.jsonl")
+    if os.path.exists(kept):
+        os.remove(kept)
+    child = begin(path, "sync", conf, "--progress", *words)
+    out, told = child.communicate(timeout=120)
+    return out.splitlines(), told.splitlines(), child.returncode, read(kept)
+
+
+def twins_of(place, one, other):
+    """Two relays, of which the one is at this place."""
+    twins = [other, one] if place else [one, other]
+    return twins, [it.at for it in twins]
+
+
+def fails_over(refuses, why, place, alone, path, folder):
+    both = [event(3000 + n, "of both") for n in range(40)]
+    ids = [it["id"] for it in both]
+    refusing = Played(lists(ids + [it["id"] for it in alone], refuses), refuses is None)
+    _twins, at = twins_of(place, refusing, Played(lists(ids, gives_of(both))))
+    out, told, status, kept = synced(path, folder, at, "--strict", rounds=2, timeout_ms=1000)
+    same(out[-3:], ["given 40", "missed 0", "left %d" % len(alone)])
+    same(by_id(kept), by_id(both))
+    same(["relay %d %s: %s" % (place, refusing.at, why) in told, status], [True, 3])
+    # In the second round it is asked for no more than what it alone has, and isn't connected to where that is nothing.
+    again = [[it["id"] for it in alone if refuses]]
+    same(refusing.fetched()[1:], again if alone else [])
+
+
+def is_cut(place, path, folder):
+    both = [event(3000 + n, "of both" * 200) for n in range(2000)]
+    ids = [it["id"] for it in both]
+    cut = Played(lists(ids, cut_after(both, 1_000_000)))
+    _twins, at = twins_of(place, cut, Played(lists(ids, gives_of(both))))
+    out, told, status, kept = synced(path, folder, at, "--strict", rounds=2)
+    same(out[-3:], ["given 2000", "missed 0", "left 0"])
+    same(by_id(kept), by_id(both))
+    same(["relay %d %s: closed" % (place, cut.at) in told, status], [True, 3])
+    same(len(cut.asked), 2)
+
+
+def is_too_slow(is_silent, place, path, folder):
+    both = [event(3000 + n, "x" * 1000) for n in range(60)]
+    ids = [it["id"] for it in both]
+    slow = Played(lists(ids, says_nothing if is_silent else drips(both, 1000)))
+    _twins, at = twins_of(place, slow, Played(lists(ids, gives_of(both))))
+    begun = time.monotonic()
+    out, told, status, kept = synced(path, folder, at, "--strict", rounds=2)
+    took = time.monotonic() - begun
+    same(out[-3:], ["given 60", "missed 0", "left 0"])
+    same(by_id(kept), by_id(both))
+    same(["relay %d %s: too slow" % (place, slow.at) in told, status], [True, 3])
+    if not 9.5 < took < 20:
+        raise SystemExit("a relay that brings too little was waited for %.1f seconds" % took)
+
+
+def is_slow_enough(path, folder):
+    some = [event(3000 + n, "x" * 1000) for n in range(10)]
+    slow = Played(lists([it["id"] for it in some], drips(some, 1000)))
+    begun = time.monotonic()
+    out, _told, status, kept = synced(path, folder, [slow.at], "--strict", slow_bytes=500)
+    same([out[-3:], status, by_id(kept)], [["given 10", "missed 0", "left 0"], 0, by_id(some)])
+    if time.monotonic() - begun < 11:
+        raise SystemExit("the relay that drips took too little time to show anything")
+
+
+def tells_reasons(path, folder):
+    some = [event(5000, "of one that is up")]
+    up = Played(lists([some[0]["id"]], gives_of(some)))
+    nobody = Server(None)
+    nobody.__exit__()
+    relays = [Server(serve) for serve, _why in REFUSED] + [Played(answer) for answer, _why in FAULTS] + [nobody]
+    # No name has so many letters, and no stream goes to all.
+    at = [it.at for it in relays] + ["x" * 64 + ":80", "255.255.255.255:80", up.at]
+    whys = [why for _does, why in REFUSED + FAULTS] + ["connection refused", "no such host", "host unreachable"]
+    out, told, status, kept = synced(path, folder, at, "--strict", timeout_ms=2000)
+    wanted = ["relay %d %s: %s" % it for it in zip(range(len(whys)), at, whys)]
+    same([line for line in wanted if line not in told], [])
+    same([out[-3:], status, kept], [["given 1", "missed 0", "left 0"], 3, some])
+    same(sum(": " in line for line in told), len(wanted))
+
+
+def is_named(path, folder):
+    some, named = event(5000, "of one that is named"), []
+    answer = lists([some["id"]], gives_of([some]))
+
+    def answers(connection, asked):
+        if asked[0] in ("NEG-OPEN", "REQ"):
+            named.append(connection.named)
+        answer(connection, asked)
+    at = Played(answers).at
+    for entry, wanted in ((at, ("/", at)), ("ws://" + at, ("/", at)), ("ws://%s/a/b?c=d" % at, ("/a/b?c=d", at)),
+                          ({"host": "relay.example.com", "path": "/a?b", "via": at}, ("/a?b", "relay.example.com")),
+                          ({"host": "relay.example.com:8080", "via": at}, ("/", "relay.example.com:8080"))):
+        same(synced(path, folder, [entry], "--strict")[2:], (0, [some]))
+        # Of the session and of the fetching.
+        same(named, [wanted] * 2)
+        named.clear()
+
+
+def all_are_down(path, folder):
+    up, nobody = Played(lists([], gives_none)), Server(None)
+    nobody.__exit__()
+    for relays, words, wanted in (([nobody], [], 0), ([nobody], ["--strict"], 3), ([nobody, nobody], ["--strict"], 3),
+                                  ([nobody, up], [], 0), ([nobody, up], ["--strict"], 3), ([up], ["--strict"], 0)):
+        out, _told, status, kept = synced(path, folder, [it.at for it in relays], *words, rounds=3)
+        same([out[0] == "relay 0 failed 1", out[-3:], status, kept],
+             [nobody in relays, ["given 0", "missed 0", "left 0"], wanted, []])
+
+
+def in_folder(meets, path):
+    with tempfile.TemporaryDirectory() as folder:
+        return meets(path, folder)
+
+
+def side_by_side(parts, path):
+    """Runs parts in threads, the long ones first."""
+    with ThreadPoolExecutor(8) as pool:
+        for ran in [pool.submit(in_folder, part, path) for part in parts]:
+            ran.result()
+
+
 def main():
     parser = argparse.ArgumentParser(description=__doc__.split("\n")[0])
     parser.add_argument("program", nargs="?", default=os.path.join(ROOT, "crates/mirror_app/out/mirror_app"))
     parser.add_argument("--runs", type=int, default=1)
     options = parser.parse_args()
-    rng = random.Random(1)
+    path, rng = os.path.abspath(options.program), random.Random(1)
+    alone = event(4000, "of one alone")
+    parts = [is_slow_enough] + [partial(is_too_slow, silent, place) for silent in (0, 1) for place in (0, 1)]
+    parts += [tells_reasons, all_are_down, is_named] + [partial(is_cut, place) for place in (0, 1)]
+    parts += [partial(fails_over, *refusal, place, it) for refusal in REFUSALS for place in (0, 1) for it in ([], [alone])]
     for _ in range(options.runs):
-        with tempfile.TemporaryDirectory() as folder:
-            memory = meet(os.path.abspath(options.program), folder, rng)
-        for meets in (fails_over, tells_reasons, gives_unasked):
-            with tempfile.TemporaryDirectory() as folder:
-                took = meets(os.path.abspath(options.program), folder)
+        memory = in_folder(partial(meet, rng), path)
+        took = in_folder(gives_unasked, path)
+        side_by_side(parts, path)
         print("as wanted, %.0f MiB, and %.0f MiB for what nobody asked for" % (memory, took), flush=True)
 
 

@@ -53,12 +53,21 @@ def by_id(events):
     return sorted(events, key=lambda it: it["id"])
 
 
+def toml(value):
+    """A value in TOML."""
+    if isinstance(value, dict):
+        return "{ %s }" % ", ".join("%s = %s" % (key, toml(it)) for key, it in value.items())
+    if isinstance(value, (list, tuple)):
+        return "[%s]" % ", ".join(map(toml, value))
+    return json.dumps(value)
+
+
 def settings(folder, name, **values):
     """Writes settings whose events stand in NAME.jsonl where nothing else is said, and gives their path."""
     path = os.path.join(folder, name + ".toml")
     with open(path, "w") as text:
         for key, value in {"events": os.path.join(folder, name + ".jsonl"), **values}.items():
-            text.write("%s = %s\n" % (key, json.dumps(value)))
+            text.write("%s = %s\n" % (key, toml(value)))
     return path
 
 

@@ -170,7 +170,7 @@ fn so_many_relays(rt: HostRuntime) -> Result<(), Fail> {
 }
 
 /// An entry of `relays`, with the host, the path and the address that it means.
-static ENTRIES: [(&str, &str, &str, (&str, u16)); 10] = [
+static ENTRIES: [(&str, &str, &str, (&str, u16)); 14] = [
     ("'localhost:7000'", "localhost:7000", "/", ("localhost", 7000)),
     ("'[::1]:80'", "[::1]:80", "/", ("[::1]", 80)),
     ("'a b:65535'", "a b:65535", "/", ("a b", 65535)),
@@ -181,6 +181,10 @@ static ENTRIES: [(&str, &str, &str, (&str, u16)); 10] = [
     ("'ws://[::1]:0//'", "[::1]:0", "//", ("[::1]", 0)),
     ("'ws://127.0.0.1:65535'", "127.0.0.1:65535", "/", ("127.0.0.1", 65535)),
     ("'ws:80'", "ws:80", "/", ("ws", 80)),
+    ("{ host = 'a.example', path = '/', via = '127.0.0.1:7001' }", "a.example", "/", ("127.0.0.1", 7001)),
+    ("{ via = '[::1]:0', host = 'a.example:8080' }", "a.example:8080", "/", ("[::1]", 0)),
+    ("{ host = '[::1]', path = '//a?b=wss://c', via = 'a:1', port = 1 }", "[::1]", "//a?b=wss://c", ("a", 1)),
+    ("{ host = '[::1]:443', path = '/a%20b', via = 'a b:1' }", "[::1]:443", "/a%20b", ("a b", 1)),
 ];
 
 #[test]
@@ -198,7 +202,7 @@ fn entries_name_relays(rt: HostRuntime) -> Result<(), Fail> {
 }
 
 /// Entries that name no relay.
-static NO_ENTRIES: [&str; 26] = [
+static NO_ENTRIES: [&str; 42] = [
     "''",
     "'a'",
     "':80'",
@@ -225,6 +229,22 @@ static NO_ENTRIES: [&str; 26] = [
     "'ws://a b/'",
     "'ws://a/b c'",
     "\"ws://a/\\r\\nb\"",
+    "{}",
+    "{ host = 'a' }",
+    "{ via = 'a:1' }",
+    "{ path = '/', via = 'a:1' }",
+    "{ host = 'a', path = '/', via = 'a' }",
+    "{ host = 'a', via = ':1' }",
+    "{ host = 'a', via = 1 }",
+    "{ host = 1, via = 'a:1' }",
+    "{ host = '', via = 'a:1' }",
+    "{ host = 'a/b', via = 'a:1' }",
+    "{ host = 'a b', via = 'a:1' }",
+    "{ host = '::1', via = 'a:1' }",
+    "{ host = 'a', path = '', via = 'a:1' }",
+    "{ host = 'a', path = 'b', via = 'a:1' }",
+    "{ host = 'a', path = '/b c', via = 'a:1' }",
+    "{ host = 'a', path = 1, via = 'a:1' }",
 ];
 
 #[test]
