@@ -9,7 +9,7 @@ use crate::told::ToldSource;
 use claim_board::{Board, BoardFault, Cell};
 use event_store::{Desk, Naming};
 use fetch_plan::Plan;
-use mirror_core::{End, FetchFault, Source, SourceFault, Stop, fetch_all};
+use mirror_core::{End, FetchFault, Source, Stop, fetch_all};
 use mirror_settings::Settings;
 use offer_table::RelaySet;
 use serve_run::Refusal;
@@ -118,12 +118,12 @@ fn unreached(planned: RelaySet, relays: &[u16]) -> RelaySet {
     unreached
 }
 
-/// The relays of which a source failed.
+/// The relays of which a source failed, or had no memory for what it was sent.
 fn failed<J: Naming>(relays: &[u16], stops: &[Stop<J>]) -> RelaySet {
     let mut failed = RelaySet::empty();
     for at in 0..relays.len() {
         if at < stops.len() && relays[at] < 256 {
-            if matches!(&stops[at], Stop::Source(SourceFault::Failed)) {
+            if matches!(&stops[at], Stop::Source(_)) {
                 failed = failed.with(relays[at]);
             }
         }
