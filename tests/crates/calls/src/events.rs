@@ -5,9 +5,7 @@ use id_text::parse_bytes;
 use neg_codec::Id;
 use nostr_event::{Event, EventFault, Spelling, bytes32_of, id_of, id_text};
 use nostr_filter::{Filter, FilterFault, TagOrder, choose};
-use nostr_wire::{
-    WireFault, read_client, read_client_few, read_relay, write_client, write_relay,
-};
+use nostr_wire::{WireFault, read_client, read_client_few, read_relay, write_client, write_relay};
 use serde_json::Value;
 use std::alloc::Global;
 use std::sync::Arc;
