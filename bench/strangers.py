@@ -89,32 +89,28 @@ def tag_values(port):
     return client
 
 
-def held_values(port):
+def listed(port, element, most, begin):
+    """32 subscriptions of one filter each, whose list has so many elements, or as many as a text has room for."""
     client = Client(port)
     for at in range(32):
-        asks(client, several(b'"v"', 2_190, b'["REQ","%d",{"limit":0,"#t":[' % at, b"]}]"))
+        asks(client, several(element, most, b'["REQ","%d",{%s[' % (at, begin), b"]}]"))
     return client
+
+
+def held_values(port):
+    return listed(port, b'"v"', 2_190, b'"limit":0,"#t":')
 
 
 def no_values(port):
-    client = Client(port)
-    for at in range(32):
-        asks(client, several(b'""', 1 << 30, b'["REQ","%d",{"limit":0,"#t":[' % at, b"]}]"))
-    return client
+    return listed(port, b'""', 1 << 30, b'"limit":0,"#t":')
 
 
 def listed_ids(port):
-    client = Client(port)
-    for at in range(32):
-        asks(client, several(b'"%s"' % (b"ab" * 32), 1 << 30, b'["REQ","%d",{"ids":[' % at, b"]}]"))
-    return client
+    return listed(port, b'"%s"' % (b"ab" * 32), 1 << 30, b'"ids":')
 
 
 def listed_kinds(port):
-    client = Client(port)
-    for at in range(32):
-        asks(client, several(b"1", 1 << 30, b'["REQ","%d",{"limit":0,"kinds":[' % at, b"]}]"))
-    return client
+    return listed(port, b"1", 1 << 30, b'"limit":0,"kinds":')
 
 
 def wide_names(port):
