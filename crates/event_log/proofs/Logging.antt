@@ -1,15 +1,15 @@
 -- What logs and media hold after one call and another.
-use Rattle.std.proofs.Common.{◌≡◌, ℕ, zero, suc, ◌+◌, ◌≤◌, ◌<◌, Bool, true, false, List, [], ◌∷◌, ◌++◌, length, take, drop, map, Option, None, Some, IfSome, slice_get, refl, sym, ap, subst, ◌∙◌, arith, append-nil, append_assoc, length-append}
+use Rattle.std.proofs.Common.{◌≡◌, ℕ, ◌+◌, ◌≤◌, Bool, true, false, List, [], ◌∷◌, ◌++◌, length, take, drop, Option, None, Some, IfSome, slice_get, refl, sym, ap, subst, ◌∙◌, arith, append-nil, append_assoc, length-append, take-append-drop}
 use mathlib.Core.List.{IsPrefix}
 use Rattle.std.proofs.lemmas.Grind.{flat_map-append}
-use Rattle.std.proofs.lemmas.List.{take_all, take-append-le}
+use Rattle.std.proofs.lemmas.List.{take_all}
 use Rattle.std.proofs.Math.Seq.{take-append_seam}
 use Rattle.event_store.proofs.Picked.{took_more}
-use Rattle.event_store.proofs.Prefixes.{prefix_self, prefix_trans, prefix_whole}
+use Rattle.event_store.proofs.Prefixes.{prefix_self, prefix_trans}
 use Rattle.nostr_event.specs.EventView.{EventView}
 use Rattle.event_log.specs.Text.{line_of, text_of}
-use Rattle.event_log.specs.Media.{Held, Goes, Anyhow, Stays, Takes, TakesSome, Syncs, CutsTo}
-use Rattle.event_log.specs.Logs.{HoldsLines, HoldsAll, HasText, HasTorn, Lasts, TakesLines}
+use Rattle.event_log.specs.Media.{Held, Goes, Anyhow, Stays, Takes, TakesPart, Syncs, CutsTo}
+use Rattle.event_log.specs.Logs.{HoldsLines, HoldsAll, HasText, HasTorn, Lasts, TakesLines, TakesBegun}
 
 -- ---- what is known stays known
 
@@ -26,6 +26,9 @@ goes_as f None None p = tt
 goes_as f None (Some y) p = absurd p
 goes_as f (Some x) None p = absurd p
 goes_as f (Some x) (Some y) p = f x y p
+
+pub anyhow : (P : Held → Held → Type 0) (a b : Option Held) → Goes P a b → Goes Anyhow a b
+anyhow P a b p = goes_as {P = P} {Q = Anyhow} (λ x y h. tt) a b p
 
 pub goes_none : (P : Held → Held → Type 0) → ((x : Held) → P x x) → (a : Option Held) → Goes P a a
 goes_none P f None = tt
@@ -56,11 +59,13 @@ takes_all done rest bytes a b is none p = subst (λ (t : List ℕ). Goes (Takes 
 pub takes_more : (done more : List ℕ) (a b c : Option Held) → Goes (Takes done) a b → Goes (Takes more) b c → Goes (Takes (done ++ more)) a c
 takes_more done more a b c p q = goes_both (takes_both done more) a b c p q
 
-pub takes_some : (done : List ℕ) (a b : Option Held) → Goes (Takes done) a b → Goes TakesSome a b
-takes_some done a b p = goes_as (λ x y t. (done, t)) a b p
+-- a beginning of the bytes was written, and then nothing
+pub takes_part : (done rest bytes : List ℕ) (a b : Option Held) → bytes ≡ done ++ rest → Goes (Takes done) a b → Goes (TakesPart bytes) a b
+takes_part done rest bytes a b is p = goes_as {P = Takes done} {Q = TakesPart bytes} (λ x y t. (done, (rest, sym is), t)) a b p
 
-pub takes_then_stays : (done : List ℕ) (a b c : Option Held) → Goes (Takes done) a b → Goes Stays b c → Goes TakesSome a c
-takes_then_stays done a b c p q = goes_both {P = Takes done} {Q = Stays} {R = TakesSome} (λ x y z t s. (done, subst (λ (h : Held). Takes done x h) (sym s) t)) a b c p q
+pub takes_then_stays : (done rest bytes : List ℕ) (a b c : Option Held) → bytes ≡ done ++ rest → Goes (Takes done) a b → Goes Stays b c → Goes (TakesPart bytes) a c
+takes_then_stays done rest bytes a b c is p q =
+    goes_both {P = Takes done} {Q = Stays} {R = TakesPart bytes} (λ x y z t s. (done, (rest, sym is), subst (λ (h : Held). Takes done x h) (sym s) t)) a b c p q
 
 -- ---- lines
 
@@ -91,12 +96,37 @@ up_to_more events start place next count sum more a b c p lines is q =
       omega (arith, is, t.3, length-append t.0 more),
     )) a b c p q
 
-pub up_to_some : (events : List EventView) (start place count : ℕ) (a b c : Option Held) → Goes (TakesUpTo events start place count) a b → Goes TakesSome b c → Goes TakesSome a c
-up_to_some events start place count a b c p q =
-    goes_both {P = TakesUpTo events start place count} {Q = TakesSome} {R = TakesSome} (λ x y z t u. (t.0 ++ u.0, takes_both t.0 u.0 x y z t.1 u.1)) a b c p q
+-- the lines of the first events begin those of all
+text_split : (events : List EventView) (place : ℕ) → text_of events ≡ text_of (take place events) ++ text_of (drop place events)
+text_split events place = ap text_of (sym (take-append-drop place events)) ∙ flat_map-append line_of (take place events) (drop place events)
 
-pub up_to_stop : (events : List EventView) (start place count : ℕ) (a b : Option Held) → Goes (TakesUpTo events start place count) a b → Goes TakesSome a b
-up_to_stop events start place count a b p = goes_as {P = TakesUpTo events start place count} {Q = TakesSome} (λ x y t. (t.0, t.1)) a b p
+-- four texts behind one another
+four_texts : (a b part left rest more whole before : List ℕ) → whole ≡ before ++ rest → before ≡ (a ++ b) ++ more → part ++ left ≡ more → whole ≡ a ++ ((b ++ part) ++ (left ++ rest))
+four_texts a b part left rest more whole before all here split =
+    all ∙ ap (λ (t : List ℕ). t ++ rest) (here ∙ ap (λ (t : List ℕ). (a ++ b) ++ t) (sym split))
+    ∙ append_assoc (a ++ b) (part ++ left) rest
+    ∙ append_assoc a b ((part ++ left) ++ rest)
+    ∙ ap (λ (t : List ℕ). a ++ t) (ap (λ (t : List ℕ). b ++ t) (append_assoc part left rest) ∙ sym (append_assoc b part (left ++ rest)))
+
+pub up_to_some : (events : List EventView) (start place next count : ℕ) (more : List ℕ) (a b c : Option Held)
+    → Goes (TakesUpTo events start place count) a b → text_of (take next events) ≡ text_of (take place events) ++ more → Goes (TakesPart more) b c → Goes (TakesBegun events start) a c
+up_to_some events start place next count more a b c p lines q =
+    goes_both {P = TakesUpTo events start place count} {Q = TakesPart more} {R = TakesBegun events start} (λ x y z t u. (
+      t.0 ++ u.0,
+      u.1.0 ++ text_of (drop next events),
+      takes_both t.0 u.0 x y z t.1 u.2,
+      four_texts (text_of (take start events)) t.0 u.0 u.1.0 (text_of (drop next events)) more (text_of events) (text_of (take next events))
+      (text_split events next) (lines ∙ ap (λ (l : List ℕ). l ++ more) t.2) u.1.1,
+    )) a b c p q
+
+pub up_to_stop : (events : List EventView) (start place count : ℕ) (a b : Option Held) → Goes (TakesUpTo events start place count) a b → Goes (TakesBegun events start) a b
+up_to_stop events start place count a b p =
+    goes_as {P = TakesUpTo events start place count} {Q = TakesBegun events start} (λ x y t. (
+      t.0,
+      text_of (drop place events),
+      t.1,
+      text_split events place ∙ ap (λ (l : List ℕ). l ++ text_of (drop place events)) t.2 ∙ append_assoc (text_of (take start events)) t.0 (text_of (drop place events)),
+    )) a b p
 
 pub up_to_all : (events : List EventView) (start place count : ℕ) (a b : Option Held) → length events ≤ place → Goes (TakesUpTo events start place count) a b → Goes (TakesLines events start count) a b
 up_to_all events start place count a b long p =
@@ -114,16 +144,38 @@ prefix_takes xs ys p = ap (take (length xs)) (sym p.1) ∙ take-append_seam xs p
 cut_text : (n : ℕ) (text rest : List ℕ) → n ≡ length text → take n (text ++ rest) ≡ text
 cut_text n text rest is = ap (λ (k : ℕ). take k (text ++ rest)) is ∙ take-append_seam text rest
 
+-- all lines, and nothing else
+all_begun : (w : List ℕ) (events : List EventView) → w ≡ text_of events → IsPrefix w (text_of events)
+all_begun w events is = ([], append-nil w ∙ is)
+
+pub holds_lines : (events : List EventView) (len : ℕ) (a : Option Held) → IfSome a (HoldsAll events len) → IfSome a (HoldsLines false events len events len)
+holds_lines events len None h = tt
+holds_lines events len (Some x) h = record {
+  rest = [];
+  after = events;
+  written = h.written ∙ sym (append-nil (text_of events));
+  whole = λ _. refl;
+  further = prefix_self events;
+  begun = all_begun x.written events h.written;
+  lasting = h.lasting;
+  len_is = h.len_is;
+  safe_len_is = h.len_is;
+}
+
 -- what may stand behind the lines is cut off
 cut_held : (torn : Bool) (events : List EventView) (len : ℕ) (safe : List EventView) (safe_len : ℕ) → IsPrefix safe events → (x y : Held)
     → CutsTo len x y → HoldsLines torn events len safe safe_len x → HoldsLines false events len safe safe_len y
 cut_held torn events len safe safe_len p x y c h =
     let more = text_prefix safe events p in
     let long : length (text_of safe) ≤ len = omega (arith, h.len_is, ap length more.1, length-append (text_of safe) more.0) in
+    let whole : y.written ≡ text_of events = c.written ∙ ap (take len) h.written ∙ cut_text len (text_of events) h.rest h.len_is in
     record {
       rest = [];
-      written = c.written ∙ ap (take len) h.written ∙ cut_text len (text_of events) h.rest h.len_is ∙ sym (append-nil (text_of events));
+      after = events;
+      written = whole ∙ sym (append-nil (text_of events));
       whole = λ _. refl;
+      further = prefix_self events;
+      begun = all_begun y.written events whole;
       lasting = c.lasting ∙ ap (take len) h.lasting ∙ take_all len (text_of safe) long;
       len_is = h.len_is;
       safe_len_is = h.safe_len_is;
@@ -148,8 +200,11 @@ sync_held events len safe safe_len x y s h =
     let whole : x.written ≡ text_of events = h.written ∙ ap (λ (t : List ℕ). text_of events ++ t) (h.whole refl) ∙ append-nil (text_of events) in
     record {
       rest = [];
+      after = events;
       written = s.written ∙ whole ∙ sym (append-nil (text_of events));
       whole = λ _. refl;
+      further = prefix_self events;
+      begun = all_begun y.written events (s.written ∙ whole);
       lasting = s.lasting ∙ whole;
       len_is = h.len_is;
       safe_len_is = h.len_is;
@@ -165,8 +220,11 @@ back_held : (torn : Bool) (events : List EventView) (len : ℕ) (safe : List Eve
 back_held torn events len safe safe_len p x y s h =
     let more = text_prefix safe events p in record {
       rest = more.0 ++ h.rest;
+      after = h.after;
       written = ap (λ (k : Held). k.written) s ∙ h.written ∙ ap (λ (t : List ℕ). t ++ h.rest) more.1 ∙ append_assoc (text_of safe) more.0 h.rest;
       whole = λ is. absurd (cc is);
+      further = prefix_trans safe events h.after p h.further;
+      begun = subst (λ (k : Held). IsPrefix k.written (text_of h.after)) (sym s) h.begun;
       lasting = ap (λ (k : Held). k.lasting) s ∙ h.lasting;
       len_is = h.safe_len_is;
       safe_len_is = h.safe_len_is;
@@ -176,22 +234,6 @@ pub back_lines : (torn : Bool) (events : List EventView) (len : ℕ) (safe : Lis
     → Goes Stays a b → IfSome a (HoldsLines torn events len safe safe_len) → IfSome b (HoldsLines true safe safe_len safe safe_len)
 back_lines torn events len safe safe_len a b p s h = goes_if (back_held torn events len safe safe_len p) a b s h
 
--- some bytes more
-torn_held : (torn : Bool) (events : List EventView) (len : ℕ) (safe : List EventView) (safe_len : ℕ) (x y : Held)
-    → TakesSome x y → HoldsLines torn events len safe safe_len x → HoldsLines true events len safe safe_len y
-torn_held torn events len safe safe_len x y t h = record {
-  rest = h.rest ++ t.0;
-  written = t.1.written ∙ ap (λ (l : List ℕ). l ++ t.0) h.written ∙ append_assoc (text_of events) h.rest t.0;
-  whole = λ is. absurd (cc is);
-  lasting = t.1.lasting ∙ h.lasting;
-  len_is = h.len_is;
-  safe_len_is = h.safe_len_is;
-}
-
-pub torn_lines : (torn : Bool) (events : List EventView) (len : ℕ) (safe : List EventView) (safe_len : ℕ) (a b : Option Held)
-    → Goes TakesSome a b → IfSome a (HoldsLines torn events len safe safe_len) → IfSome b (HoldsLines true events len safe safe_len)
-torn_lines torn events len safe safe_len a b t h = goes_if (torn_held torn events len safe safe_len) a b t h
-
 -- the lines of further events
 more_held : (old new : List EventView) (start len count sum : ℕ) (safe : List EventView) (safe_len : ℕ) → IsPrefix old new → start ≡ length old → sum ≡ len + count → (x y : Held)
     → TakesLines new start count x y → HoldsLines false old len safe safe_len x → HoldsLines false new sum safe safe_len y
@@ -199,14 +241,42 @@ more_held old new start len count sum safe safe_len p from is x y t h =
     let whole : x.written ≡ text_of old = h.written ∙ ap (λ (l : List ℕ). text_of old ++ l) (h.whole refl) ∙ append-nil (text_of old) in
     let begun : take start new ≡ old = ap (λ (n : ℕ). take n new) from ∙ prefix_takes old new p in
     let text : text_of new ≡ text_of old ++ t.0 = t.2 ∙ ap (λ (es : List EventView). text_of es ++ t.0) begun in
+    let now : y.written ≡ text_of new = t.1.written ∙ ap (λ (l : List ℕ). l ++ t.0) whole ∙ sym text in
     record {
       rest = [];
-      written = t.1.written ∙ ap (λ (l : List ℕ). l ++ t.0) whole ∙ sym text ∙ sym (append-nil (text_of new));
+      after = new;
+      written = now ∙ sym (append-nil (text_of new));
       whole = λ _. refl;
+      further = prefix_self new;
+      begun = all_begun y.written new now;
       lasting = t.1.lasting ∙ h.lasting;
       len_is = omega (arith, is, h.len_is, t.3, ap length text, length-append (text_of old) t.0);
       safe_len_is = h.safe_len_is;
     }
+
+-- a beginning of the lines of further events
+begun_held : (old new : List EventView) (start len : ℕ) (safe : List EventView) (safe_len : ℕ) → IsPrefix old new → start ≡ length old → (x y : Held)
+    → TakesBegun new start x y → HoldsLines false old len safe safe_len x → HoldsLines true old len safe safe_len y
+begun_held old new start len safe safe_len p from x y t h =
+    let whole : x.written ≡ text_of old = h.written ∙ ap (λ (l : List ℕ). text_of old ++ l) (h.whole refl) ∙ append-nil (text_of old) in
+    let first : take start new ≡ old = ap (λ (n : ℕ). take n new) from ∙ prefix_takes old new p in
+    let now : y.written ≡ text_of old ++ t.0 = t.2.written ∙ ap (λ (l : List ℕ). l ++ t.0) whole in
+    record {
+      rest = t.0;
+      after = new;
+      written = now;
+      whole = λ is. absurd (cc is);
+      further = p;
+      begun = (t.1, ap (λ (l : List ℕ). l ++ t.1) now ∙ append_assoc (text_of old) t.0 t.1 ∙ ap (λ (es : List EventView). text_of es ++ (t.0 ++ t.1)) (sym first) ∙ sym t.3);
+      lasting = t.2.lasting ∙ h.lasting;
+      len_is = h.len_is;
+      safe_len_is = h.safe_len_is;
+    }
+
+pub begun_lines : (old new : List EventView) (start len : ℕ) (safe : List EventView) (safe_len : ℕ) (a b : Option Held) → IsPrefix old new → start ≡ length old
+    → (torn : Bool) → torn ≡ false → Goes (TakesBegun new start) a b → IfSome a (HoldsLines torn old len safe safe_len) → IfSome b (HoldsLines true old len safe safe_len)
+begun_lines old new start len safe safe_len a b p from torn whole t h =
+    goes_if (begun_held old new start len safe safe_len p from) a b t (subst (λ (w : Bool). IfSome a (HoldsLines w old len safe safe_len)) whole h)
 
 pub more_lines : (old new : List EventView) (start len count sum : ℕ) (safe : List EventView) (safe_len : ℕ) (a b : Option Held) → IsPrefix old new → start ≡ length old → sum ≡ len + count
     → Goes (TakesLines new start count) a b → IfSome a (HoldsLines false old len safe safe_len) → IfSome b (HoldsLines false new sum safe safe_len)
@@ -226,7 +296,7 @@ pub has_torn : (torn : Bool) (events : List EventView) (len : ℕ) (safe : List 
 has_torn torn events len safe safe_len None None k h = tt
 has_torn torn events len safe safe_len None (Some y) k h = absurd k
 has_torn torn events len safe safe_len (Some x) None k h = absurd k
-has_torn torn events len safe safe_len (Some x) (Some y) k h = (h.rest, h.written)
+has_torn torn events len safe safe_len (Some x) (Some y) k h = (h.rest, h.after, h.written, h.further, h.begun)
 
 pub lasts : (torn : Bool) (events : List EventView) (len : ℕ) (safe : List EventView) (safe_len : ℕ) (a b : Option Held) → safe ≡ events
     → Goes Anyhow a b → IfSome b (HoldsLines torn events len safe safe_len) → Goes (Lasts events) a b
@@ -260,8 +330,10 @@ more_again old new again start len count sum safe safe_len a b same begins p fro
       subst (λ (es : List EventView). IfSome b (HoldsLines false es sum safe safe_len)) (sym same) (more_lines old new start len count sum safe safe_len a b p from is t held),
     )
 
-pub lines_some : (new : List EventView) (start count : ℕ) (a b : Option Held) → Goes (TakesLines new start count) a b → Goes TakesSome a b
-lines_some new start count a b t = goes_as {P = TakesLines new start count} {Q = TakesSome} (λ x y u. (u.0, u.1)) a b t
+-- all of the lines are a beginning of them
+pub lines_begun : (new : List EventView) (start count : ℕ) (a b : Option Held) → Goes (TakesLines new start count) a b → Goes (TakesBegun new start) a b
+lines_begun new start count a b t =
+    goes_as {P = TakesLines new start count} {Q = TakesBegun new start} (λ x y u. (u.0, [], u.1, u.2 ∙ ap (λ (l : List ℕ). text_of (take start new) ++ l) (sym (append-nil u.0)))) a b t
 
 pub sync_again : (torn : Bool) (events again : List EventView) (len : ℕ) (safe : List EventView) (safe_len : ℕ) (a b : Option Held) → again ≡ events → torn ≡ false
     → Goes Syncs a b → IfSome a (HoldsLines torn events len safe safe_len) → IsPrefix again events × IfSome b (HoldsLines torn events len again len)

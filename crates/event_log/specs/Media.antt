@@ -1,5 +1,6 @@
 -- What a medium holds, and what a call does to it.
 use Rattle.std.specs.Prelude.{◌≡◌, ℕ, List, ◌++◌, take, ⊤, Option, None, Some}
+use mathlib.Core.List.{IsPrefix}
 
 -- the bytes that were written, and those of them that last whatever befalls the medium, as a loss of power
 pub record Held : Type 0 where
@@ -25,9 +26,9 @@ pub record Takes (bytes : List ℕ) (old new : Held) : Type 0 where
   pub written : new.written ≡ old.written ++ bytes
   pub lasting : new.lasting ≡ old.lasting
 
--- it took some bytes
-abbrev pub TakesSome : Held → Held → Type 0
-TakesSome old new = (bytes : List ℕ) × Takes bytes old new
+-- it took a beginning of the bytes
+abbrev pub TakesPart : List ℕ → Held → Held → Type 0
+TakesPart bytes old new = (part : List ℕ) × IsPrefix part bytes × Takes part old new
 
 -- all that was written lasts
 pub record Syncs (old new : Held) : Type 0 where

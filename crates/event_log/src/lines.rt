@@ -2,8 +2,8 @@
 ghost use Rattle.std.specs.Prelude.{◌≡◌, ◌<◌, ◌≤◌, ◌++◌, [], length, take, IfOk, OnOk, OnErr, MatchResult};
 ghost use Rattle.std.specs.Arc.{arc_value};
 ghost use Rattle.event_log.specs.Text.{line_of, text_of};
-ghost use Rattle.event_log.specs.Media.{Goes, Takes, TakesSome};
-ghost use Rattle.event_log.specs.Logs.{TakesLines};
+ghost use Rattle.event_log.specs.Media.{Goes, Takes, TakesPart};
+ghost use Rattle.event_log.specs.Logs.{TakesLines, TakesBegun};
 
 use crate::medium::Medium;
 use event_store::EventList;
@@ -41,9 +41,9 @@ pub fn put_many(text: &mut Vec<u8>, events: &EventList, start: usize) -> Result<
     Ok(events.len())
 }
 
-/// Writes all bytes. After a fault some of them were written.
+/// Writes all bytes. After a fault a beginning of them was written.
 fn write_all<M: Medium>(medium: &mut M, bytes: &[u8]) -> io::Result<()>
-    ensures { MatchResult result (λ _. Goes (Takes bytes.now) (M.held medium.old) (M.held medium.new)) (λ _. Goes TakesSome (M.held medium.old) (M.held medium.new)) }
+    ensures { MatchResult result (λ _. Goes (Takes bytes.now) (M.held medium.old) (M.held medium.new)) (λ _. Goes (TakesPart bytes.now) (M.held medium.old) (M.held medium.new)) }
 {
     let mut rest = bytes;
     while !rest.is_empty() {
@@ -56,7 +56,8 @@ fn write_all<M: Medium>(medium: &mut M, bytes: &[u8]) -> io::Result<()>
     Ok(())
 }
 
-/// Writes the lines of the events from a place on, and tells how many bytes these are. They are put together in `text`.
+/// Writes the lines of the events from a place on, and tells how many bytes these are. They are put together in `text`. After a fault a
+/// beginning of them was written.
 pub fn write_from<M: Medium>(
     medium: &mut M,
     text: &mut Vec<u8>,
@@ -64,7 +65,7 @@ pub fn write_from<M: Medium>(
     start: usize,
 ) -> io::Result<u64>
     requires { start ≤ length events.now }
-    ensures { MatchResult result (λ n. Goes (TakesLines events.now start n) (M.held medium.old) (M.held medium.new)) (λ _. Goes TakesSome (M.held medium.old) (M.held medium.new)) }
+    ensures { MatchResult result (λ n. Goes (TakesLines events.now start n) (M.held medium.old) (M.held medium.new)) (λ _. Goes (TakesBegun events.now start) (M.held medium.old) (M.held medium.new)) }
 {
     let mut place = start;
     let mut count: u64 = 0;
