@@ -1,9 +1,6 @@
 -- Texts of which the first filters are kept.
-use Rattle.std.proofs.Common.{◌≡◌, ℕ, ◌+◌, ◌≤◌, ◌<◌, Bool, true, false, List, length, take, Option, None, Some, inl, refl, sym, ap, ◌∙◌, subst, arith}
-use Rattle.std.specs.Prelude.{nat_lt, nat_le, MatchBool, map, codes, if◌then◌else◌}
-use Rattle.std.specs.Arc.{arc_value}
-use Rattle.std.specs.declared.alloc.Global.{Global}
-use Rattle.std.specs.declared.sync.Arc.{Arc}
+use Rattle.std.proofs.Common.{◌≡◌, ℕ, ◌+◌, ◌≤◌, Bool, true, false, List, length, take, Some, inl, refl, sym, ◌∙◌, subst, arith}
+use Rattle.std.specs.Prelude.{nat_lt, MatchBool, codes}
 use Rattle.std.proofs.lemmas.Bool.Decides.{nat_tests}
 use Rattle.std.proofs.lemmas.Grind.{common_steps}
 use Rattle.std.proofs.lemmas.List.{take_all}
@@ -12,11 +9,11 @@ use Rattle.nostr_filter.specs.declared.filter.Filter.{Filter}
 use Rattle.nostr_filter.specs.Choice.{chosen}
 use Rattle.nostr_wire.specs.declared.messages.FromClient.{FromClient}
 use Rattle.nostr_wire.specs.declared.messages.FromClient.TheVariants as client
-use Rattle.nostr_wire.specs.Reading.{kept_filters, Hears}
+use Rattle.nostr_wire.specs.Reading.{Hears}
 use Rattle.relay_core.specs.declared.limits.RelayLimits.{RelayLimits}
 use Rattle.relay_core.specs.Asking.{Asks, TextAsks}
-use Rattle.relay_core.specs.Kept.{Kept, without_sub}
-use Rattle.relay_core.specs.Messages.{closed, notice}
+use Rattle.relay_core.specs.Kept.{Kept}
+use Rattle.relay_core.specs.Messages.{notice}
 use Rattle.relay_core.specs.Requests.{requested, Requests}
 use Rattle.relay_core.specs.Serving.{Brings, IsServed, Serves}
 use Rattle.relay_core.specs.Turns.{Turn, says_one}

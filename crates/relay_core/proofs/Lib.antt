@@ -1,3 +1,4 @@
+pub mod Acknowledging
 pub mod Heard
 pub mod Placing
 pub mod Passing

@@ -1,5 +1,5 @@
 -- What is due from a place on.
-use Rattle.std.proofs.Common.{◌≡◌, ℕ, zero, suc, ◌+◌, ◌<◌, ◌≤◌, Bool, true, false, true≢false, ◌&&◌, cond, nat_lt, List, [], ◌∷◌, ◌++◌, length, get_or, take, drop, map, slice_get, refl, ap, ap₂, sym, ◌∙◌, arith, append_assoc, Option, Some, None}
+use Rattle.std.proofs.Common.{◌≡◌, ℕ, suc, ◌+◌, ◌<◌, ◌≤◌, Bool, true, false, true≢false, ◌&&◌, cond, nat_lt, List, [], ◌∷◌, ◌++◌, length, get_or, take, drop, map, slice_get, refl, ap, ap₂, sym, ◌∙◌, arith, append_assoc, Option, Some, None}
 use mathlib.Core.List.{IsPrefix}
 use Rattle.std.specs.Prelude.{filter, filter_map, option_to_list, nat_le}
 use Rattle.std.specs.List.{AllByRecursion, cons_option, list_any}

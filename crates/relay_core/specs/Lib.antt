@@ -1,6 +1,7 @@
 pub mod Limits
 pub mod Most
 pub mod Messages
+pub mod Acknowledging
 pub mod Kept
 pub mod Turns
 pub mod Requests

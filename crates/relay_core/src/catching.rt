@@ -6,6 +6,7 @@ ghost use mathlib.Core.List.{IsPrefix};
 ghost use Rattle.nostr_filter.specs.Matching.{matches_of};
 ghost use Rattle.nostr_wire.specs.Forms.{relay_form};
 ghost use Rattle.nostr_filter.specs.TagOrders.{IsOrderOf};
+ghost use Rattle.relay_core.specs.Acknowledging.{AcknowledgeNone};
 ghost use Rattle.relay_core.specs.Due.{is_due as due_at, sent_at, due as all_due, CatchesUp};
 
 use crate::fault::Broken;
@@ -179,6 +180,7 @@ pub fn catch_up<J: Naming>(
     reader: &mut Reader<J>,
 ) -> Result<Caught, Broken>
     ensures caught { IfOk result (λ c. CatchesUp reader.new c.front (map relay_form c.out.items) talk.old talk.new) }
+    ensures none_acknowledged { IfOk result (λ c. AcknowledgeNone (map relay_form c.out.items)) }
     ensures all { IfOk result (λ c. c.is_all ≡ nat_eq c.front (length reader.new)) }
     ensures gone { IfErr result (λ b. b ≡ Broken.Gone → reader.new ≡ reader.old) }
     ensures reader { IsPrefix reader.old reader.new }

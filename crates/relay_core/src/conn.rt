@@ -1,7 +1,8 @@
 //! One connection.
-ghost use Rattle.std.specs.Prelude.{◌≡◌, ◌≤◌, ◌⊎◌, Some, None, [], length, map, nat_eq, IfOk, IfErr};
+ghost use Rattle.std.specs.Prelude.{◌≡◌, ◌≤◌, ◌⊎◌, Some, None, [], false, length, map, nat_eq, IfOk, IfErr};
 ghost use mathlib.Core.List.{IsPrefix};
 ghost use Rattle.nostr_wire.specs.Forms.{relay_form};
+ghost use Rattle.relay_core.specs.Acknowledging.{acknowledges, AcknowledgeNone};
 ghost use Rattle.relay_core.specs.Kept.{kept_of};
 ghost use Rattle.relay_core.specs.Turns.{turn_of};
 ghost use Rattle.relay_core.specs.Serving.{Serves};
@@ -60,6 +61,7 @@ impl Conn {
         text: &str,
     ) -> Result<Step, ConnFault>
         ensures served { IfOk result (λ s. GoesOnBy (λ old new. Serves self.old.limits reader.new text.now old (turn_of s new)) self.old.kept self.new.kept) }
+        ensures none_acknowledged { IfOk result (λ s. AcknowledgeNone (map relay_form s.out.items)) }
         ensures refused { IfErr result (λ f. RefusesRightly (λ t. TextAsks self.old.limits text.now t × (reader.new ≡ reader.old)) self.old.kept f self.new.kept) }
         ensures limits { self.new.limits ≡ self.old.limits }
         ensures reader { IsPrefix reader.old reader.new }
@@ -110,6 +112,7 @@ impl Conn {
         fault: &StoringFault<J>,
     ) -> Result<FromRelay, ConnFault>
         ensures answer { IfOk result (λ m. relay_form m ≡ fault_answer id fault.now) }
+        ensures not_acknowledged { IfOk result (λ m. acknowledges (relay_form m) ≡ false) }
         ensures kept { IfOk result (λ _. GoesOnBy (λ old new. new ≡ old) self.old.kept self.new.kept) }
         ensures refused { IfErr result (λ f. RefusesRightly (λ _. ⊥) self.old.kept f self.new.kept) }
         ensures limits { self.new.limits ≡ self.old.limits }
@@ -133,6 +136,7 @@ impl Conn {
     /// of publishing, and for each event in the byte order of the subscriptions' names. Where that is much it comes in several calls.
     pub fn catch_up<J: Naming>(&mut self, reader: &mut Reader<J>) -> Result<Caught, ConnFault>
         ensures caught { IfOk result (λ c. GoesOnBy (CatchesUp reader.new c.front (map relay_form c.out.items)) self.old.kept self.new.kept) }
+        ensures none_acknowledged { IfOk result (λ c. AcknowledgeNone (map relay_form c.out.items)) }
         ensures all { IfOk result (λ c. c.is_all ≡ nat_eq c.front (length reader.new)) }
         ensures refused { IfErr result (λ f. RefusesRightly (λ _. reader.new ≡ reader.old) self.old.kept f self.new.kept) }
         ensures limits { self.new.limits ≡ self.old.limits }

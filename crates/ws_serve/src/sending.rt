@@ -1,11 +1,14 @@
 //! What a client is sent.
-ghost use Rattle.std.specs.Prelude.{IfErr};
+ghost use Rattle.std.specs.Prelude.{◌≡◌, ◌≤◌, false, length, map, IfErr};
 ghost use mathlib.Core.List.{IsPrefix};
+ghost use Rattle.nostr_wire.specs.Forms.{relay_form};
+ghost use Rattle.relay_core.specs.Acknowledging.{acknowledges, AcknowledgeNone};
 ghost use Rattle.ws_socket.specs.Faults.{IsOfStream};
 
 use crate::fault::on_link;
 use crate::gathered::Gathered;
-use event_store::{Naming, Reader};
+use event_log::Kept;
+use event_store::{Naming, Placed, Reader};
 use nostr_wire::{FromRelay, write_relay_in};
 use relay_core::Conn;
 use std::alloc::Global;
@@ -48,12 +51,14 @@ fn send<S: Write>(stream: &mut Gathered<S>) -> Result<(), LinkFault>
     }
 }
 
-/// Puts the messages behind what waits to be sent. Each is dropped once it is written, and its memory is at hand for the next.
+/// Puts the messages, none of which is an OK with true, behind what waits to be sent. Each is dropped once it is written, and its memory
+/// is at hand for the next.
 pub fn say_all<S: Write>(
     alloc: Global,
     stream: &mut Gathered<S>,
     messages: Vec<FromRelay>,
 ) -> Result<(), LinkFault>
+    requires { AcknowledgeNone (map relay_form messages.items) }
     ensures { IfErr result IsOfStream }
 {
     let mut room = Vec::new(alloc);
@@ -63,8 +68,40 @@ pub fn say_all<S: Write>(
     Ok(())
 }
 
-/// Puts the message behind what waits to be sent. Its text is made where room is, which is given back.
+/// Puts the message, which is no OK with true, behind what waits to be sent. Its text is made where room is, which is given back.
 pub fn say<S: Write>(
+    alloc: Global,
+    stream: &mut Gathered<S>,
+    room: Vec<u8>,
+    message: &FromRelay,
+) -> Result<Vec<u8>, LinkFault>
+    requires { acknowledges (relay_form message.now) ≡ false }
+    ensures { IfErr result IsOfStream }
+{
+    put(alloc, stream, room, message)
+}
+
+/// Puts OK with true behind what waits to be sent, for an event that is in the store and kept there. The reader learns of it. Its text
+/// is made where room is, which is given back.
+pub fn acknowledge<S: Write, J: Naming, M>(
+    alloc: Global,
+    stream: &mut Gathered<S>,
+    room: Vec<u8>,
+    conn: &mut Conn,
+    reader: &mut Reader<J>,
+    placed: &Placed<J>,
+    kept: &Kept<J, M>,
+) -> Result<Vec<u8>, LinkFault>
+    requires kept { length placed.now.list ≤ length kept.now }
+    ensures fault { IfErr result IsOfStream }
+    ensures reader { IsPrefix reader.old reader.new }
+{
+    let message = on_link(conn.stored(reader, placed, kept))?;
+    put(alloc, stream, room, &message)
+}
+
+/// Puts the message behind what waits to be sent.
+fn put<S: Write>(
     alloc: Global,
     stream: &mut Gathered<S>,
     room: Vec<u8>,

@@ -6,7 +6,7 @@ ghost use Rattle.ws_socket.specs.Faults.{IsOfStream};
 use crate::fault::on_link;
 use crate::gathered::Gathered;
 use crate::sending::{catch_up, say, say_all};
-use crate::together::{MOST_TOGETHER, answer_all, answer_to, take_event};
+use crate::together::{MOST_TOGETHER, answer_all, answer_one, take_event};
 use crate::turns::serve_text;
 use event_log::{Keeper, Unfiled};
 use event_store::{Desk, Naming, Reader};
@@ -304,8 +304,17 @@ fn heed<W: Wait, S: Write, J: Naming, D: Wait + Drop, H: Keeper<J>>(
 {
     match heard {
         Heard::Text(text) => {
-            let out = answered(rt, conn, reader, desk, keeper, turn, text.as_str())?;
-            say_all(alloc, stream, out)?;
+            answer(
+                rt,
+                alloc,
+                stream,
+                conn,
+                reader,
+                desk,
+                keeper,
+                turn,
+                text.as_str(),
+            )?;
             Ok(Went::Text)
         }
         Heard::Binary => {
@@ -319,25 +328,25 @@ fn heed<W: Wait, S: Write, J: Naming, D: Wait + Drop, H: Keeper<J>>(
     }
 }
 
-/// What is sent for a text, whose event is put into the store if it is one.
-fn answered<W: Wait, J: Naming, D: Wait + Drop, H: Keeper<J>>(
+/// Puts the answers to a text behind what waits to be sent. Its event is put into the store, if it is one.
+fn answer<W: Wait, S: Write, J: Naming, D: Wait + Drop, H: Keeper<J>>(
     rt: &W,
+    alloc: Global,
+    stream: &mut Gathered<S>,
     conn: &mut Conn,
     reader: &mut Reader<J>,
     desk: &Mutex<Desk<J, D>>,
     keeper: &H,
     turn: &Mutex<()>,
     text: &str,
-) -> Result<Vec<FromRelay>, LinkFault>
+) -> Result<(), LinkFault>
     ensures fault { IfErr result IsOfStream }
     ensures reader { IsPrefix reader.old reader.new }
 {
-    let Step { mut out, store } = serve_text(rt, conn, reader, turn, text)?;
+    let Step { out, store } = serve_text(rt, conn, reader, turn, text)?;
+    say_all(alloc, stream, out)?;
     match store {
-        Some(event) => {
-            out.push(answer_to(rt, conn, reader, desk, keeper, event)?)?;
-            Ok(out)
-        }
-        None => Ok(out),
+        Some(event) => answer_one(rt, alloc, stream, conn, reader, desk, keeper, event),
+        None => Ok(()),
     }
 }

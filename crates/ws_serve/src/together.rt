@@ -6,13 +6,12 @@ ghost use Rattle.ws_socket.specs.Faults.{IsOfStream};
 
 use crate::fault::on_link;
 use crate::gathered::Gathered;
-use crate::sending::{catch_up, say, say_all};
+use crate::sending::{acknowledge, catch_up, say, say_all};
 use crate::turns::serve_text;
 use event_log::{Keeper, Kept};
 use event_store::{Desk, InsertFault, Naming, Placed, Reader};
 use neg_codec::Id;
 use nostr_event::Event;
-use nostr_wire::FromRelay;
 use relay_core::{Conn, Step, StoringFault};
 use std::alloc::Global;
 use std::io::Write;
@@ -101,8 +100,7 @@ fn answer_each<W: Wait, S: Write, J: Naming, D: Wait + Drop, H: Keeper<J>>(
     let kept = kept_of(rt, keeper, all.as_slice());
     let mut room = Vec::new(alloc);
     for one in all {
-        let message = told(conn, reader, one, kept.as_ref())?;
-        room = say(alloc, stream, room, &message)?;
+        room = tell(alloc, stream, room, conn, reader, one, kept.as_ref())?;
     }
     events.clear();
     Ok(())
@@ -185,51 +183,84 @@ fn kept_of<W: Wait, J: Naming, H: Keeper<J>>(
     keeper.kept(rt, last?)
 }
 
-/// Tells whether the event is in the store, and kept there.
-fn told<J: Naming, M>(
+/// Puts behind what waits to be sent whether the event is in the store, and kept there. The text is made where room is, which is given
+/// back.
+fn tell<S: Write, J: Naming, M>(
+    alloc: Global,
+    stream: &mut Gathered<S>,
+    room: Vec<u8>,
     conn: &mut Conn,
     reader: &mut Reader<J>,
     stored: Stored<J>,
     kept: Option<&Kept<J, M>>,
-) -> Result<FromRelay, LinkFault>
+) -> Result<Vec<u8>, LinkFault>
     ensures fault { IfErr result IsOfStream }
     ensures reader { IsPrefix reader.old reader.new }
 {
     let Stored { id, placed } = stored;
     match placed {
-        Ok(placed) => acknowledged(conn, reader, &placed, kept),
-        Err(fault) => on_link(conn.unstored(id, &StoringFault::Refused(fault))),
+        Ok(placed) => tell_kept(alloc, stream, room, conn, reader, &placed, kept),
+        Err(fault) => refuse(
+            alloc,
+            stream,
+            room,
+            conn,
+            id,
+            &StoringFault::Refused(fault),
+        ),
     }
 }
 
-/// Tells that an event that is in the store is kept there, or that it can't be.
-fn acknowledged<J: Naming, M>(
+/// The same for an event that is in the store.
+fn tell_kept<S: Write, J: Naming, M>(
+    alloc: Global,
+    stream: &mut Gathered<S>,
+    room: Vec<u8>,
     conn: &mut Conn,
     reader: &mut Reader<J>,
     placed: &Placed<J>,
     kept: Option<&Kept<J, M>>,
-) -> Result<FromRelay, LinkFault>
+) -> Result<Vec<u8>, LinkFault>
     ensures fault { IfErr result IsOfStream }
     ensures reader { IsPrefix reader.old reader.new }
 {
     match kept {
-        Some(kept) if placed.front() <= kept.len() => on_link(conn.stored(reader, placed, kept)),
+        Some(kept) if placed.front() <= kept.len() => {
+            acknowledge(alloc, stream, room, conn, reader, placed, kept)
+        }
         _ => {
             let fault: StoringFault<J> = StoringFault::Unkept;
-            on_link(conn.unstored(placed.id(), &fault))
+            refuse(alloc, stream, room, conn, placed.id(), &fault)
         }
     }
 }
 
-/// Puts the event into the store, sees to it that it is kept, and tells whether it is.
-pub fn answer_to<W: Wait, J: Naming, D: Wait + Drop, H: Keeper<J>>(
+/// Puts behind what waits to be sent why the event isn't in the store, or isn't kept there.
+fn refuse<S: Write, J: Naming>(
+    alloc: Global,
+    stream: &mut Gathered<S>,
+    room: Vec<u8>,
+    conn: &mut Conn,
+    id: Id,
+    fault: &StoringFault<J>,
+) -> Result<Vec<u8>, LinkFault>
+    ensures { IfErr result IsOfStream }
+{
+    let message = on_link(conn.unstored(id, fault))?;
+    say(alloc, stream, room, &message)
+}
+
+/// Puts the event into the store, sees to it that it is kept, and puts whether it is behind what waits to be sent.
+pub fn answer_one<W: Wait, S: Write, J: Naming, D: Wait + Drop, H: Keeper<J>>(
     rt: &W,
+    alloc: Global,
+    stream: &mut Gathered<S>,
     conn: &mut Conn,
     reader: &mut Reader<J>,
     desk: &Mutex<Desk<J, D>>,
     keeper: &H,
     event: Arc<Event>,
-) -> Result<FromRelay, LinkFault>
+) -> Result<(), LinkFault>
     ensures fault { IfErr result IsOfStream }
     ensures reader { IsPrefix reader.old reader.new }
 {
@@ -238,5 +269,14 @@ pub fn answer_to<W: Wait, J: Naming, D: Wait + Drop, H: Keeper<J>>(
         Ok(placed) => keeper.kept(rt, placed),
         Err(_) => None,
     };
-    told(conn, reader, one, kept.as_ref())
+    tell(
+        alloc,
+        stream,
+        Vec::new(alloc),
+        conn,
+        reader,
+        one,
+        kept.as_ref(),
+    )?;
+    Ok(())
 }

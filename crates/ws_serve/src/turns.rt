@@ -1,6 +1,8 @@
 //! Long texts, which are read one at a time.
-ghost use Rattle.std.specs.Prelude.{IfErr};
+ghost use Rattle.std.specs.Prelude.{map, IfOk, IfErr};
 ghost use mathlib.Core.List.{IsPrefix};
+ghost use Rattle.nostr_wire.specs.Forms.{relay_form};
+ghost use Rattle.relay_core.specs.Acknowledging.{AcknowledgeNone};
 ghost use Rattle.ws_socket.specs.Faults.{IsOfStream};
 
 use crate::fault::on_link;
@@ -20,6 +22,7 @@ pub fn serve_text<W: Wait, J: Naming>(
     turn: &Mutex<()>,
     text: &str,
 ) -> Result<Step, LinkFault>
+    ensures none_acknowledged { IfOk result (λ s. AcknowledgeNone (map relay_form s.out.items)) }
     ensures fault { IfErr result IsOfStream }
     ensures reader { IsPrefix reader.old reader.new }
 {

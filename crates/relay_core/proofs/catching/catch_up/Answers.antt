@@ -1,6 +1,8 @@
-use Rattle.std.proofs.Common.{◌≤◌, ap, ◌∙◌, length, take, map, subst}
+use Rattle.std.proofs.Common.{◌≤◌, ap, sym, ◌∙◌, length, take, map, subst}
 use Rattle.nostr_wire.specs.Forms.{relay_form}
+use Rattle.relay_core.specs.Acknowledging.{AcknowledgeNone}
 use Rattle.relay_core.specs.Due.{due}
+use Rattle.relay_core.proofs.Acknowledging.{due_none}
 use Rattle.relay_core.proofs.Passing.{catches_up}
 use Rattle.relay_core.proofs.catching.catch_up.Goals as goal
 
@@ -13,3 +15,7 @@ returns-clause-caught g c =
     (subst (λ es. n ≤ length es) whole c.in_ok-caught.ensures.within)
     (c.in_ok-caught.ensures.given ∙ ap (λ ss. due ss (take n c.events.result.now)) c.subs.ensures ∙ ap (λ es. due t.subs (take n es)) whole)
     c.mark_all.ensures
+
+pub returns-clause-none_acknowledged : goal.returns-clause-none_acknowledged
+returns-clause-none_acknowledged g c =
+    subst AcknowledgeNone (sym c.in_ok-caught.ensures.given) (due_none 0 c.subs.result.now (take c.in_ok-caught.caught.front c.events.result.now))
