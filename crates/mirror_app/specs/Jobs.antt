@@ -8,15 +8,15 @@ use Rattle.serve_run.specs.declared.refusal.Refusal.{Refusal as ServiceRefusal}
 use Rattle.serve_run.specs.RefusalText.{refusal_text as service_text}
 use Rattle.plan_run.specs.Jobs.{IsPlanWritten, IsPlanRefusal, IsLeastWritten, IsCheckRefusal}
 use Rattle.clap.specs.Words.{Text, fault_of, subcommand_of}
-use Rattle.mirror_app.specs.declared.words.Words.{Words}
-use Rattle.mirror_app.specs.declared.words.Words.TheVariants.{Recon, Plan, Check, Serve, Sync}
-use Rattle.mirror_app.specs.declared.usage.WordsFault.{WordsFault}
-use Rattle.mirror_app.specs.declared.usage.WordsFault.TheVariants as fault
+use Rattle.mirror_words.specs.declared.words.Words.{Words}
+use Rattle.mirror_words.specs.declared.words.Words.TheVariants.{Recon, Plan, Check, Serve, Sync}
+use Rattle.mirror_words.specs.declared.usage.WordsFault.{WordsFault}
+use Rattle.mirror_words.specs.declared.usage.WordsFault.TheVariants as fault
 use Rattle.mirror_app.specs.declared.jobs.End.{End}
 use Rattle.mirror_app.specs.declared.jobs.End.TheVariants.{Done, Refused, Usage, Stopped, Short}
 use Rattle.mirror_app.specs.declared.jobs.Went.{Went}
 use Rattle.mirror_app.specs.declared.jobs.Went.TheVariants.{Ended, Left}
-use Rattle.mirror_app.specs.CommandLine.{nostr_mirror, IsAccepted, IsNamed, IsWithin, Tells}
+use Rattle.mirror_words.specs.CommandLine.{nostr_mirror, IsAccepted, IsNamed, IsWithin, Tells}
 
 -- the words name the job
 pub record Names (words : List Text) (job : Words) : Type 0 where

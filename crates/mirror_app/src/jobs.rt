@@ -4,9 +4,8 @@ ghost use Rattle.std.specs.Prelude.{◌≡◌, map, string_bytes};
 ghost use Rattle.std.specs.Io.KnownBytes.{Keeps};
 ghost use Rattle.mirror_app.specs.Jobs.{RunsAs, MayHaveWritten, ending, status_of};
 
-use crate::usage::WordsFault;
-use crate::words::{Words, read_words};
 use mirror_run::{Refusal, run_recon};
+use mirror_words::{Words, WordsFault, read_words};
 use plan_run::{run_check, run_plan};
 use serve_run::Refusal as ServiceRefusal;
 use std::alloc::Global;

@@ -3,19 +3,15 @@
 
 mod jobs;
 mod settled;
-mod usage;
-mod version;
-mod words;
 
 use jobs::{End, Went, run};
+use mirror_words::{Words, words_of};
 use settled::{ended, serve, sync};
 use std::fs::File;
 use std::io;
 use std::process::ExitCode;
 use std::rt::Files;
 use sync_run::Progress;
-use usage::words_of;
-use words::Words;
 
 /// Takes the numbers of standard streams that are closed: else files that are opened later would get them, and what is meant for
 /// a stream. What is written there fails, as it does where the stream is closed.

@@ -2,7 +2,7 @@
 use Rattle.std.proofs.Common.{◌≡◌, ◌≤◌, ℕ, List, Option, None, Some, Ok, Err, Result, refl, ap, subst, arith}
 use Rattle.std.specs.Str.Parse.{ParsesUnsigned, digits_value, without_leading_plus}
 use Rattle.clap.specs.Words.{ReadsOne, Text}
-use Rattle.mirror_app.specs.CommandLine.{IsLimitOf}
+use Rattle.mirror_words.specs.CommandLine.{IsLimitOf}
 
 some_is_none : (n : ℕ) → Some n ≡ None → ⊥
 some_is_none n e = let bad : Unit {0} ≡ ⊥ = ap is_some_type e in subst (λ (t : Type 0). t) bad tt

@@ -1,8 +1,8 @@
 use Rattle.std.proofs.Common.{◌≡◌}
 use Rattle.clap.specs.Words.{App, app_of, with_subcommand}
-use Rattle.mirror_app.specs.CommandLine.{program, recon, plan, check, serve, sync}
-use Rattle.mirror_app.proofs.Commands.{added, last_added}
-use Rattle.mirror_app.proofs.words.command.Goals as goal
+use Rattle.mirror_words.specs.CommandLine.{program, recon, plan, check, serve, sync}
+use Rattle.mirror_words.proofs.Commands.{added, last_added}
+use Rattle.mirror_words.proofs.words.command.Goals as goal
 
 pub returns : goal.returns
 returns c =

@@ -2,7 +2,7 @@
 
 ghost use Rattle.std.specs.Prelude.{◌≢◌};
 ghost use Rattle.clap.specs.Words.{kind_of};
-ghost use Rattle.mirror_app.specs.CommandLine.{IsUsage};
+ghost use Rattle.mirror_words.specs.CommandLine.{IsUsage};
 
 use crate::words::{command, recon};
 use clap::Error;
@@ -22,7 +22,7 @@ pub enum WordsFault {
 
 impl From<AllocError> for WordsFault {
     ghost use Rattle.std.specs.Prelude.{◌≡◌};
-    ghost use Rattle.mirror_app.specs.declared.usage.WordsFault.TheVariants.{Memory};
+    ghost use Rattle.mirror_words.specs.declared.usage.WordsFault.TheVariants.{Memory};
 
     ghost from_gives = { λ _ e. e ≡ Memory };
 

@@ -3,9 +3,9 @@ use Rattle.std.specs.Str.Parse.{ParsesUnsigned, ExplainsUnsignedError, HasUnsign
 use Rattle.clap.specs.Words.{Text, found_of}
 use Rattle.clap.proofs.WalkLemmas.{one_text-rows}
 use Rattle.std.proofs.Common.{Option}
-use Rattle.mirror_app.specs.CommandLine.{IsLimitOf}
-use Rattle.mirror_app.proofs.Limits.{limit_in, limit_out, limit_none}
-use Rattle.mirror_app.proofs.words.limit_named.Goals as goal
+use Rattle.mirror_words.specs.CommandLine.{IsLimitOf}
+use Rattle.mirror_words.proofs.Limits.{limit_in, limit_out, limit_none}
+use Rattle.mirror_words.proofs.words.limit_named.Goals as goal
 
 pub returns-in-Some-clause-named : goal.returns-in-Some-clause-named
 returns-in-Some-clause-named c =

@@ -10,9 +10,9 @@ use Rattle.clap.specs.declared.parser.matches.ArgMatches.{ArgMatches}
 use Rattle.clap.specs.declared.parser.matches.ArgMatches.TheViews.{out-ArgMatches, out-SubCommand}
 use Rattle.clap.specs.declared.parser.matches.SubCommand.{SubCommand}
 use Rattle.clap.proofs.OnLiterals.{clap_on_literals}
-use Rattle.mirror_app.specs.CommandLine.{nostr_mirror, IsJob}
-use Rattle.mirror_app.proofs.Subcommands.{named_job}
-use Rattle.mirror_app.proofs.words.read_words.Goals as goal
+use Rattle.mirror_words.specs.CommandLine.{nostr_mirror, IsJob}
+use Rattle.mirror_words.proofs.Subcommands.{named_job}
+use Rattle.mirror_words.proofs.words.read_words.Goals as goal
 
 is_plain : is_simple_and_free nostr_mirror ≡ true
 unfolding clap_on_literals

@@ -13,8 +13,8 @@ use Rattle.clap.specs.Kinds.{Kinds, or_else}
 use Rattle.clap.specs.Faults.{check_fault, entered_fault, fault_of, level_fault, other_fault, settle_fault, turn_fault, walk_fault}
 use Rattle.clap.specs.declared.error.kind.ErrorKind.{ErrorKind}
 use Rattle.clap.specs.declared.error.kind.ErrorKind.TheVariants.{MissingSubcommand}
-use Rattle.mirror_app.specs.declared.words.Words.TheVariants.{Recon, Plan, Check, Serve, Sync}
-use Rattle.mirror_app.specs.CommandLine.{nostr_mirror, IsJob}
+use Rattle.mirror_words.specs.declared.words.Words.TheVariants.{Recon, Plan, Check, Serve, Sync}
+use Rattle.mirror_words.specs.CommandLine.{nostr_mirror, IsJob}
 
 -- the subcommand that a step names
 stop_by : Step → Option (Text × List Text)

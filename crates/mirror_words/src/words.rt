@@ -4,7 +4,7 @@ ghost use Rattle.std.specs.Prelude.{◌≡◌, ◌≤◌, false, map, codes, Som
 ghost use Rattle.clap.specs.Words.{app_of, rule_of, shape_of, subcommand_name_of, subcommand_of, subcommand_rows_of, found_of, first_of, one_of, rows_of};
 ghost use Rattle.clap.specs.declared.builder.command.Command.TheViews.{out-Command as fields_of};
 ghost use Rattle.clap.specs.Simple.{new_shape};
-ghost use Rattle.mirror_app.specs.CommandLine.{nostr_mirror, program as the_program, recon as the_recon, serve as the_serve, sync as the_sync, limit_rule, settings_rule, progress_rule, strict_rule, IsPathOf, Tells, name_of, IsJob, IsWithin, IsLimitOf, limit_text, IsNamed, IsAccepted, IsDue};
+ghost use Rattle.mirror_words.specs.CommandLine.{nostr_mirror, program as the_program, recon as the_recon, serve as the_serve, sync as the_sync, limit_rule, settings_rule, progress_rule, strict_rule, IsPathOf, Tells, name_of, IsJob, IsWithin, IsLimitOf, limit_text, IsNamed, IsAccepted, IsDue};
 
 use crate::usage::{WordsFault, fault_of};
 use crate::version::version;

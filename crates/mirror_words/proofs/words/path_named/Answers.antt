@@ -1,8 +1,8 @@
 use Rattle.std.proofs.Common.{◌≡◌, ◌∙◌, Option, codes, subst}
 use Rattle.clap.specs.Words.{Text, found_of}
 use Rattle.clap.proofs.WalkLemmas.{first_value-rows}
-use Rattle.mirror_app.specs.CommandLine.{IsPathOf}
-use Rattle.mirror_app.proofs.words.path_named.Goals as goal
+use Rattle.mirror_words.specs.CommandLine.{IsPathOf}
+use Rattle.mirror_words.proofs.words.path_named.Goals as goal
 
 pub returns-in_ok-from_str-in-Some : goal.returns-in_ok-from_str-in-Some
 returns-in_ok-from_str-in-Some c =

@@ -2,8 +2,8 @@ use Rattle.std.proofs.Common.{◌≡◌, ◌∙◌, List, Option, None, Some, co
 use Rattle.std.specs.Prelude.{option_map}
 use Rattle.clap.specs.Words.{Row, Text, first_of, found_of, one_of, rows_of, subcommand_rows_of}
 use Rattle.clap.proofs.WalkLemmas.{one_text-rows}
-use Rattle.mirror_app.specs.CommandLine.{IsPathOf, path_text, progress_text, strict_text}
-use Rattle.mirror_app.proofs.words.sync_of.Goals as goal
+use Rattle.mirror_words.specs.CommandLine.{IsPathOf, path_text, progress_text, strict_text}
+use Rattle.mirror_words.proofs.words.sync_of.Goals as goal
 
 path_in : (found : Option (Text × List Row)) (rows : List Row) → option_map (λ p. p.1) found ≡ Some rows → first_of (codes "SETTINGS") rows ≡ path_text found
 path_in None rows e = cc

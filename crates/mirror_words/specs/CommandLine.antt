@@ -4,10 +4,10 @@ use Rattle.std.specs.Str.Parse.{digits_value, without_leading_plus}
 use Rattle.clap.specs.Words.{App, IsUnsignedIn, Row, Rule, Text, new_app, new_rule, first_of, one_of, with_rule, with_subcommand, subcommand_of, fault_of}
 use Rattle.clap.specs.declared.builder.action.ArgAction.TheVariants.{SetTrue}
 use Rattle.clap.specs.declared.builder.value_parser.ValueParser.TheVariants as parser
-use Rattle.mirror_app.specs.declared.words.Words.{Words}
-use Rattle.mirror_app.specs.declared.words.Words.TheVariants.{Recon, Plan, Check, Serve, Sync}
-use Rattle.mirror_app.specs.declared.usage.WordsFault.{WordsFault}
-use Rattle.mirror_app.specs.declared.usage.WordsFault.TheVariants.{Usage, Memory}
+use Rattle.mirror_words.specs.declared.words.Words.{Words}
+use Rattle.mirror_words.specs.declared.words.Words.TheVariants.{Recon, Plan, Check, Serve, Sync}
+use Rattle.mirror_words.specs.declared.usage.WordsFault.{WordsFault}
+use Rattle.mirror_words.specs.declared.usage.WordsFault.TheVariants.{Usage, Memory}
 
 -- `--limit N`, a number from 4,096 to 1,048,576
 abbrev pub limit_rule : Rule
