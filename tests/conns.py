@@ -9,8 +9,10 @@ answers".
 """
 import concurrent.futures
 import hashlib
+import http.client
 import json
 import os
+import socket
 import struct
 import subprocess
 import tempfile
@@ -180,6 +182,95 @@ def a_crowd_meets(path):
             same(relay.communicate(timeout=60), ("served %d\nevents %d\n" % (CROWD, CROWD), ""))
             same(sorted(it["content"] for it in read(os.path.join(folder, "relay.jsonl"))),
                  sorted(EVENTS[str(number)]["content"] for number in range(1, CROWD + 1)))
+        finally:
+            relay.kill()
+            relay.communicate()
+
+
+# After how many milliseconds silent clients are sent a ping.
+PING_MS = 300
+
+
+def the_silent_go(path):
+    """A client that brings nothing and answers no ping loses its place, and so does one that comes no further in its handshake. One that
+    answers keeps its own."""
+    with tempfile.TemporaryDirectory() as folder, concurrent.futures.ThreadPoolExecutor(2) as pool:
+        relay, port = start(path, "serve", settings(folder, "relay", listen="127.0.0.1:0", conns=4, clients=2, ping_ms=PING_MS))
+        try:
+            listening, silent = Talker(port), Talker(port)
+            same(listening.answers(req("a")), [eose("a")])
+            # It answers pings until that comes.
+            told = pool.submit(listening.read)
+            same(silent.take(2), b"\x89\0")
+            same(silent.socket.recv(4096), b"")
+            half = socket.create_connection(("127.0.0.1", port), 30)
+            pool.submit(drip, half)
+            honest = Talker(port)
+            same(honest.answers(gives(1)), ["1 true "])
+            same(shown(told.result(30)), "a 1")
+            honest.close()
+            listening.close()
+            same(relay.communicate(timeout=60), ("served 4\nevents 1\n", ""))
+        finally:
+            relay.kill()
+            relay.communicate()
+
+
+def drip(half):
+    """Begins a handshake, and goes on with it by a byte now and then."""
+    half.sendall(b"GET / HTTP/1.1\r\nHost: a\r\nA: ")
+    try:
+        while True:
+            half.sendall(b"x")
+            time.sleep(0.05)
+    except OSError:
+        pass
+
+
+def no_document_is_given(path):
+    """A browser or a health check is told what this is; what is no HTTP at all too. What breaks off isn't."""
+    with tempfile.TemporaryDirectory() as folder:
+        relay, port = start(path, "serve", settings(folder, "relay", listen="127.0.0.1:0", conns=4))
+        try:
+            page = http.client.HTTPConnection("127.0.0.1", port, timeout=30)
+            page.request("GET", "/")
+            answer = page.getresponse()
+            same([answer.status, answer.reason, answer.getheader("Upgrade"), answer.read()],
+                 [426, "Upgrade Required", "websocket", b"This is a Nostr relay: it speaks WebSocket (NIP-01, NIP-77).\n"])
+            for said, wanted in ((b"\x16\x03\x01\r\n\r\n", b"HTTP/1.1 426 "), (b"GET / HTTP/1.1\r\n", b"")):
+                with socket.create_connection(("127.0.0.1", port), 30) as stranger:
+                    stranger.sendall(said)
+                    stranger.shutdown(socket.SHUT_WR)
+                    same(stranger.recv(13), wanted)
+            client = Talker(port)
+            same(client.answers(gives(1)), ["1 true "])
+            client.close()
+            same(relay.communicate(timeout=60), ("served 4\nevents 1\n", ""))
+        finally:
+            relay.kill()
+            relay.communicate()
+
+
+# So many clients there are at once where `clients` allows it.
+THRONG = 200
+
+
+def a_throng_is_served(path):
+    """More clients than 64 are served side by side where `clients` says so: each gets what is published while all are there."""
+    with tempfile.TemporaryDirectory() as folder:
+        relay, port = start(path, "serve",
+                            settings(folder, "relay", listen="127.0.0.1:0", conns=THRONG, clients=THRONG, push_ms=PUSH_MS))
+        try:
+            clients = [Talker(port) for _ in range(THRONG)]
+            for client in clients:
+                same(client.answers(req("s")), [eose("s")])
+            clients[0].send(gives(1).encode())
+            same(sorted(shown(clients[0].read()) for _ in range(2)), ["1 true ", "s 1"])
+            for client in clients[1:]:
+                same(shown(client.read()), "s 1")
+            for client in clients:
+                client.close()
+            same(relay.communicate(timeout=60), ("served %d\nevents 1\n" % THRONG, ""))
         finally:
             relay.kill()
             relay.communicate()
@@ -510,7 +601,8 @@ def beginnings_of_messages(path):
 def main():
     path = program()
     for part in (the_newest_are_chosen, events_are_sent_once, events_that_come_together, events_come_by_themselves,
-                 a_crowd_meets, names_in_byte_order, subscriptions_end, texts_that_are_no_messages, sessions_keep_what_they_found,
+                 a_crowd_meets, a_throng_is_served, the_silent_go, no_document_is_given,
+                 names_in_byte_order, subscriptions_end, texts_that_are_no_messages, sessions_keep_what_they_found,
                  sessions_end, long_texts, beginnings_of_messages):
         part(path)
         print(part.__name__.replace("_", " "))

@@ -9,7 +9,7 @@ use Rattle.nostr_filter.specs.declared.filter.Filter.{Filter as AFilter}
 use Rattle.mirror_settings.specs.declared.relay.Relay.{Relay}
 use Rattle.mirror_settings.specs.declared.fault.SettingsFault.{SettingsFault}
 use Rattle.mirror_settings.specs.declared.fault.SettingsKey.{SettingsKey}
-use Rattle.mirror_settings.specs.declared.fault.SettingsKey.TheVariants.{Events, Listen, Conns, Relays, Filter, Workers, Bases, Rounds, PushMs, TimeoutMs, Fsync, SlowBytes}
+use Rattle.mirror_settings.specs.declared.fault.SettingsKey.TheVariants.{Events, Listen, Conns, Relays, Filter, Workers, Bases, Rounds, PushMs, TimeoutMs, Fsync, SlowBytes, Clients, PingMs}
 use Rattle.mirror_settings.specs.Relays.{AreRelays}
 use Rattle.mirror_settings.specs.Keys.{place_of}
 use Rattle.mirror_settings.specs.Settings.{at, HoldsOr, whole_data, IsLoad, IsBases, IsFilterData, everything, HasRelays, HasBases, IsGood, AreGoodBelow, Stops, RefusesTable}
@@ -70,7 +70,7 @@ not_as_many sync t l count g long none = λ h. none h.1 (subst (λ (n : ℕ). Ha
 -- ---- the first key that isn't good
 
 abbrev key_at : ℕ → SettingsKey
-key_at n = get_or (Events ∷ Listen ∷ Conns ∷ Relays ∷ Filter ∷ Workers ∷ Bases ∷ Rounds ∷ PushMs ∷ TimeoutMs ∷ Fsync ∷ []) n SlowBytes
+key_at n = get_or (Events ∷ Listen ∷ Conns ∷ Relays ∷ Filter ∷ Workers ∷ Bases ∷ Rounds ∷ PushMs ∷ TimeoutMs ∷ Fsync ∷ SlowBytes ∷ Clients ∷ []) n PingMs
 
 at_its_place : (key : SettingsKey) → key_at (place_of key) ≡ key
 at_its_place Events = refl
@@ -85,6 +85,8 @@ at_its_place PushMs = refl
 at_its_place TimeoutMs = refl
 at_its_place Fsync = refl
 at_its_place SlowBytes = refl
+at_its_place Clients = refl
+at_its_place PingMs = refl
 
 pub none_below : (sync : Bool) (t : Members) → AreGoodBelow sync t 0
 none_below sync t key below = absurd (omega arith)

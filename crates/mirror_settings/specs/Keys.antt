@@ -1,7 +1,7 @@
 -- The keys of the settings.
 use Rattle.std.specs.Prelude.{ℕ, List, codes}
 use Rattle.mirror_settings.specs.declared.fault.SettingsKey.{SettingsKey}
-use Rattle.mirror_settings.specs.declared.fault.SettingsKey.TheVariants.{Events, Listen, Conns, Relays, Filter, Workers, Bases, Rounds, PushMs, TimeoutMs, Fsync, SlowBytes}
+use Rattle.mirror_settings.specs.declared.fault.SettingsKey.TheVariants.{Events, Listen, Conns, Relays, Filter, Workers, Bases, Rounds, PushMs, TimeoutMs, Fsync, SlowBytes, Clients, PingMs}
 
 abbrev pub name_of : SettingsKey → List ℕ
 name_of Events = codes "events"
@@ -16,6 +16,8 @@ name_of PushMs = codes "push_ms"
 name_of TimeoutMs = codes "timeout_ms"
 name_of Fsync = codes "fsync"
 name_of SlowBytes = codes "slow_bytes"
+name_of Clients = codes "clients"
+name_of PingMs = codes "ping_ms"
 
 -- its place in the order in which the keys are looked at
 abbrev pub place_of : SettingsKey → ℕ
@@ -31,3 +33,5 @@ place_of PushMs = 8
 place_of TimeoutMs = 9
 place_of Fsync = 10
 place_of SlowBytes = 11
+place_of Clients = 12
+place_of PingMs = 13

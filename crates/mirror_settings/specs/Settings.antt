@@ -13,7 +13,7 @@ use Rattle.mirror_settings.specs.declared.settings.Settings.{Settings}
 use Rattle.mirror_settings.specs.declared.settings.Syncing.{Syncing}
 use Rattle.mirror_settings.specs.declared.settings.Syncing.TheVariants.{Always, EverySecond, Never}
 use Rattle.mirror_settings.specs.declared.fault.SettingsKey.{SettingsKey}
-use Rattle.mirror_settings.specs.declared.fault.SettingsKey.TheVariants.{Events, Listen, Conns, Relays, Filter, Workers, Bases, Rounds, PushMs, TimeoutMs, Fsync, SlowBytes}
+use Rattle.mirror_settings.specs.declared.fault.SettingsKey.TheVariants.{Events, Listen, Conns, Relays, Filter, Workers, Bases, Rounds, PushMs, TimeoutMs, Fsync, SlowBytes, Clients, PingMs}
 use Rattle.mirror_settings.specs.declared.fault.SettingsFault.{SettingsFault}
 use Rattle.mirror_settings.specs.declared.fault.SettingsFault.TheVariants.{Text, Key, Memory}
 use Rattle.mirror_settings.specs.Addresses.{IsAddress, spelled}
@@ -130,6 +130,12 @@ abbrev pub HasSlowBytes : Bool → Members → ℕ → Type 0
 HasSlowBytes true t n = HoldsOr 10000 (IsWhole 1 1000000000) (at SlowBytes t) n
 HasSlowBytes false t n = n ≡ 10000
 
+abbrev pub HasClients : Members → Option ℕ → Type 0
+HasClients t v = Holds (IsWhole 1 1000) (at Clients t) v
+
+abbrev pub HasPingMs : Members → Option ℕ → Type 0
+HasPingMs t v = Holds (IsWhole 1 3600000) (at PingMs t) v
+
 -- the table tells the settings
 pub record Tells (sync : Bool) (t : Members) (s : Settings) : Type 0 where
   pub events : HasEvents t s.events
@@ -144,6 +150,8 @@ pub record Tells (sync : Bool) (t : Members) (s : Settings) : Type 0 where
   pub timeout_ms : HasTimeoutMs t s.timeout_ms
   pub fsync : HasFsync t s.fsync
   pub slow_bytes : HasSlowBytes sync t s.slow_bytes
+  pub clients : HasClients t s.clients
+  pub ping_ms : HasPingMs t s.ping_ms
 
 -- ---- what a refusal says
 
@@ -161,6 +169,8 @@ IsGood sync t PushMs = (v : Option ℕ) × HasPushMs t v
 IsGood sync t TimeoutMs = (v : Option ℕ) × HasTimeoutMs t v
 IsGood sync t Fsync = (v : Syncing) × HasFsync t v
 IsGood sync t SlowBytes = (v : ℕ) × HasSlowBytes sync t v
+IsGood sync t Clients = (v : Option ℕ) × HasClients t v
+IsGood sync t PingMs = (v : Option ℕ) × HasPingMs t v
 
 -- the keys before a place are good
 abbrev pub AreGoodBelow : Bool → Members → ℕ → Type 0

@@ -20,6 +20,8 @@ pub enum SettingsKey {
     TimeoutMs,
     Fsync,
     SlowBytes,
+    Clients,
+    PingMs,
 }
 
 impl SettingsKey {
@@ -42,6 +44,8 @@ impl SettingsKey {
             SettingsKey::TimeoutMs => "timeout_ms",
             SettingsKey::Fsync => "fsync",
             SettingsKey::SlowBytes => "slow_bytes",
+            SettingsKey::Clients => "clients",
+            SettingsKey::PingMs => "ping_ms",
         }
     }
 }

@@ -178,6 +178,8 @@ fn settings_of(alloc: Global, table: &Table, sync: bool) -> Result<Settings, Set
     let timeout_ms = whole_at(table, SettingsKey::TimeoutMs, 1, 3_600_000)?;
     let fsync = fsync_at(table)?;
     let slow_bytes = slow_bytes_at(table, sync)?;
+    let clients = whole_at(table, SettingsKey::Clients, 1, 1_000)?;
+    let ping_ms = whole_at(table, SettingsKey::PingMs, 1, 3_600_000)?;
     Ok(Settings {
         events,
         listen,
@@ -191,6 +193,8 @@ fn settings_of(alloc: Global, table: &Table, sync: bool) -> Result<Settings, Set
         timeout_ms,
         fsync,
         slow_bytes,
+        clients,
+        ping_ms,
     })
 }
 

@@ -49,6 +49,11 @@ pub struct Settings {
     pub fsync: Syncing,
     /// How many bytes a second a fetch that goes on for long has to bring, 1 to 1,000,000,000.
     pub slow_bytes: u64,
+    /// How many connections are served side by side, 1 to 1,000.
+    pub clients: Option<u64>,
+    /// After how many milliseconds in which a client brings nothing it is sent a ping, and after as many more its connection ends, 1 to
+    /// 3,600,000.
+    pub ping_ms: Option<u64>,
 }
 
 impl Settings {

@@ -1,6 +1,6 @@
 //! Where connections come in, and what they are served from.
 
-use crate::client::Client;
+use crate::client::{Client, Patience};
 use crate::crew::{Shift, run_beside};
 use crate::keeping::{Clerk, Keeping};
 use event_store::{Desk, Naming, Reader};
@@ -14,6 +14,7 @@ use std::sync::{Condvar, CondvarTimeouts, Mutex, Wait};
 use std::thread::{Threads, sleep};
 use std::time::Duration;
 use ws_serve::serve_kept;
+use ws_socket::LinkFault;
 
 /// For how many milliseconds it is tried to wake a worker that waits for a connection.
 const WAKING: u64 = 100;
@@ -35,8 +36,7 @@ pub struct Hall<K> {
     waiting: AtomicU64,
     // Whether no further connections are taken.
     closed: AtomicBool,
-    push: Option<Duration>,
-    timeout: Duration,
+    patience: Patience,
     desk: Mutex<K>,
     // Held while a long text is read.
     turn: Mutex<()>,
@@ -46,23 +46,15 @@ pub struct Hall<K> {
 }
 
 impl<K> Hall<K> {
-    /// A hall for so many connections. With `push`, a connection on which nothing comes in for that long is looked at for new
-    /// events. One on which nothing is taken for as long as `timeout`, though something is sent, ends.
-    pub fn new(
-        listener: TcpListener,
-        conns: u64,
-        push: Option<Duration>,
-        timeout: Duration,
-        desk: K,
-    ) -> Hall<K> {
+    /// A hall for so many connections.
+    pub fn new(listener: TcpListener, conns: u64, patience: Patience, desk: K) -> Hall<K> {
         Hall {
             listener,
             conns,
             begun: AtomicU64::new(0),
             waiting: AtomicU64::new(0),
             closed: AtomicBool::new(false),
-            push,
-            timeout,
+            patience,
             desk: Mutex::new(desk),
             turn: Mutex::new(()),
             over: Mutex::new(false),
@@ -107,7 +99,7 @@ impl<K> Hall<K> {
     fn accepted<C: Clock>(&self, clock: &C) -> Option<Client> {
         for _ in 0..MOST_TRIES {
             if let Ok((stream, _from)) = self.listener.accept() {
-                return Some(Client::new(stream, self.push, self.timeout));
+                return Some(Client::new(stream, self.patience));
             }
             if self.closed.load(Ordering::SeqCst) {
                 return None;
@@ -170,7 +162,10 @@ fn serve_one<J: Naming, D: Wait + Drop, R: Wait, C: Clock, E: Write + Drop>(
     };
     let hall = serving.hall;
     let (desk, turn) = (&hall.desk, &hall.turn);
-    let _ = serve_kept(rt, alloc, client, reader, desk, &clerk, turn, limits);
+    let served = serve_kept(rt, alloc, client.line(), reader, desk, &clerk, turn, limits);
+    if let Err(LinkFault::Wire) = served {
+        client.turn_away();
+    }
 }
 
 /// Serves one connection after another with a reader, until none is left, or until one came in, a further worker is wanted and

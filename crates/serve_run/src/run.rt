@@ -3,6 +3,7 @@
 ghost use Rattle.std.specs.Prelude.{◌≡◌, OnOk};
 ghost use Rattle.std.specs.Io.KnownBytes.{Appends};
 
+use crate::client::Patience;
 use crate::hall::{Hall, serve_beside};
 use crate::keeping::{Keeping, keep_meanwhile, keeping_of};
 use crate::refusal::{Refusal, write_refusal};
@@ -17,17 +18,13 @@ use std::net::{Net, TcpListener, TcpStream};
 use std::rt::{Clock, Files};
 use std::sync::Wait;
 use std::thread::Threads;
-use std::time::Duration;
 
-/// The most connections that are served at once.
-const MOST_AT_ONCE: u64 = 64;
+/// How many connections are served at once where the settings don't say.
+const CLIENTS: u64 = 64;
 
-/// As many readers as connections may be served at once: at least one.
-pub fn readers_for(conns: u64) -> usize {
-    if conns == 0 {
-        return 1;
-    }
-    conns.min(MOST_AT_ONCE) as usize
+/// As many readers as connections may be served at once, 1 to 1,000.
+pub fn readers_for(conns: u64, clients: Option<u64>) -> usize {
+    conns.min(clients.unwrap_or(CLIENTS)).clamp(1, 1_000) as usize
 }
 
 /// Writes a text, and waits until it is written.
@@ -81,9 +78,7 @@ pub fn open_hall<K: Drop, R: Net<Listener = TcpListener, Stream = TcpStream>, W:
         return Err(Refusal::Key(SettingsKey::Conns));
     };
     let listener = listen(rt, alloc, address, writer)?;
-    let push = settings.push_ms.map(Duration::from_millis);
-    let timeout = settings.timeout();
-    Ok(Hall::new(listener, conns, push, timeout, desk))
+    Ok(Hall::new(listener, conns, Patience::of(settings), desk))
 }
 
 /// Writes what is left to the events file, and tells how many connections and events there were.
@@ -125,7 +120,7 @@ fn run_named<
 {
     let conns = settings.conns.unwrap_or(0);
     // One reader for each connection that is served at once, and one for the file.
-    let count = readers_for(conns).saturating_add(1);
+    let count = readers_for(conns, settings.clients).saturating_add(1);
     let (mut desk, mut readers) = open_store::<J, D>(keep, alloc, blank, count)?;
     let Some(mut reader) = readers.pop() else {
         return Err(Refusal::Store);

@@ -401,7 +401,7 @@ fn run_serving<
 /// at once.
 fn readers_of(settings: &Settings) -> usize {
     match (&settings.listen, settings.conns) {
-        (Some(_), Some(conns)) => readers_for(conns).saturating_add(2),
+        (Some(_), Some(conns)) => readers_for(conns, settings.clients).saturating_add(2),
         _ => 2,
     }
 }

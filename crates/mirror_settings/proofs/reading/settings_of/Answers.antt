@@ -1,7 +1,7 @@
 use Rattle.std.proofs.Common.{length, inl, inr, ap}
 use Rattle.std.proofs.lemmas.Result.{err_from_is_err_and}
 use Rattle.toml.specs.View.{table_view}
-use Rattle.mirror_settings.specs.declared.fault.SettingsKey.TheVariants.{Events, Listen, Conns, Relays, Filter, Workers, Bases, Rounds, PushMs, TimeoutMs, Fsync, SlowBytes}
+use Rattle.mirror_settings.specs.declared.fault.SettingsKey.TheVariants.{Events, Listen, Conns, Relays, Filter, Workers, Bases, Rounds, PushMs, TimeoutMs, Fsync, SlowBytes, Clients, PingMs}
 use Rattle.mirror_settings.proofs.Refusals.{none_below, one_more, stopped, as_many_bases, not_as_many}
 use Rattle.mirror_settings.proofs.reading.settings_of.Goals as goal
 
@@ -88,3 +88,17 @@ returns-in_err-slow_bytes-clause-err c =
     let t = table_view c.args.table.now in
     let p = err_from_is_err_and c.from_residual-in_err-slow_bytes.result c.from_residual-in_err-slow_bytes.ensures.1 in
     rw (p.1, p.2) (stopped s t SlowBytes _ (one_more s t Fsync (one_more s t TimeoutMs (one_more s t PushMs (one_more s t Rounds (one_more s t Bases (one_more s t Workers (one_more s t Filter (one_more s t Relays (one_more s t Conns (one_more s t Listen (one_more s t Events (none_below s t) (c.in_ok-events.events, c.in_ok-events.ensures.ok)) (c.in_ok-listen.listen, c.in_ok-listen.ensures.ok)) (c.in_ok-conns.conns, c.in_ok-conns.ensures.ok)) (c.in_ok-relays.relays, c.in_ok-relays.ensures.ok)) (c.in_ok-filter.filter, c.in_ok-filter.ensures.ok)) (c.in_ok-workers.workers, c.in_ok-workers.ensures.ok)) (as_many_bases s t c.in_ok-relays.relays (length c.as_slice-count.result.now) c.in_ok-bases.bases c.in_ok-relays.ensures.ok (ap length c.as_slice-count.ensures) c.in_ok-bases.ensures.ok)) (c.in_ok-rounds.rounds, c.in_ok-rounds.ensures.ok)) (c.in_ok-push_ms.push_ms, c.in_ok-push_ms.ensures.ok)) (c.in_ok-timeout_ms.timeout_ms, c.in_ok-timeout_ms.ensures.ok)) (c.in_ok-fsync.fsync, c.in_ok-fsync.ensures.ok)) c.in_err-slow_bytes.ensures.err)
+
+pub returns-in_err-clients-clause-err : goal.returns-in_err-clients-clause-err
+returns-in_err-clients-clause-err c =
+    let s = c.args.sync in
+    let t = table_view c.args.table.now in
+    let p = err_from_is_err_and c.from_residual-in_err-clients.result c.from_residual-in_err-clients.ensures.1 in
+    rw (p.1, p.2) (stopped s t Clients _ (one_more s t SlowBytes (one_more s t Fsync (one_more s t TimeoutMs (one_more s t PushMs (one_more s t Rounds (one_more s t Bases (one_more s t Workers (one_more s t Filter (one_more s t Relays (one_more s t Conns (one_more s t Listen (one_more s t Events (none_below s t) (c.in_ok-events.events, c.in_ok-events.ensures.ok)) (c.in_ok-listen.listen, c.in_ok-listen.ensures.ok)) (c.in_ok-conns.conns, c.in_ok-conns.ensures.ok)) (c.in_ok-relays.relays, c.in_ok-relays.ensures.ok)) (c.in_ok-filter.filter, c.in_ok-filter.ensures.ok)) (c.in_ok-workers.workers, c.in_ok-workers.ensures.ok)) (as_many_bases s t c.in_ok-relays.relays (length c.as_slice-count.result.now) c.in_ok-bases.bases c.in_ok-relays.ensures.ok (ap length c.as_slice-count.ensures) c.in_ok-bases.ensures.ok)) (c.in_ok-rounds.rounds, c.in_ok-rounds.ensures.ok)) (c.in_ok-push_ms.push_ms, c.in_ok-push_ms.ensures.ok)) (c.in_ok-timeout_ms.timeout_ms, c.in_ok-timeout_ms.ensures.ok)) (c.in_ok-fsync.fsync, c.in_ok-fsync.ensures.ok)) (c.in_ok-slow_bytes.slow_bytes, c.in_ok-slow_bytes.ensures.ok)) (inr (c.in_err-clients.ensures.err.0, λ g. c.in_err-clients.ensures.err.1 g.0 g.1)))
+
+pub returns-in_err-ping_ms-clause-err : goal.returns-in_err-ping_ms-clause-err
+returns-in_err-ping_ms-clause-err c =
+    let s = c.args.sync in
+    let t = table_view c.args.table.now in
+    let p = err_from_is_err_and c.from_residual-in_err-ping_ms.result c.from_residual-in_err-ping_ms.ensures.1 in
+    rw (p.1, p.2) (stopped s t PingMs _ (one_more s t Clients (one_more s t SlowBytes (one_more s t Fsync (one_more s t TimeoutMs (one_more s t PushMs (one_more s t Rounds (one_more s t Bases (one_more s t Workers (one_more s t Filter (one_more s t Relays (one_more s t Conns (one_more s t Listen (one_more s t Events (none_below s t) (c.in_ok-events.events, c.in_ok-events.ensures.ok)) (c.in_ok-listen.listen, c.in_ok-listen.ensures.ok)) (c.in_ok-conns.conns, c.in_ok-conns.ensures.ok)) (c.in_ok-relays.relays, c.in_ok-relays.ensures.ok)) (c.in_ok-filter.filter, c.in_ok-filter.ensures.ok)) (c.in_ok-workers.workers, c.in_ok-workers.ensures.ok)) (as_many_bases s t c.in_ok-relays.relays (length c.as_slice-count.result.now) c.in_ok-bases.bases c.in_ok-relays.ensures.ok (ap length c.as_slice-count.ensures) c.in_ok-bases.ensures.ok)) (c.in_ok-rounds.rounds, c.in_ok-rounds.ensures.ok)) (c.in_ok-push_ms.push_ms, c.in_ok-push_ms.ensures.ok)) (c.in_ok-timeout_ms.timeout_ms, c.in_ok-timeout_ms.ensures.ok)) (c.in_ok-fsync.fsync, c.in_ok-fsync.ensures.ok)) (c.in_ok-slow_bytes.slow_bytes, c.in_ok-slow_bytes.ensures.ok)) (c.in_ok-clients.clients, c.in_ok-clients.ensures.ok)) (inr (c.in_err-ping_ms.ensures.err.0, λ g. c.in_err-ping_ms.ensures.err.1 g.0 g.1)))
