@@ -71,11 +71,11 @@ pub(crate) fn meant(
     table: &OfferTable,
     bases: &Bases,
 ) -> Result<Vec<u16>, AllocError> {
-    let (groups, numbers) = table.groups()?;
-    let evening = Evening::of(alloc, &groups, bases)?;
-    let mut parts = parts_of(alloc, &evening, groups.len())?;
+    let evening = Evening::of(alloc, table, bases)?;
+    let mut parts = parts_of(alloc, &evening, table.groups())?;
+    let numbers = table.numbers();
     let mut relays = Vec::with_capacity(alloc, numbers.len())?;
-    for group in &numbers {
+    for group in numbers {
         relays.push(parts.next(*group).unwrap_or(0))?;
     }
     Ok(relays)

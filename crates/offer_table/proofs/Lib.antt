@@ -10,3 +10,5 @@ pub mod Tables
 pub mod SideBySide
 pub mod Cutting
 pub mod Numbered
+pub mod Chained
+pub mod Rowed

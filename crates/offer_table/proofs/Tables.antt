@@ -1,8 +1,8 @@
 -- Tables of offers: one offer is struck, or all are one relay's.
-use Rattle.std.proofs.Common.{◌≡◌, ℕ, ◌<◌, ◌==◌, ◌||◌, ◌&&◌, not, Bool, true, false, cond, List, [], ◌∷◌, length, map, replicate, Some, None, refl, sym, ap, ◌∙◌, arith, inl, inr}
-use Rattle.std.specs.Prelude.{unwrap_or}
+use Rattle.std.proofs.Common.{◌≡◌, ℕ, ◌+◌, ◌<◌, ◌≤◌, ◌==◌, ◌||◌, ◌&&◌, not, Bool, true, false, cond, List, [], ◌∷◌, length, map, replicate, Some, None, refl, sym, ap, ◌∙◌, arith, inl, inr}
+use Rattle.std.specs.Prelude.{unwrap_or, nat_lt}
 use Rattle.std.specs.declared.cmp.Ordering.{Ordering}
-use Rattle.std.specs.List.{All}
+use Rattle.std.specs.List.{All, list_any}
 use Rattle.std.specs.List.Sorted.{IsStrictlySortedBy}
 use Rattle.std.proofs.lemmas.Bool.{cases_Bool, cases_lt, false≢true, eqb-true, and_parts, and_left}
 use Rattle.std.proofs.lemmas.List.Elements.{All-cons, All-nil}
@@ -12,7 +12,10 @@ use Rattle.sharing.specs.Sharing.{is_among}
 use Rattle.sharing.specs.Offers.{id_cmp, is_id, AreRelays, relays_of}
 use Rattle.sharing.proofs.Orders.{same_id, id_itself, id_flips}
 use Rattle.sharing.specs.Bases.{AreBases, base_of}
-use Rattle.offer_table.specs.Table.{IsTable}
+use Rattle.sharing.specs.declared.TheConstants.{MOST_IDS}
+use Rattle.offer_table.specs.Table.{Table, IsTable, new_in}
+use Rattle.offer_table.specs.Faults.{merge_fault}
+use Rattle.offer_table.specs.declared.faults.OfferFault.TheVariants.{TableFull, Double}
 
 pub some_member : (relays : List ℕ) (r : ℕ) → is_among relays r ≡ true → 0 < length relays
 some_member [] r h = absurd (false≢true h)
@@ -91,3 +94,12 @@ strike_one k i q r =
     or_false : (b : Bool) → (b || false) ≡ b
     or_false true = refl
     or_false false = refl
+
+not_less : (m n : ℕ) → n ≤ m → nat_lt m n ≡ false
+not_less m n le = grind arith
+
+-- two tables that can be put together
+pub no_fault : (a b : Table) → length a.offers + new_in a.offers b.offers ≤ MOST_IDS → list_any (is_among b.reported) a.reported ≡ false → merge_fault a b ≡ None
+no_fault a b few apart =
+    ap (λ t. cond t (Some TableFull) (cond (list_any (is_among b.reported) a.reported) (Some Double) None)) (not_less MOST_IDS (length a.offers + new_in a.offers b.offers) few)
+    ∙ ap (λ t. cond t (Some Double) None) apart

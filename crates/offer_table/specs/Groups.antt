@@ -52,3 +52,8 @@ pub record AreNumbers (offers : List (Id × List ℕ)) (groups : List (List ℕ 
   pub within : All (λ k. k < length groups) numbers
   pub relays : map (λ k. (slice_index_or groups k ([], [])).0) numbers ≡ map (λ o. o.1) offers
   pub counts : (k : ℕ) → k < length groups → count_by (λ n. n == k) numbers ≡ length (slice_index_or groups k ([], [])).1
+
+-- a table's groups, and the numbers of its offers' groups
+pub record AreKept (offers : List (Id × List ℕ)) (groups : List (List ℕ × List Id)) (numbers : List ℕ) : Type 0 where
+  pub groups_are : groups ≡ groups_of offers
+  pub numbers_are : AreNumbers offers (groups_of offers) numbers

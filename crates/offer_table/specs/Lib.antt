@@ -4,5 +4,6 @@ pub mod Table
 pub mod Faults
 pub mod Groups
 pub mod Keys
+pub mod Chains
 pub mod Rows
 pub mod Combined

@@ -1,6 +1,6 @@
 //! The offers of two lists, walked side by side.
 
-ghost use Rattle.std.specs.Prelude.{◌≡◌, ◌≤◌, ◌+◌, ◌∷◌, ℕ, List, [], length, map, OnOk, IfOk, MatchOption};
+ghost use Rattle.std.specs.Prelude.{◌≡◌, ◌≤◌, ◌+◌, ◌∷◌, ℕ, List, [], length, map, nat_lt, OnOk, IfOk, MatchOption};
 ghost use Rattle.neg_codec.specs.declared.Id.{Id};
 ghost use Rattle.sharing.specs.declared.TheConstants.{MOST_IDS};
 ghost use Rattle.sharing.specs.Sharing.{is_among};
@@ -9,7 +9,9 @@ ghost use Rattle.offer_table.specs.Table.{new_in};
 ghost use Rattle.offer_table.specs.Combined.{keeps, most_kept, IsLeast, IsPushed};
 
 use crate::RelaySet;
+use crate::guess::Pairs;
 use neg_codec::Id;
+use sharing::MOST_IDS;
 use std::alloc::{AllocError, Global};
 use std::cmp::Ordering;
 
@@ -46,6 +48,7 @@ struct Next<'a> {
 }
 
 /// The least id of both lists.
+#[inline(always)]
 fn least<'a>(mine: &'a [(Id, RelaySet)], theirs: &'a [(Id, RelaySet)]) -> Option<Next<'a>>
     requires mine { Ascend (map (λ o. o.0) mine.now) }
     requires theirs { Ascend (map (λ o. o.0) theirs.now) }
@@ -67,6 +70,7 @@ fn least<'a>(mine: &'a [(Id, RelaySet)], theirs: &'a [(Id, RelaySet)]) -> Option
 }
 
 /// The least id of both lists, where the first begins with this offer.
+#[inline(always)]
 fn least_from<'a>(
     first: &(Id, RelaySet),
     more: &'a [(Id, RelaySet)],
@@ -123,6 +127,20 @@ pub(crate) fn count_both(mine: &[(Id, RelaySet)], theirs: &[(Id, RelaySet)]) -> 
     count
 }
 
+/// Room for the ids that these offer together: at least as many, and above [`MOST_IDS`] just where they are.
+pub(crate) fn room_for(mine: &[(Id, RelaySet)], theirs: &[(Id, RelaySet)]) -> usize
+    requires mine { Ascend (map (λ o. o.0) mine.now) × (length mine.now ≤ MOST_IDS) }
+    requires theirs { Ascend (map (λ o. o.0) theirs.now) × (length theirs.now ≤ MOST_IDS) }
+    ensures enough { length mine.now + new_in mine.now theirs.now ≤ result }
+    ensures full { nat_lt MOST_IDS result ≡ nat_lt MOST_IDS (length mine.now + new_in mine.now theirs.now) }
+{
+    let most = mine.len() + theirs.len();
+    if most <= MOST_IDS {
+        return most;
+    }
+    count_both(mine, theirs)
+}
+
 /// Adds an id with its relays, where there are some.
 fn push_some(all: &mut Vec<(Id, RelaySet)>, id: Id, relays: RelaySet) -> Result<(), AllocError>
     ensures { OnOk result (IsPushed all.old.items id relays all.new.items) }
@@ -134,13 +152,14 @@ fn push_some(all: &mut Vec<(Id, RelaySet)>, id: Id, relays: RelaySet) -> Result<
     Ok(())
 }
 
-/// The offers of two lists that are kept, which are that many ids at most.
+/// The offers of two lists that are kept, which are that many ids at most. It notes the pairs of their groups.
 pub(crate) fn combined(
     alloc: Global,
     keep: Keep,
     mine: &[(Id, RelaySet)],
     theirs: &[(Id, RelaySet)],
     most: usize,
+    pairs: &mut Pairs<'_, '_>,
 ) -> Result<Vec<(Id, RelaySet)>, AllocError>
     requires mine { Ascend (map (λ o. o.0) mine.now) }
     requires theirs { Ascend (map (λ o. o.0) theirs.now) }
@@ -153,6 +172,9 @@ pub(crate) fn combined(
     while let Some(next) = least(first, second) {
         let relays = keep.of(next.mine, next.theirs);
         push_some(&mut all, next.id, relays)?;
+        let mine = next.more.len() < first.len();
+        let theirs = next.rest.len() < second.len();
+        pairs.pass(mine, theirs, all.len())?;
         first = next.more;
         second = next.rest;
     }

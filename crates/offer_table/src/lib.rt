@@ -8,13 +8,13 @@ mod bases;
 mod combined;
 mod faults;
 mod groups;
+mod guess;
 mod ids;
 mod relays;
 mod table;
 
 pub use bases::Bases;
 pub use faults::{BaseFault, OfferFault};
-pub use groups::Groups;
 pub use ids::Ids;
 pub use relays::{Members, RelaySet};
 pub use table::OfferTable;

@@ -12,8 +12,9 @@ ghost use Rattle.offer_table.specs.Groups.{groups_of, AreGroups, AreNumbers};
 ghost use Rattle.offer_table.specs.Faults.{report_fault, offers_fault, merge_fault};
 ghost use Rattle.offer_table.specs.declared.faults.OfferFault.TheVariants.{Memory};
 
-use crate::combined::{Keep, combined, count_both};
+use crate::combined::{Keep, combined, room_for};
 use crate::groups::Groups;
+use crate::guess::{Guess, Known, Pairs};
 use crate::{Ids, OfferFault, RelaySet};
 use neg_codec::Id;
 use sharing::{MOST_IDS, RELAYS};
@@ -26,17 +27,21 @@ use std::marker::Model;
 pub struct OfferTable {
     reported: RelaySet,
     offers: Vec<(Id, RelaySet)>,
+    groups: Groups,
+    /// The number of each offer's group.
+    numbers: Vec<u32>,
     alloc: Global,
 }
 
 impl Model for OfferTable {
     ghost use Rattle.offer_table.specs.Table.{Table, IsTable};
+    ghost use Rattle.offer_table.specs.Groups.{AreKept};
 
     ghost Value = { Table };
 
     ghost view = { λ t. record { reported = t.reported; offers = t.offers.items } };
 
-    ghost invariant = { λ t. IsTable (record { reported = t.reported; offers = t.offers.items }) };
+    ghost invariant = { λ t. IsTable (record { reported = t.reported; offers = t.offers.items }) × AreKept t.offers.items t.groups t.numbers.items };
 }
 
 /// The relays that offer some id.
@@ -62,16 +67,48 @@ fn looked_up(offers: &[(Id, RelaySet)], id: &Id) -> RelaySet
 }
 
 impl OfferTable {
-    /// The table of these relays that reported, and these offers.
-    fn of_list(alloc: Global, reported: RelaySet, offers: Vec<(Id, RelaySet)>) -> OfferTable
+    /// The table of these relays that reported, and these offers. One sort of the sets.
+    fn of_list(
+        alloc: Global,
+        reported: RelaySet,
+        offers: Vec<(Id, RelaySet)>,
+    ) -> Result<OfferTable, AllocError>
         requires { IsTable (record { reported = reported; offers = offers.items }) }
-        ensures { result ≡ record { reported = reported; offers = offers.items } }
+        ensures { IfOk result (λ t. t ≡ record { reported = reported; offers = offers.items }) }
     {
-        OfferTable {
+        let (groups, numbers) = Groups::of(alloc, &offers)?;
+        Ok(OfferTable {
             reported,
             offers,
+            groups,
+            numbers,
             alloc,
-        }
+        })
+    }
+
+    /// The same, where the groups of the offers are guessed.
+    fn of_guess(
+        alloc: Global,
+        reported: RelaySet,
+        offers: Vec<(Id, RelaySet)>,
+        guess: Guess,
+    ) -> Result<OfferTable, AllocError>
+        requires { IsTable (record { reported = reported; offers = offers.items }) }
+        ensures { IfOk result (λ t. t ≡ record { reported = reported; offers = offers.items }) }
+    {
+        let (groups, numbers) = Groups::guessed(alloc, &offers, guess)?;
+        Ok(OfferTable {
+            reported,
+            offers,
+            groups,
+            numbers,
+            alloc,
+        })
+    }
+
+    /// What this table knows of the groups of its offers.
+    fn known(&self) -> Known<'_> {
+        Known::of(&self.numbers, self.groups.len())
     }
 
     /// The table to which no relay has reported.
@@ -82,12 +119,14 @@ impl OfferTable {
         OfferTable {
             reported: RelaySet::empty(),
             offers: Vec::new(alloc),
+            groups: Groups::none(alloc),
+            numbers: Vec::new(alloc),
             alloc,
         }
     }
 
     /// The table of these offers: ids in order, each with the set of relays that offer it. The relays that offer
-    /// an id are those that reported. One pass.
+    /// an id are those that reported. One sort of the sets.
     ///
     /// # Errors
     ///
@@ -103,7 +142,7 @@ impl OfferTable {
             return Err(OfferFault::TableFull);
         }
         let reported = all_of(&offers);
-        Ok(OfferTable::of_list(alloc, reported, offers))
+        Ok(OfferTable::of_list(alloc, reported, offers)?)
     }
 
     /// The table of one relay's report: it offers each of these ids.
@@ -132,10 +171,12 @@ impl OfferTable {
         for id in need {
             offers.push((*id, relays))?;
         }
-        Ok(OfferTable::of_list(alloc, relays, offers))
+        let guess = Guess::one(alloc, offers.len())?;
+        Ok(OfferTable::of_guess(alloc, relays, offers, guess)?)
     }
 
-    /// The offers of both tables: two passes over both. After a fault both come back unchanged.
+    /// The offers of both tables: a few passes over both, and a sort of the sets that are new. After a fault both come
+    /// back unchanged.
     ///
     /// # Errors
     ///
@@ -152,21 +193,21 @@ impl OfferTable {
         ensures table { IfOk result IsTable }
         ensures back { IfErr result (λ e. (e.1 ≡ self) × (e.2 ≡ other)) }
     {
-        let count = count_both(&self.offers, &other.offers);
-        if count > MOST_IDS {
+        let room = room_for(&self.offers, &other.offers);
+        if room > MOST_IDS {
             return Err((OfferFault::TableFull, self, other));
         }
         if self.reported.meets(other.reported) {
             return Err((OfferFault::Double, self, other));
         }
-        match self.joined(&other, count) {
+        match self.joined(&other, room) {
             Ok(both) => Ok(both),
             Err(_) => Err((OfferFault::Memory, self, other)),
         }
     }
 
-    /// Leaves these offers out: beside an id that stands here, those of its relays that stand beside it. One pass
-    /// over both. Where memory runs out nothing has changed.
+    /// Leaves these offers out: beside an id that stands here, those of its relays that stand beside it. A few passes
+    /// over both, and a sort of the sets that are new. Where memory runs out nothing has changed.
     pub fn leave_out(&mut self, gone: &[(Id, RelaySet)]) -> Result<(), AllocError>
         requires { Ascend (map (λ o. o.0) gone.now) }
         ensures offers { OnOk result ((i : Id) (r : ℕ) → is_among (relays_of self.new.offers i) r ≡ (is_among (relays_of self.old.offers i) r && not (is_among (relays_of gone.now i) r))) }
@@ -174,14 +215,20 @@ impl OfferTable {
         ensures table { IsTable self.new }
         ensures err { OnErr result (self.new ≡ self.old) }
     {
+        let most = self.offers.len();
+        let each: Vec<u32> = Vec::new(self.alloc);
+        let apart = Known::of(&each, gone.len());
+        let mut pairs = Pairs::new(self.alloc, self.known(), apart, most)?;
         let left = combined(
             self.alloc,
             Keep::FirstAlone,
             &self.offers,
             gone,
-            self.offers.len(),
+            most,
+            &mut pairs,
         )?;
-        *self = OfferTable::of_list(self.alloc, self.reported, left);
+        let guess = pairs.guess(self.alloc, &left)?;
+        *self = OfferTable::of_guess(self.alloc, self.reported, left, guess)?;
         Ok(())
     }
 
@@ -227,15 +274,29 @@ impl OfferTable {
         &self.offers
     }
 
-    /// The offered ids in groups, and the number of each id's group, in the order of the ids. One sort of the sets,
-    /// n log n in the number of ids.
-    pub fn groups(&self) -> Result<(Groups, Vec<u32>), AllocError>
-        ensures value { IfOk result (λ made. made.0 ≡ groups_of self.now.offers) }
-        ensures numbers { IfOk result (λ made. AreNumbers self.now.offers (groups_of self.now.offers) made.1.items) }
+    /// How many groups of ids there are. A group has the ids that just the same relays offer; the groups stand in the
+    /// order of their sets of relays, as numbers in which relay r counts 2^r.
+    pub fn groups(&self) -> usize
+        ensures value { result ≡ length (groups_of self.now.offers) }
         ensures groups { AreGroups self.now.offers (groups_of self.now.offers) }
         ensures table { IsTable self.now }
     {
-        Groups::of(self.alloc, &self.offers)
+        self.groups.len()
+    }
+
+    /// The set of relays of a group, and its ids, ascending.
+    pub fn group_at(&self, k: usize) -> (RelaySet, &[Id])
+        requires { k < length (groups_of self.now.offers) }
+        ensures { slice_get (groups_of self.now.offers) k ≡ Some (result.0, result.1.now) }
+    {
+        self.groups.at(k)
+    }
+
+    /// The number of each id's group, in the order of the ids.
+    pub fn numbers(&self) -> &[u32]
+        ensures { AreNumbers self.now.offers (groups_of self.now.offers) result.now }
+    {
+        &self.numbers
     }
 
     /// The relays that reported.
@@ -245,17 +306,26 @@ impl OfferTable {
         self.reported
     }
 
-    /// The offers of both tables, which are that many ids.
-    fn joined(&self, other: &OfferTable, count: usize) -> Result<OfferTable, AllocError>
+    /// The offers of both tables, for whose ids there is this room.
+    fn joined(&self, other: &OfferTable, room: usize) -> Result<OfferTable, AllocError>
         requires { (length self.now.offers + new_in self.now.offers other.now.offers) ≤ MOST_IDS }
         ensures reported { IfOk result (λ t. (r : ℕ) → is_among t.reported r ≡ (is_among self.now.reported r || is_among other.now.reported r)) }
         ensures relays { IfOk result (λ t. AreRelays t.reported) }
         ensures offers { IfOk result (λ t. (i : Id) (r : ℕ) → is_among (relays_of t.offers i) r ≡ (is_among (relays_of self.now.offers i) r || is_among (relays_of other.now.offers i) r)) }
         ensures table { IfOk result IsTable }
     {
-        let offers = combined(self.alloc, Keep::Either, &self.offers, &other.offers, count)?;
+        let mut pairs = Pairs::new(self.alloc, self.known(), other.known(), room)?;
+        let offers = combined(
+            self.alloc,
+            Keep::Either,
+            &self.offers,
+            &other.offers,
+            room,
+            &mut pairs,
+        )?;
+        let guess = pairs.guess(self.alloc, &offers)?;
         let reported = self.reported.union(other.reported);
-        Ok(OfferTable::of_list(self.alloc, reported, offers))
+        OfferTable::of_guess(self.alloc, reported, offers, guess)
     }
 }
 

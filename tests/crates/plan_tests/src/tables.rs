@@ -1,7 +1,7 @@
 //! Tables of a few reports, each call with memory enough.
 
 use neg_codec::Id;
-use offer_table::{BaseFault, Bases, Groups, OfferFault, OfferTable, RelaySet};
+use offer_table::{BaseFault, Bases, OfferFault, OfferTable, RelaySet};
 use sharing::RELAYS;
 use std::alloc::{AllocError, Global};
 use std::collections::BTreeSet;
@@ -69,30 +69,28 @@ fn is_set(set: RelaySet, relays: &[u16]) -> bool {
 }
 
 /// Whether a group has just these relays, and the ids of just these numbers.
-fn is_group(groups: &Groups, k: usize, relays: &[u16], numbers: &[u32]) -> bool {
-    if k >= groups.len() {
+fn is_group(table: &OfferTable, k: usize, relays: &[u16], numbers: &[u32]) -> bool {
+    if k >= table.groups() {
         return false;
     }
-    let (set, ids) = groups.at(k);
+    let (set, ids) = table.group_at(k);
     is_set(set, relays) && ids.iter().copied().eq(numbers.iter().map(|n| numbered(*n)))
 }
 
 /// Whether a table has just these groups.
-fn are_groups(table: &OfferTable, wanted: &[(&[u16], &[u32])]) -> Result<bool, AllocError> {
-    let (groups, _) = table.groups()?;
+fn are_groups(table: &OfferTable, wanted: &[(&[u16], &[u32])]) -> bool {
     for (k, group) in wanted.iter().enumerate() {
-        if !is_group(&groups, k, group.0, group.1) {
-            return Ok(false);
+        if !is_group(table, k, group.0, group.1) {
+            return false;
         }
     }
-    Ok(groups.len() == wanted.len())
+    table.groups() == wanted.len()
 }
 
 /// Whether the numbers of the groups are those of the three.
-fn are_numbered(table: &OfferTable) -> Result<bool, AllocError> {
+fn are_numbered(table: &OfferTable) -> bool {
     let wanted = [0, 0, 0, 0, 0, 0, 0, 0, 0, 0, 2, 2, 2, 2, 2, 1, 1, 1];
-    let (_, numbers) = table.groups()?;
-    Ok(numbers.as_slice() == wanted.as_slice() && table.list().len() == 18)
+    table.numbers() == wanted.as_slice() && table.list().len() == 18
 }
 
 /// Whether sets stand in the order of their highest relays.
@@ -181,7 +179,7 @@ fn refused_reports(rt: HostRuntime) -> Result<(), Fail> {
 #[test]
 fn groups_of_equal_relays(rt: HostRuntime) -> Result<(), Fail> {
     let table = three_groups(rt.alloc())?;
-    assert!(rt; are_numbered(&table)?);
+    assert!(rt; are_numbered(&table));
     assert!(rt;
         are_groups(
             &table,
@@ -190,14 +188,14 @@ fn groups_of_equal_relays(rt: HostRuntime) -> Result<(), Fail> {
                 (&[255], &[15, 16, 17]),
                 (&[1, 255], &[10, 11, 12, 13, 14])
             ]
-        )?
+        )
     );
     assert!(rt;
         is_set(table.reported(), &[0, 1, 255])
             && is_set(table.offers(&numbered(12)), &[1, 255])
             && is_set(table.offers(&numbered(18)), &[])
     );
-    assert!(rt; are_groups(&OfferTable::empty(rt.alloc()), &[])?);
+    assert!(rt; are_groups(&OfferTable::empty(rt.alloc()), &[]));
     Ok(())
 }
 
@@ -230,7 +228,7 @@ fn strikes_take_single_offers(rt: HostRuntime) -> Result<(), Fail> {
                 (&[255], &[12, 15, 16]),
                 (&[1, 255], &[10, 11, 13, 14])
             ]
-        )?
+        )
     );
     Ok(())
 }
@@ -256,7 +254,7 @@ fn many_offers_are_left_out_at_once(rt: HostRuntime) -> Result<(), Fail> {
                 (&[255], &[17]),
                 (&[1, 255], &[10, 11, 12, 13, 14])
             ]
-        )?
+        )
     );
     Ok(())
 }
@@ -277,7 +275,7 @@ fn an_id_on_each_relay(rt: HostRuntime) -> Result<(), Fail> {
     for relay in 0..RELAYS {
         table = merged(table, report(rt.alloc(), relay, 1, 1)?)?;
     }
-    assert!(rt; has_all(table.offers(&numbered(1))) && table.groups()?.0.len() == 1);
+    assert!(rt; has_all(table.offers(&numbered(1))) && table.groups() == 1);
     Ok(())
 }
 
@@ -286,7 +284,7 @@ fn known_offers_make_a_table(rt: HostRuntime) -> Result<(), Fail> {
     let known = three_groups(rt.alloc())?;
     let offers = known.list().to_vec(rt.alloc())?;
     let table = OfferTable::of_sets(rt.alloc(), offers)?;
-    assert!(rt; is_set(table.reported(), &[0, 1, 255]) && are_numbered(&table)?);
+    assert!(rt; is_set(table.reported(), &[0, 1, 255]) && are_numbered(&table));
     Ok(())
 }
 

@@ -3,8 +3,8 @@ use Rattle.offer_table.specs.Table.{Table, new_in}
 use Rattle.offer_table.proofs.Runs.{Offers}
 use Rattle.offer_table.proofs.table.OfferTable.joined.Goals as goal
 
-pub of_list-requires : goal.of_list-requires
-of_list-requires c =
+pub of_guess-requires : goal.of_guess-requires
+of_guess-requires c =
     let mine : c.self.inside.offers.items ≡ c.args.self.now.offers = ap (λ (t : Table). t.offers) c.self.view_is in
     let theirs : c.other.inside.offers.items ≡ c.args.other.now.offers = ap (λ (t : Table). t.offers) c.other.view_is in
     record {

@@ -31,8 +31,8 @@ whole relays relay ids offers ordered one ascend few e =
       few = omega (arith, length-each_with relays ids);
     })
 
-pub of_list-requires : goal.of_list-requires
-of_list-requires c =
+pub of_guess-requires : goal.of_guess-requires
+of_guess-requires c =
     let start = c.into_iter-id-iterator.ensures.into_iter_gives in
     let end = iter_end deref c.args.need.now.keys c.loop-id.yielded c.into_iter-id-iterator.result c.loop-id.id-iterator c.next.new.self c.next.result start.0 c.loop-id.yielded_by c.in-None.is c.next.ensures.steps in
     whole c.one-relays.result c.args.relay c.args.need.now.keys c.loop-id.offers.items c.one-relays.ensures.relays c.one-relays.ensures.value
@@ -40,12 +40,12 @@ of_list-requires c =
 
 pub returns-clause-reported : goal.returns-clause-reported
 returns-clause-reported c =
-    ap (λ (t : Table). t.reported) c.of_list.ensures ∙ c.one-relays.ensures.value
+    ap (λ (t : Table). t.reported) c.in_ok-of_guess.ensures ∙ c.one-relays.ensures.value
 
 pub returns-clause-offers : goal.returns-clause-offers
 returns-clause-offers c =
     let start = c.into_iter-id-iterator.ensures.into_iter_gives in
     let end = iter_end deref c.args.need.now.keys c.loop-id.yielded c.into_iter-id-iterator.result c.loop-id.id-iterator c.next.new.self c.next.result start.0 c.loop-id.yielded_by c.in-None.is c.next.ensures.steps in
-    ap (λ (t : Table). t.offers) c.of_list.ensures
+    ap (λ (t : Table). t.offers) c.in_ok-of_guess.ensures
     ∙ c.loop-id.invariant ∙ ap (each_with c.one-relays.result) end.0
     ∙ ap (λ rs. each_with rs c.args.need.now.keys) c.one-relays.ensures.value
