@@ -1,5 +1,5 @@
 -- Messages that are said one by one.
-use Rattle.std.proofs.Common.{◌≡◌, false, List, ◌∷◌, ◌++◌, map, Option, Some, refl, sym, ap, ◌∙◌, subst}
+use Rattle.std.proofs.Common.{◌≡◌, false, List, ◌++◌, map, Option, Some, ap, ◌∙◌, subst}
 use Rattle.std.specs.Prelude.{option_to_list}
 use Rattle.nostr_wire.specs.declared.messages.FromRelay.{FromRelay}
 use Rattle.nostr_wire.specs.Forms.{relay_form}
