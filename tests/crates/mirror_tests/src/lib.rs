@@ -22,3 +22,5 @@ mod nexts;
 mod rounds;
 #[cfg(test)]
 mod stores;
+#[cfg(test)]
+mod wires;

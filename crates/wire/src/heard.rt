@@ -1,0 +1,27 @@
+//! What was read.
+
+/// What a frame says.
+#[derive(Debug, Drop)]
+pub enum Heard {
+    /// It is or ends this text.
+    Text(String),
+    /// It is or ends another message: bytes, a ping or a pong.
+    Other,
+    /// The other side closes.
+    Close,
+    /// It is a part of a message, and not the last one.
+    Part,
+    /// Nothing: it hasn't come whole yet.
+    Nothing,
+}
+
+/// A message.
+#[derive(Debug, Drop)]
+pub enum Message {
+    /// A text.
+    Text(String),
+    /// Bytes, a ping or a pong.
+    Other,
+    /// The other side closes.
+    Close,
+}
