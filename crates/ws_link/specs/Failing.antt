@@ -8,7 +8,7 @@ use Rattle.mirror_core.specs.declared.source.SourceFault.{SourceFault}
 use Rattle.mirror_core.specs.declared.source.SourceFault.TheVariants as source
 use Rattle.ws_socket.specs.declared.fault.LinkFault.{LinkFault}
 use Rattle.ws_socket.specs.declared.fault.LinkFault.TheVariants.{Link, Refused, Wire, TooManyOthers, Memory}
-use Rattle.ws_link.specs.Wired.{Wired, failed_by}
+use Rattle.ws_link.specs.Wired.{Wired, failed_by, with_bytes_of}
 
 abbrev pub answer_of : LinkFault → PeerFault
 answer_of Memory = peer.Memory
@@ -24,10 +24,10 @@ gives (Refused text) = source.Failed
 gives Wire = source.Failed
 gives TooManyOthers = source.Failed
 
--- a question failed by a fault of the link
+-- a question failed by a fault of the link, and what the stream gave and took may be more
 abbrev pub FailsBy : Wired Exchange → Wired Exchange → PeerFault → Type 0
-FailsBy old new e = (f : LinkFault) × (new ≡ failed_by f old) × (e ≡ answer_of f)
+FailsBy old new e = (f : LinkFault) × (new ≡ failed_by f (with_bytes_of new old)) × (e ≡ answer_of f)
 
 -- the same for a fetch
 abbrev pub MissesBy : Wired Fetching → Wired Fetching → SourceFault → Type 0
-MissesBy old new e = (f : LinkFault) × (new ≡ failed_by f old) × (e ≡ gives f)
+MissesBy old new e = (f : LinkFault) × (new ≡ failed_by f (with_bytes_of new old)) × (e ≡ gives f)

@@ -1,2 +1,5 @@
 pub mod Wired
 pub mod Failing
+pub mod Spoken
+pub mod Held
+pub mod Parts

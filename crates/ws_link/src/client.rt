@@ -1,16 +1,24 @@
 //! The client's side of a link.
-ghost use Rattle.std.specs.Prelude.{◌≡◌, IfOk, IfErr, true};
+ghost use Rattle.std.specs.Prelude.{◌≡◌, IfOk, IfErr, IfSome, OnOk, true};
 ghost use Rattle.nostr_wire.specs.Elements.{is_sub};
+ghost use Rattle.nostr_wire.specs.Forms.{client_form, relay_form};
+ghost use Rattle.nostr_wire.specs.Writing.{text_of};
+ghost use Rattle.wire.specs.Line.{talk_of};
+ghost use Rattle.wire.specs.Talk.{Says, Grows};
 ghost use Rattle.ws_socket.specs.Faults.{IsOfStream};
+ghost use Rattle.ws_link.specs.Spoken.{IsClient, IsOnly, MayHear};
 
+use crate::head::HeadStream;
 use crate::notes::Notes;
 use nostr_event::Text;
 use nostr_wire::{FromClient, FromRelay, Sub, WireFault, read_relay, write_client};
 use std::alloc::Global;
 use std::io::{Read, Write};
 use std::random::RandomSource;
-use tungstenite::handshake::client::request_of;
-use tungstenite::{HandshakeError, MaskKeys, Message, RandomKeys, Utf8Bytes, WebSocket, client};
+use tungstenite::handshake::client::{request_of, start};
+use tungstenite::{Error as SocketError, HandshakeError, MaskKeys, NoMask, RandomKeys, Role};
+use websocket::protocol::WebSocketConfig as FrameConfig;
+use wire::{Message, Wire};
 use ws_socket::{LinkFault, MANY_BYTES, Reason, config};
 
 /// Does the client's handshake, which names this host and path. The masking keys come from `source`.
@@ -21,19 +29,66 @@ pub fn connected<S: Read + Write + Drop, R: RandomSource + Drop>(
     host: &str,
     path: &str,
     notes: &mut Notes,
-) -> Result<WebSocket<S, RandomKeys<R>>, LinkFault>
-    ensures { IfErr result IsOfStream }
+) -> Result<Wire<S, RandomKeys<R>>, LinkFault>
+    ensures client { IfOk result (λ w. IsClient (talk_of w)) }
+    ensures err { IfErr result IsOfStream }
 {
     let uri = format!(in alloc; "ws://{host}{path}")?;
-    let request = match request_of(alloc, uri.as_str()) {
+    let HeadStream { stream, rest, .. } = greeted(
+        alloc,
+        &source,
+        HeadStream::new(alloc, stream),
+        uri.as_str(),
+        notes,
+    )?;
+    let keys = RandomKeys::new(source);
+    let wire = Wire::new(
+        alloc,
+        stream,
+        rest,
+        keys,
+        Role::Client,
+        limits(),
+        MANY_BYTES,
+    )?;
+    Ok(wire)
+}
+
+/// The limits of messages and frames.
+fn limits() -> FrameConfig {
+    let limits = config(MANY_BYTES);
+    FrameConfig {
+        max_message_size: limits.max_message_size,
+        max_frame_size: limits.max_frame_size,
+        accept_unmasked_frames: limits.accept_unmasked_frames,
+    }
+}
+
+/// Does the client's handshake, with a nonce from `source`.
+fn greeted<S: Read + Write + Drop, R: RandomSource>(
+    alloc: Global,
+    source: &R,
+    stream: HeadStream<S>,
+    uri: &str,
+    notes: &mut Notes,
+) -> Result<HeadStream<S>, LinkFault>
+    ensures { IfErr result IsOfStream }
+{
+    let request = match request_of(alloc, uri) {
         Ok(request) => request,
         Err(error) => return Err(notes.failed(error)),
     };
-    match client(alloc, source, request, stream) {
-        Ok((mut socket, _response)) => {
-            socket.set_config(config(MANY_BYTES));
-            Ok(socket)
-        }
+    let mut nonce = [0; 16];
+    if let Err(error) = source.fill_bytes(&mut nonce) {
+        return Err(notes.failed(SocketError::Io(error)));
+    }
+    // No frame is sent yet, so no key is needed.
+    let begun = match start(alloc, nonce, NoMask, request, stream, None) {
+        Ok(begun) => begun,
+        Err(error) => return Err(notes.failed(error)),
+    };
+    match begun.handshake() {
+        Ok((socket, _response)) => Ok(socket.into_inner()),
         Err(HandshakeError::Failure(error)) => Err(notes.failed(error)),
         Err(HandshakeError::Interrupted(_)) => {
             notes.tell(Reason::TimedOut);
@@ -62,44 +117,63 @@ pub fn copy_of(alloc: Global, text: &Text) -> Result<Text, LinkFault>
 }
 
 /// Sends a message.
-pub fn say<S: Read + Write + Drop, K: MaskKeys + Drop>(
+#[tactic(auto, using(wire::proofs::Growing::grows_same))]
+pub fn say<S: Read + Write, K: MaskKeys>(
     alloc: Global,
-    socket: &mut WebSocket<S, K>,
+    wire: &mut Wire<S, K>,
     message: &FromClient,
+    notes: &mut Notes,
+) -> Result<(), LinkFault>
+    ensures said { OnOk result (Says (talk_of wire.old) (talk_of wire.new) (text_of (client_form message.now))) }
+    ensures grows { Grows (talk_of wire.old) (talk_of wire.new) }
+    ensures err { IfErr result IsOfStream }
+{
+    let text = write_client(alloc, message)?;
+    match wire.say(text.as_str()) {
+        Ok(()) => Ok(()),
+        Err(fault) => Err(notes.broken(fault)),
+    }
+}
+
+/// Closes the connection.
+pub fn close<S: Read + Write, K: MaskKeys>(
+    wire: &mut Wire<S, K>,
     notes: &mut Notes,
 ) -> Result<(), LinkFault>
     ensures { IfErr result IsOfStream }
 {
-    let text = Utf8Bytes::from_string(write_client(alloc, message)?)?;
-    match socket.send(Message::Text(text)) {
+    match wire.close() {
         Ok(()) => Ok(()),
-        Err(error) => Err(notes.failed(error)),
+        Err(fault) => Err(notes.broken(fault)),
     }
 }
 
 /// Reads a message. It gives `None` for one that has nothing to do with any call.
-pub fn heard<S: Read + Write + Drop, K: MaskKeys + Drop>(
+pub fn heard<S: Read + Write, K: MaskKeys>(
     alloc: Global,
-    socket: &mut WebSocket<S, K>,
+    wire: &mut Wire<S, K>,
     notes: &mut Notes,
 ) -> Result<Option<FromRelay>, LinkFault>
-    ensures { IfErr result IsOfStream }
+    ensures hears { IfOk result (MayHear (talk_of wire.old) (talk_of wire.new)) }
+    ensures grows { Grows (talk_of wire.old) (talk_of wire.new) }
+    ensures err { IfErr result IsOfStream }
 {
-    match socket.read() {
+    match wire.listen() {
         Ok(Message::Text(text)) => meant(alloc, text.as_str(), notes),
-        Ok(Message::Close(_)) => {
+        Ok(Message::Close) => {
             notes.tell(Reason::Closed);
             Err(LinkFault::Link)
         }
-        Ok(_) => Ok(None),
-        Err(error) => Err(notes.failed(error)),
+        Ok(Message::Other) => Ok(None),
+        Err(fault) => Err(notes.broken(fault)),
     }
 }
 
 /// What a relay says in the text. A message of another name, and an event that is refused, say nothing, and what it says of
 /// itself is noted.
 fn meant(alloc: Global, text: &str, notes: &mut Notes) -> Result<Option<FromRelay>, LinkFault>
-    ensures { IfErr result IsOfStream }
+    ensures only { IfOk result (λ o. IfSome o (λ m. IsOnly (relay_form m) text.now)) }
+    ensures err { IfErr result IsOfStream }
 {
     match read_relay(alloc, text) {
         Ok(FromRelay::Notice { text }) => {

@@ -2,6 +2,7 @@
 #![tactic(auto)]
 
 mod client;
+mod head;
 mod notes;
 mod peer;
 mod source;

@@ -4,6 +4,7 @@ ghost use Rattle.ws_socket.specs.Faults.{IsOfStream};
 use nostr_event::Text;
 use std::fmt;
 use tungstenite::Error as SocketError;
+use wire::Fault;
 use ws_socket::{LinkFault, Reason, Told};
 
 /// Why a link failed, and what the relay said last that wasn't asked for (`NOTICE` of NIP-01).
@@ -51,6 +52,16 @@ impl Notes {
     {
         self.reason = Some(Reason::of_socket(&error));
         LinkFault::from(error)
+    }
+
+    /// Notes why a wire failed, and gives the fault.
+    pub fn broken(&mut self, fault: Fault) -> LinkFault
+        ensures { IsOfStream result }
+    {
+        match fault {
+            Fault::Stream(error) => self.failed(SocketError::Io(error)),
+            Fault::Frame(error) => self.failed(SocketError::from(error)),
+        }
     }
 }
 

@@ -1,13 +1,19 @@
 //! A peer over a WebSocket.
-ghost use Rattle.std.specs.Prelude.{◌≡◌, ◌+◌, ◌<◌, ◌^◌, ◌-◌, [], ◌∷◌, ◌++◌, IfOk, IfErr, OnErr, true, false, Some, None, Err, Ok};
+ghost use Rattle.std.specs.Prelude.{◌≡◌, ◌+◌, ◌<◌, ◌^◌, ◌-◌, [], ◌∷◌, ◌++◌, IfOk, IfErr, IfSome, OnErr, true, false, Some, None, Err, Ok};
 ghost use Rattle.std.specs.Option.{option_copied};
 ghost use Rattle.neg_session.specs.Exchange.{exchange};
+ghost use Rattle.nostr_wire.specs.Forms.{client_form};
+ghost use Rattle.wire.specs.Line.{talk_of};
+ghost use Rattle.wire.specs.Talk.{Grows};
 ghost use Rattle.ws_socket.specs.Faults.{IsOfStream};
-ghost use Rattle.ws_link.specs.Wired.{Wired, unused, failed_by};
+ghost use Rattle.ws_link.specs.Wired.{Wired, unused, failed_by, with_bytes_of, GoesOn};
 ghost use Rattle.ws_link.specs.Failing.{answer_of, FailsBy};
+ghost use Rattle.ws_link.specs.Spoken.{mirror, asking, Exchanged, WasSpoken};
+ghost use Rattle.ws_link.specs.Parts.{Tells, MayAnswer};
 
-use crate::client::{connected, copy_of, heard, named, say};
+use crate::client::{close, connected, copy_of, heard, named, say};
 use crate::notes::{Explains, Notes};
+use http_server::Log;
 use neg_session::{Pair, Peer, PeerFault};
 use nostr_event::Text;
 use nostr_filter::{Filter, FilterFault};
@@ -16,8 +22,9 @@ use std::alloc::Global;
 use std::io::{Read, Write};
 use std::marker::Model;
 use std::random::RandomSource;
-use tungstenite::{MaskKeys, RandomKeys, WebSocket};
-use ws_socket::{LinkFault, Reason, close};
+use tungstenite::{MaskKeys, RandomKeys};
+use wire::{Trail, Wire};
+use ws_socket::{LinkFault, Reason};
 
 /// The name of the session.
 const NAME: &str = "mirror";
@@ -31,23 +38,39 @@ const MOST_READS: u32 = 1_000;
 pub struct WsPeer<S, K> {
     alloc: Global,
     // None once a call has failed, so that no later question gets an earlier one's answer.
-    socket: Option<WebSocket<S, K>>,
+    wire: Option<Wire<S, K>>,
     // What the first question opens the session with.
     filter: Option<Filter>,
+    // The same, for proofs alone.
+    opens: Log<Filter, bool>,
     pairs: Vec<Pair>,
     failures: u64,
     last_fault: Option<LinkFault>,
     notes: Notes,
+    // What the stream gave and took that is let go.
+    given: Trail,
+    taken: Trail,
 }
 
 impl<S, K> Model for WsPeer<S, K> {
     ghost use Rattle.std.specs.Option.{is_some};
     ghost use Rattle.neg_session.specs.Exchange.{Exchange};
     ghost use Rattle.ws_link.specs.Wired.{Wired};
+    ghost use Rattle.ws_link.specs.Held.{noted, given_by, taken_by, Stands};
 
     ghost Value = { Wired Exchange };
 
-    ghost view = { λ p. record { live = is_some p.socket; log = p.pairs.items; faults = p.failures; last = p.last_fault } };
+    ghost view = { λ p. record {
+      live = is_some p.wire;
+      log = p.pairs.items;
+      faults = p.failures;
+      last = p.last_fault;
+      opens = noted p.opens.items;
+      given = given_by p.wire p.given;
+      taken = taken_by p.wire p.taken;
+    } };
+
+    ghost invariant = { λ p. Stands (noted p.opens.items) p.pairs.items p.filter p.wire p.given p.taken };
 }
 
 impl<S: Read + Write + Drop, R: RandomSource + Drop> WsPeer<S, RandomKeys<R>> {
@@ -60,7 +83,7 @@ impl<S: Read + Write + Drop, R: RandomSource + Drop> WsPeer<S, RandomKeys<R>> {
         host: &str,
         filter: &Filter,
     ) -> Result<WsPeer<S, RandomKeys<R>>, LinkFault>
-        ensures ok { IfOk result (λ p. p ≡ unused true) }
+        ensures ok { IfOk result (λ p. p ≡ unused true (Some filter.now) p.given) }
         ensures err { IfErr result IsOfStream }
     {
         WsPeer::start_at(alloc, source, stream, host, "/", filter, &mut Notes::none())
@@ -76,19 +99,22 @@ impl<S: Read + Write + Drop, R: RandomSource + Drop> WsPeer<S, RandomKeys<R>> {
         filter: &Filter,
         notes: &mut Notes,
     ) -> Result<WsPeer<S, RandomKeys<R>>, LinkFault>
-        ensures ok { IfOk result (λ p. p ≡ unused true) }
+        ensures ok { IfOk result (λ p. p ≡ unused true (Some filter.now) p.given) }
         ensures err { IfErr result IsOfStream }
     {
         let filter = copied(alloc, filter)?;
-        let socket = connected(alloc, source, stream, host, path, notes)?;
+        let wire = connected(alloc, source, stream, host, path, notes)?;
         Ok(WsPeer {
             alloc,
-            socket: Some(socket),
+            wire: Some(wire),
+            opens: Log::new().and(&filter, &true),
             filter: Some(filter),
             pairs: Vec::new(alloc),
             failures: 0,
             last_fault: None,
             notes: Notes::none(),
+            given: Trail::new(),
+            taken: Trail::new(),
         })
     }
 }
@@ -109,23 +135,26 @@ fn copied(alloc: Global, filter: &Filter) -> Result<Filter, LinkFault>
 impl<S: Drop, K: Drop> WsPeer<S, K> {
     /// A peer that can't be reached: every question fails. It takes no memory.
     pub fn unreachable(alloc: Global) -> WsPeer<S, K>
-        ensures { result ≡ unused false }
+        ensures { result ≡ unused false None [] }
     {
         WsPeer::unreachable_by(alloc, Notes::none())
     }
 
     /// The same, where it is known why.
     pub fn unreachable_by(alloc: Global, notes: Notes) -> WsPeer<S, K>
-        ensures { result ≡ unused false }
+        ensures { result ≡ unused false None [] }
     {
         WsPeer {
             alloc,
-            socket: None,
+            wire: None,
             filter: None,
+            opens: Log::new(),
             pairs: Vec::new(alloc),
             failures: 0,
             last_fault: None,
             notes,
+            given: Trail::new(),
+            taken: Trail::new(),
         }
     }
 
@@ -136,9 +165,18 @@ impl<S: Drop, K: Drop> WsPeer<S, K> {
         self.last_fault.as_ref()
     }
 
-    // Notes the fault, after which every question fails. Want of memory is no failure of the peer.
+    /// What it answered was heard: each question that is logged went out as a message of the session, and its answer was read
+    /// behind that, in bytes that the stream took and gave.
+    pub fn always_spoken(&self)
+        ensures { WasSpoken self.now }
+    {
+        let _log = &self.pairs;
+    }
+
+    // Notes the fault. Want of memory is no failure of the peer.
     fn fail(&mut self, fault: LinkFault) -> PeerFault
-        requires { self.old.faults < 2 ^ 64 - 1 }
+        requires few { self.old.faults < 2 ^ 64 - 1 }
+        requires dead { self.old.live ≡ false }
         ensures peer { self.new ≡ failed_by fault self.old }
         ensures answer { result ≡ answer_of fault }
     {
@@ -146,7 +184,6 @@ impl<S: Drop, K: Drop> WsPeer<S, K> {
             LinkFault::Memory => PeerFault::Memory,
             _ => PeerFault::Failed,
         };
-        self.socket = None;
         if answer == PeerFault::Failed {
             self.failures += 1;
         }
@@ -156,30 +193,36 @@ impl<S: Drop, K: Drop> WsPeer<S, K> {
 }
 
 impl<S: Read + Write + Drop, K: MaskKeys + Drop> WsPeer<S, K> {
-    // Asks, and keeps the pair.
+    // Asks, and keeps the pair. Where that fails, the stream is let go.
     fn try_ask(&mut self, question: &[u8]) -> Result<Vec<u8>, LinkFault>
-        ensures ok { IfOk result (λ answer. (self.old.live ≡ true) × (self.new ≡ record self.old { log = self.old.log ++ exchange question.now answer.items ∷ [] })) }
-        ensures err { OnErr result (self.new ≡ self.old) }
+        ensures ok { IfOk result (λ answer. (self.old.live ≡ true) × (self.new ≡ with_bytes_of self.new (record self.old { log = self.old.log ++ exchange question.now answer.items ∷ [] }))) }
+        ensures err { OnErr result (self.new ≡ with_bytes_of self.new (record self.old { live = false })) }
+        ensures grows { GoesOn self.old self.new }
         ensures dead { self.old.live ≡ false → result ≡ Err LinkFault.Link }
     {
-        let alloc = self.alloc;
-        let filter = self.filter.take();
-        let Some(socket) = &mut self.socket else {
+        let Some(mut wire) = self.wire.take() else {
             return Err(LinkFault::Link);
         };
-        say(
-            alloc,
-            socket,
-            &message(alloc, filter, question)?,
+        let asked = ask_over(
+            self.alloc,
+            &mut wire,
+            self.filter.take(),
+            question,
+            &mut self.pairs,
             &mut self.notes,
-        )?;
-        let answer = answer(alloc, socket, &mut self.notes)?;
-        let pair = Pair {
-            asked: question.to_vec(alloc)?,
-            answered: answer.to_vec(alloc)?,
-        };
-        self.pairs.push(pair)?;
-        Ok(answer)
+        );
+        match asked {
+            Ok(answer) => {
+                self.wire = Some(wire);
+                Ok(answer)
+            }
+            Err(fault) => {
+                let (given, taken) = wire.into_trails();
+                self.given = given;
+                self.taken = taken;
+                Err(fault)
+            }
+        }
     }
 
     /// Ends the session, and closes the connection.
@@ -188,33 +231,52 @@ impl<S: Read + Write + Drop, K: MaskKeys + Drop> WsPeer<S, K> {
         ensures err { IfErr result IsOfStream }
     {
         let alloc = self.alloc;
-        let Some(socket) = &mut self.socket else {
+        let Some(wire) = &mut self.wire else {
             return Err(LinkFault::Link);
         };
         let sub = session(alloc)?;
-        say(
-            alloc,
-            socket,
-            &FromClient::NegClose { sub },
-            &mut self.notes,
-        )?;
-        close(socket)
+        say(alloc, wire, &FromClient::NegClose { sub }, &mut self.notes)?;
+        close(wire, &mut self.notes)
     }
+}
+
+/// Asks over the wire, and keeps the pair. The filter opens the session, if there is one.
+#[tactic(auto, using(wire::proofs::Growing::grows_same, wire::proofs::Growing::grows_chain))]
+fn ask_over<S: Read + Write, K: MaskKeys>(
+    alloc: Global,
+    wire: &mut Wire<S, K>,
+    filter: Option<Filter>,
+    question: &[u8],
+    pairs: &mut Vec<Pair>,
+    notes: &mut Notes,
+) -> Result<Vec<u8>, LinkFault>
+    ensures exchanged { IfOk result (λ answer. Exchanged filter (talk_of wire.old) (exchange question.now answer.items) (talk_of wire.new)) }
+    ensures logged { IfOk result (λ answer. pairs.new.items ≡ pairs.old.items ++ exchange question.now answer.items ∷ []) }
+    ensures kept { OnErr result (pairs.new.items ≡ pairs.old.items) }
+    ensures grows { Grows (talk_of wire.old) (talk_of wire.new) }
+{
+    say(alloc, wire, &message(alloc, filter, question)?, notes)?;
+    let answer = answer(alloc, wire, notes)?;
+    let pair = Pair {
+        asked: question.to_vec(alloc)?,
+        answered: answer.to_vec(alloc)?,
+    };
+    pairs.push(pair)?;
+    Ok(answer)
 }
 
 /// The session's name.
 fn session(alloc: Global) -> Result<Sub, LinkFault>
-    ensures { IfErr result IsOfStream }
+    ensures value { IfOk result (λ s. s ≡ mirror) }
+    ensures err { IfErr result IsOfStream }
 {
     named(alloc, NAME)
 }
 
 /// The message of a question: the one that opens the session, if the filter is given, or a further one.
-fn message(
-    alloc: Global,
-    filter: Option<Filter>,
-    question: &[u8],
-) -> Result<FromClient, LinkFault> {
+fn message(alloc: Global, filter: Option<Filter>, question: &[u8]) -> Result<FromClient, LinkFault>
+    ensures { IfOk result (λ m. client_form m ≡ asking filter question.now) }
+{
     let sub = session(alloc)?;
     let message = Bytes::new(question.to_vec(alloc)?);
     Ok(match filter {
@@ -228,30 +290,57 @@ fn message(
 }
 
 /// Reads until the answer, past at most 999 other messages.
-fn answer<S: Read + Write + Drop, K: MaskKeys + Drop>(
+fn answer<S: Read + Write, K: MaskKeys>(
     alloc: Global,
-    socket: &mut WebSocket<S, K>,
+    wire: &mut Wire<S, K>,
     notes: &mut Notes,
-) -> Result<Vec<u8>, LinkFault> {
+) -> Result<Vec<u8>, LinkFault>
+    ensures answers { IfOk result (λ answer. MayAnswer (talk_of wire.old) (talk_of wire.new) (Some answer)) }
+    ensures grows { Grows (talk_of wire.old) (talk_of wire.new) }
+{
     for _read in 0..MOST_READS {
-        if let Some(message) = heard(alloc, socket, notes)? {
-            match part_in(message) {
-                Part::Answer(answer) => return Ok(answer),
-                Part::NegErr(text) => {
-                    notes.tell(Reason::NegErr(copy_of(alloc, &text)?));
-                    return Err(LinkFault::Refused(text));
-                }
-                Part::Closed(text) => {
-                    notes.tell(Reason::ClosedSub(copy_of(alloc, &text)?));
-                    return Err(LinkFault::Refused(text));
-                }
-                Part::Other => {}
-            }
+        match answer_in(alloc, wire, notes)? {
+            Some(answer) => return Ok(answer),
+            None => {}
         }
     }
     notes.tell(Reason::TooManyOthers);
     Err(LinkFault::TooManyOthers)
 }
+
+/// Reads a message, which may be the answer.
+fn answer_in<S: Read + Write, K: MaskKeys>(
+    alloc: Global,
+    wire: &mut Wire<S, K>,
+    notes: &mut Notes,
+) -> Result<Option<Vec<u8>>, LinkFault>
+    ensures answers { IfOk result (MayAnswer (talk_of wire.old) (talk_of wire.new)) }
+    ensures grows { Grows (talk_of wire.old) (talk_of wire.new) }
+{
+    match heard(alloc, wire, notes)? {
+        Some(message) => told(alloc, part_in(message), notes),
+        None => Ok(None),
+    }
+}
+
+/// The answer, if it is told, or why the session was refused.
+fn told(alloc: Global, part: Part, notes: &mut Notes) -> Result<Option<Vec<u8>>, LinkFault>
+    ensures { IfOk result (λ o. IfSome o (λ answer. part ≡ Part.Answer answer)) }
+{
+    match part {
+        Part::Answer(answer) => Ok(Some(answer)),
+        Part::NegErr(text) => {
+            notes.tell(Reason::NegErr(copy_of(alloc, &text)?));
+            Err(LinkFault::Refused(text))
+        }
+        Part::Closed(text) => {
+            notes.tell(Reason::ClosedSub(copy_of(alloc, &text)?));
+            Err(LinkFault::Refused(text))
+        }
+        Part::Other => Ok(None),
+    }
+}
+
 /// What a message says of the session.
 #[derive(Drop)]
 enum Part {
@@ -265,7 +354,9 @@ enum Part {
     Other,
 }
 
-fn part_in(message: FromRelay) -> Part {
+fn part_in(message: FromRelay) -> Part
+    ensures { Tells message result }
+{
     match message {
         FromRelay::NegMsg { sub, message } => {
             if is_ours(&sub) {
@@ -292,7 +383,9 @@ fn part_in(message: FromRelay) -> Part {
     }
 }
 
-fn is_ours(sub: &Sub) -> bool {
+fn is_ours(sub: &Sub) -> bool
+    ensures { result ≡ true → sub.now ≡ mirror }
+{
     sub.as_str() == NAME
 }
 
@@ -328,6 +421,8 @@ impl<S: Read + Write + Drop, K: MaskKeys + Drop> Peer for WsPeer<S, K> {
         ensures becomes { self.old.live ≡ false → self.new.live ≡ false }
         // What else it leaves.
         ensures lives { IfOk result (λ _. (self.old.live ≡ true) × (self.new.live ≡ true) × (self.new.last ≡ self.old.last)) }
+        ensures opens { self.new.opens ≡ self.old.opens }
+        ensures goes_on { GoesOn self.old self.new }
         ensures fault { IfErr result (FailsBy self.old self.new) }
         ensures dead { self.old.live ≡ false → (result ≡ Err PeerFault.Failed) × (self.new.last ≡ Some LinkFault.Link) }
     {

@@ -2,11 +2,13 @@
 ghost use Rattle.std.specs.Prelude.{◌≡◌, ◌+◌, ◌<◌, ◌^◌, ◌-◌, [], ◌∷◌, ◌++◌, IfOk, IfErr, OnErr, true, false, Some, None, Err, Ok};
 ghost use Rattle.std.specs.Option.{option_copied};
 ghost use Rattle.mirror_core.specs.Fetching.{Fetching, fetching, ids_of};
+ghost use Rattle.wire.specs.Line.{talk_of};
+ghost use Rattle.wire.specs.Talk.{Grows};
 ghost use Rattle.ws_socket.specs.Faults.{IsOfStream};
-ghost use Rattle.ws_link.specs.Wired.{Wired, unused, failed_by};
+ghost use Rattle.ws_link.specs.Wired.{Wired, unused, failed_by, with_bytes_of, GoesOn};
 ghost use Rattle.ws_link.specs.Failing.{gives, MissesBy};
 
-use crate::client::{connected, copy_of, heard, named, say};
+use crate::client::{close, connected, copy_of, heard, named, say};
 use crate::notes::{Explains, Notes};
 use mirror_core::{Fetch, Source, SourceFault};
 use neg_codec::Id;
@@ -18,8 +20,9 @@ use std::io::{Read, Write};
 use std::marker::Model;
 use std::random::RandomSource;
 use std::sync::Arc;
-use tungstenite::{MaskKeys, RandomKeys, WebSocket};
-use ws_socket::{LinkFault, Reason, close};
+use tungstenite::{MaskKeys, RandomKeys};
+use wire::{Trail, Wire};
+use ws_socket::{LinkFault, Reason};
 
 /// The name of the subscription.
 const NAME: &str = "fetch";
@@ -33,21 +36,34 @@ const TOO_MANY: usize = 1_000;
 pub struct WsSource<S, K> {
     alloc: Global,
     // None once a call has failed, so that no later fetch gets an earlier one's events.
-    socket: Option<WebSocket<S, K>>,
+    wire: Option<Wire<S, K>>,
     fetches: Vec<Fetch>,
     failures: u64,
     last_fault: Option<LinkFault>,
     notes: Notes,
+    // What the stream gave and took that is let go.
+    given: Trail,
+    taken: Trail,
 }
 
 impl<S, K> Model for WsSource<S, K> {
+    ghost use Rattle.std.specs.Prelude.{None};
     ghost use Rattle.std.specs.Option.{is_some};
     ghost use Rattle.mirror_core.specs.Fetching.{Fetching};
     ghost use Rattle.ws_link.specs.Wired.{Wired};
+    ghost use Rattle.ws_link.specs.Held.{given_by, taken_by};
 
     ghost Value = { Wired Fetching };
 
-    ghost view = { λ s. record { live = is_some s.socket; log = s.fetches.items; faults = s.failures; last = s.last_fault } };
+    ghost view = { λ s. record {
+      live = is_some s.wire;
+      log = s.fetches.items;
+      faults = s.failures;
+      last = s.last_fault;
+      opens = None;
+      given = given_by s.wire s.given;
+      taken = taken_by s.wire s.taken;
+    } };
 }
 
 impl<S: Read + Write + Drop, R: RandomSource + Drop> WsSource<S, RandomKeys<R>> {
@@ -58,7 +74,7 @@ impl<S: Read + Write + Drop, R: RandomSource + Drop> WsSource<S, RandomKeys<R>> 
         stream: S,
         host: &str,
     ) -> Result<WsSource<S, RandomKeys<R>>, LinkFault>
-        ensures ok { IfOk result (λ s. s ≡ unused true) }
+        ensures ok { IfOk result (λ s. s ≡ unused true None s.given) }
         ensures err { IfErr result IsOfStream }
     {
         WsSource::start_at(alloc, source, stream, host, "/", &mut Notes::none())
@@ -73,17 +89,19 @@ impl<S: Read + Write + Drop, R: RandomSource + Drop> WsSource<S, RandomKeys<R>> 
         path: &str,
         notes: &mut Notes,
     ) -> Result<WsSource<S, RandomKeys<R>>, LinkFault>
-        ensures ok { IfOk result (λ s. s ≡ unused true) }
+        ensures ok { IfOk result (λ s. s ≡ unused true None s.given) }
         ensures err { IfErr result IsOfStream }
     {
-        let socket = connected(alloc, source, stream, host, path, notes)?;
+        let wire = connected(alloc, source, stream, host, path, notes)?;
         Ok(WsSource {
             alloc,
-            socket: Some(socket),
+            wire: Some(wire),
             fetches: Vec::new(alloc),
             failures: 0,
             last_fault: None,
             notes: Notes::none(),
+            given: Trail::new(),
+            taken: Trail::new(),
         })
     }
 }
@@ -96,9 +114,10 @@ impl<S: Drop, K: Drop> WsSource<S, K> {
         self.last_fault.as_ref()
     }
 
-    // Notes the fault, after which every fetch fails. Want of memory is no failure of the source.
+    // Notes the fault. Want of memory is no failure of the source.
     fn fail(&mut self, fault: LinkFault) -> SourceFault
-        requires { self.old.faults < 2 ^ 64 - 1 }
+        requires few { self.old.faults < 2 ^ 64 - 1 }
+        requires dead { self.old.live ≡ false }
         ensures source { self.new ≡ failed_by fault self.old }
         ensures answer { result ≡ gives fault }
     {
@@ -106,7 +125,6 @@ impl<S: Drop, K: Drop> WsSource<S, K> {
             LinkFault::Memory => SourceFault::Memory,
             _ => SourceFault::Failed,
         };
-        self.socket = None;
         if answer == SourceFault::Failed {
             self.failures += 1;
         }
@@ -116,28 +134,35 @@ impl<S: Drop, K: Drop> WsSource<S, K> {
 }
 
 impl<S: Read + Write + Drop, K: MaskKeys + Drop> WsSource<S, K> {
-    // Asks for the events, and keeps the ids.
+    // Asks for the events, and keeps the ids. Where that fails, the stream is let go.
     fn try_fetch(&mut self, ids: &[Id]) -> Result<Vec<Arc<Event>>, LinkFault>
-        ensures ok { IfOk result (λ given. (self.old.live ≡ true) × (self.new ≡ record self.old { log = self.old.log ++ fetching ids.now (ids_of given.items) ∷ [] })) }
-        ensures err { OnErr result (self.new ≡ self.old) }
+        ensures ok { IfOk result (λ given. (self.old.live ≡ true) × (self.new ≡ with_bytes_of self.new (record self.old { log = self.old.log ++ fetching ids.now (ids_of given.items) ∷ [] }))) }
+        ensures err { OnErr result (self.new ≡ with_bytes_of self.new (record self.old { live = false })) }
+        ensures grows { GoesOn self.old self.new }
         ensures dead { self.old.live ≡ false → result ≡ Err LinkFault.Link }
     {
-        let alloc = self.alloc;
-        let Some(socket) = &mut self.socket else {
+        let Some(mut wire) = self.wire.take() else {
             return Err(LinkFault::Link);
         };
-        say(alloc, socket, &request(alloc, ids)?, &mut self.notes)?;
-        let events = read_events(alloc, socket, ids, &mut self.notes)?;
-        say(
-            alloc,
-            socket,
-            &FromClient::Close {
-                sub: subscription(alloc)?,
-            },
+        let fetched = fetch_over(
+            self.alloc,
+            &mut wire,
+            ids,
+            &mut self.fetches,
             &mut self.notes,
-        )?;
-        self.fetches.push(Fetch::of(alloc, ids, &events)?)?;
-        Ok(events)
+        );
+        match fetched {
+            Ok(events) => {
+                self.wire = Some(wire);
+                Ok(events)
+            }
+            Err(fault) => {
+                let (given, taken) = wire.into_trails();
+                self.given = given;
+                self.taken = taken;
+                Err(fault)
+            }
+        }
     }
 
     /// Closes the connection.
@@ -145,11 +170,32 @@ impl<S: Read + Write + Drop, K: MaskKeys + Drop> WsSource<S, K> {
         ensures dead { self.live ≡ false → result ≡ Err LinkFault.Link }
         ensures err { IfErr result IsOfStream }
     {
-        match &mut self.socket {
-            Some(socket) => close(socket),
+        match &mut self.wire {
+            Some(wire) => close(wire, &mut self.notes),
             None => Err(LinkFault::Link),
         }
     }
+}
+
+/// Asks for the events over the wire, and keeps the ids.
+#[tactic(auto, using(wire::proofs::Growing::grows_same, wire::proofs::Growing::grows_chain))]
+fn fetch_over<S: Read + Write, K: MaskKeys>(
+    alloc: Global,
+    wire: &mut Wire<S, K>,
+    ids: &[Id],
+    fetches: &mut Vec<Fetch>,
+    notes: &mut Notes,
+) -> Result<Vec<Arc<Event>>, LinkFault>
+    ensures logged { IfOk result (λ given. fetches.new.items ≡ fetches.old.items ++ fetching ids.now (ids_of given.items) ∷ []) }
+    ensures kept { OnErr result (fetches.new.items ≡ fetches.old.items) }
+    ensures grows { Grows (talk_of wire.old) (talk_of wire.new) }
+{
+    say(alloc, wire, &request(alloc, ids)?, notes)?;
+    let events = read_events(alloc, wire, ids, notes)?;
+    let sub = subscription(alloc)?;
+    say(alloc, wire, &FromClient::Close { sub }, notes)?;
+    fetches.push(Fetch::of(alloc, ids, &events)?)?;
+    Ok(events)
 }
 
 /// The subscription's name.
@@ -184,29 +230,22 @@ fn is_due(ids: &[Id], events: &[Arc<Event>], event: &Event) -> bool {
 
 /// Reads until the end of the stored events, past at most 999 other messages. Events that weren't asked for, or came already, are
 /// let go at once, and count among these.
-fn read_events<S: Read + Write + Drop, K: MaskKeys + Drop>(
+#[tactic(auto, using(wire::proofs::Growing::grows_same, wire::proofs::Growing::grows_chain))]
+fn read_events<S: Read + Write, K: MaskKeys>(
     alloc: Global,
-    socket: &mut WebSocket<S, K>,
+    wire: &mut Wire<S, K>,
     ids: &[Id],
     notes: &mut Notes,
-) -> Result<Vec<Arc<Event>>, LinkFault> {
+) -> Result<Vec<Arc<Event>>, LinkFault>
+    ensures grows { Grows (talk_of wire.old) (talk_of wire.new) }
+{
     let mut events = Vec::new(alloc);
     let mut others = 0usize;
     for _read in 0..ids.len().saturating_add(TOO_MANY) {
-        match hear(alloc, socket, notes)? {
-            Part::Event(event) => {
-                if is_due(ids, &events, &event) {
-                    events.push(event)?;
-                } else {
-                    others = others.saturating_add(1);
-                }
-            }
-            Part::End => return Ok(events),
-            Part::Closed(text) => {
-                notes.tell(Reason::ClosedSub(copy_of(alloc, &text)?));
-                return Err(LinkFault::Refused(text));
-            }
-            Part::Other => others = others.saturating_add(1),
+        match read_event(alloc, wire, ids, &mut events, notes)? {
+            Came::Due => {}
+            Came::End => return Ok(events),
+            Came::Other => others = others.saturating_add(1),
         }
         if others >= TOO_MANY {
             break;
@@ -214,6 +253,46 @@ fn read_events<S: Read + Write + Drop, K: MaskKeys + Drop>(
     }
     notes.tell(Reason::TooManyOthers);
     Err(LinkFault::TooManyOthers)
+}
+
+/// What a message was to a fetch.
+#[derive(Clone, Copy)]
+enum Came {
+    /// An event that was due.
+    Due,
+    /// The end of the stored events.
+    End,
+    /// Nothing to do with it.
+    Other,
+}
+
+/// Reads a message, and keeps an event that is due.
+#[tactic(auto, using(wire::proofs::Growing::grows_same, wire::proofs::Growing::grows_chain))]
+fn read_event<S: Read + Write, K: MaskKeys>(
+    alloc: Global,
+    wire: &mut Wire<S, K>,
+    ids: &[Id],
+    events: &mut Vec<Arc<Event>>,
+    notes: &mut Notes,
+) -> Result<Came, LinkFault>
+    ensures grows { Grows (talk_of wire.old) (talk_of wire.new) }
+{
+    match hear(alloc, wire, notes)? {
+        Part::Event(event) => {
+            if is_due(ids, events, &event) {
+                events.push(event)?;
+                Ok(Came::Due)
+            } else {
+                Ok(Came::Other)
+            }
+        }
+        Part::End => Ok(Came::End),
+        Part::Closed(text) => {
+            notes.tell(Reason::ClosedSub(copy_of(alloc, &text)?));
+            Err(LinkFault::Refused(text))
+        }
+        Part::Other => Ok(Came::Other),
+    }
 }
 
 /// A part of what is given.
@@ -229,12 +308,14 @@ enum Part {
 }
 
 /// Reads a part.
-fn hear<S: Read + Write + Drop, K: MaskKeys + Drop>(
+fn hear<S: Read + Write, K: MaskKeys>(
     alloc: Global,
-    socket: &mut WebSocket<S, K>,
+    wire: &mut Wire<S, K>,
     notes: &mut Notes,
-) -> Result<Part, LinkFault> {
-    match heard(alloc, socket, notes)? {
+) -> Result<Part, LinkFault>
+    ensures grows { Grows (talk_of wire.old) (talk_of wire.new) }
+{
+    match heard(alloc, wire, notes)? {
         Some(message) => Ok(part_in(message)),
         None => Ok(Part::Other),
     }
@@ -300,6 +381,7 @@ impl<S: Read + Write + Drop, K: MaskKeys + Drop> Source for WsSource<S, K> {
         ensures becomes { self.old.live ≡ false → self.new.live ≡ false }
         // What else it leaves.
         ensures lives { IfOk result (λ _. (self.old.live ≡ true) × (self.new.live ≡ true) × (self.new.last ≡ self.old.last)) }
+        ensures goes_on { GoesOn self.old self.new }
         ensures fault { IfErr result (MissesBy self.old self.new) }
         ensures dead { self.old.live ≡ false → (result ≡ Err SourceFault.Failed) × (self.new.last ≡ Some LinkFault.Link) }
     {

@@ -218,6 +218,33 @@ fn questions(rt: HostRuntime) -> Result<(), Fail> {
     Ok(())
 }
 
+/// What a question comes to, where the relay answers it together with the handshake, in pieces of so many bytes.
+fn asked_at_once(alloc: Global, size: usize) -> Option<u8> {
+    let mut all = ACCEPTS.to_vec(alloc).ok()?;
+    put_frame(&mut all, 0x89, false, b"beat")?;
+    put_frame(&mut all, 0x81, false, ANSWER.as_bytes())?;
+    let mut parts = Vec::new(alloc);
+    for part in all.as_slice().chunks(size) {
+        parts.push(part.to_vec(alloc).ok()?).ok()?;
+    }
+    let mut sent = Vec::new(alloc);
+    let stream = Played::new(&parts, &mut sent, 0);
+    match WsPeer::start(alloc, Sample, stream, "relay", &Filter::all()) {
+        Ok(peer) => answered(peer),
+        Err(fault) => Some(fault.number()),
+    }
+}
+
+// What comes in one read with the handshake's head is heard.
+#[test]
+fn answers_behind_the_head(rt: HostRuntime) -> Result<(), Fail> {
+    let alloc = rt.alloc();
+    for size in [4, 7, ACCEPTS.len() - 1, ACCEPTS.len(), ACCEPTS.len() + 1, 1_000] {
+        assert_eq!(rt; (size, asked_at_once(alloc, size)), (size, Some(0)));
+    }
+    Ok(())
+}
+
 /// What a relay gives that is asked for both its events.
 const GIVES: [&str; 3] = [
     r##"["EVENT","fetch",{"id":"dcde1a2a9420ced2833ecdf9a0c3feb9cd9b2d277370b065433fc3dab1ae960a","pubkey":"0101010101010101010101010101010101010101010101010101010101010101","created_at":9,"kind":1,"tags":[],"content":"1","sig":"5a5a5a5a5a5a5a5a5a5a5a5a5a5a5a5a5a5a5a5a5a5a5a5a5a5a5a5a5a5a5a5a5a5a5a5a5a5a5a5a5a5a5a5a5a5a5a5a5a5a5a5a5a5a5a5a5a5a5a5a5a5a5a5a"}]"##,

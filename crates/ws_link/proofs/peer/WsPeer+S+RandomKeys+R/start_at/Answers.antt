@@ -1,0 +1,7 @@
+use Rattle.wire.specs.Line.{talk_of}
+use Rattle.ws_link.proofs.Speaking.{stands_first}
+use Rattle.ws_link.proofs.peer.WsPeer+S+RandomKeys+R.start_at.Goals as goal
+
+pub invariant_of-result : goal.invariant_of-result
+invariant_of-result g c =
+    stands_first c.and.result.items c.new-2.result.items (talk_of c.in_ok-wire.wire) c.in_ok-filter.filter (rw c.new.ensures at c.and.ensures) c.new-2.ensures.items c.in_ok-wire.ensures.client

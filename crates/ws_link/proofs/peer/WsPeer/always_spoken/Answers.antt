@@ -1,0 +1,8 @@
+use Rattle.std.proofs.Common.{refl}
+use Rattle.ws_link.proofs.Speaking.{was_spoken}
+use Rattle.ws_link.proofs.peer.WsPeer.always_spoken.Goals as goal
+
+pub returns : goal.returns
+returns g c =
+    let i = c.self.inside in
+    rw (← c.self.view_is) (was_spoken _ i.filter i.wire i.given i.taken refl refl c.self.invariant)
