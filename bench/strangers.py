@@ -168,6 +168,16 @@ def small_objects(port):
     return side_by_side(16, lambda client: asks(client, text), port)
 
 
+def objects_taken(port):
+    """The same in events that are taken."""
+    def say(client, number):
+        asks(client, several(b'{"a":1}', 1 << 30, b'["EVENT",{"a":[', b"]," + compact(event(number))[1:] + b"]"))
+    clients = [Client(port) for _ in range(16)]
+    for number, client in enumerate(clients):
+        say(client, number)
+    return clients
+
+
 def empty_tags(port):
     draft = event(0)
     text = compact(["EVENT", dict(draft, tags=[])])
@@ -242,6 +252,18 @@ def unread(port):
     return client, others
 
 
+def wide_unread(port):
+    """Answers whose messages each have a wide name, of which only the first is read."""
+    writer = Client(port)
+    puts(writer, [event(at) for at in range(80_000)])
+    filters = [{"since": 1_700_000_000 + at, "until": 1_700_004_999 + at} for at in range(0, 80_000, 5_000)]
+    clients = [Client(port) for _ in range(8)]
+    for at, client in enumerate(clients):
+        client.send(req(WIDE + "%02d" % at, *filters))
+        client.read()
+    return writer, clients
+
+
 def filters_asked(port):
     client = Client(port)
     puts(client, [event(at) for at in range(20_000)])
@@ -263,6 +285,7 @@ ROWS = [
     ("filters", "16 clients, 733,000 empty filters each", empty_filters, 400, 3),
     ("small", "16 clients, 275,000 small filters each", small_filters, 400, None),
     ("objects", "16 clients, an event with 275,000 small objects in it each", small_objects, None, None),
+    ("taken", "16 clients, an event that is taken with 275,000 of them each", objects_taken, None, None),
     ("lists", "16 clients, an event of 730,000 empty tags each", empty_tags, 400, None),
     ("nested", "16 clients, 2,200,000 brackets each", nested, 400, None),
     ("sessions", "16 sessions over 50,000 events, picked by a kind", sessions, None, None),
@@ -272,6 +295,7 @@ ROWS = [
     ("announced", "62 clients, 4 MB announced and not sent", announced, None, None),
     ("half", "62 clients, 4 MB sent but for the last byte", half_sent, None, None),
     ("unread", "62 clients, 20 MB asked for and not read", unread, None, None),
+    ("wide", "8 clients, 80,000 events asked for by wide names and not read", wide_unread, None, None),
     ("choosing", "20 requests of 16 filters that few of 20,000 events meet", filters_asked, None, None),
 ]
 

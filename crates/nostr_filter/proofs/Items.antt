@@ -1,14 +1,16 @@
 -- Items of JSON arrays that read as one thing each.
-use Rattle.std.proofs.Common.{◌≡◌, ℕ, zero, suc, ◌<◌, ◌^◌, List, [], ◌∷◌, length, get_or, map, Option, None, Some, option_map, option_and_then, All, nat_lt, true, refl, ap, ◌∙◌, arith}
+use Rattle.std.proofs.Common.{◌≡◌, ℕ, zero, suc, ◌<◌, ◌^◌, List, [], ◌∷◌, length, get_or, map, Option, None, Some, is_some, ◌&&◌, option_map, option_and_then, All, nat_lt, true, refl, ap, ◌∙◌, arith}
 use Rattle.std.proofs.lemmas.List.{get_or-map, length-map}
 use Rattle.std.proofs.lemmas.List.Elements.{All-head, All-tail}
 use Rattle.std.proofs.lemmas.Bool.{lt-ltb}
+use Rattle.std.specs.List.{list_all}
 use Rattle.hex.specs.Hex.{encode_lower}
 use Rattle.serde_json.specs.Data.{Data}
+use Rattle.serde_json.specs.Find.{as_str}
 use Rattle.serde_json.specs.View.{view, items_view}
 use Rattle.serde_json.specs.declared.value.Value.{Value}
 use Rattle.nostr_event.specs.EventView.{IsBytesOf}
-use Rattle.nostr_filter.specs.FilterJson.{each_item, texts_of, texts_data, kinds_of, kinds_data, hex_texts, hex_data}
+use Rattle.nostr_filter.specs.FilterJson.{each_item, kind_of, texts_of, texts_data, kinds_of, kinds_data, hex_texts, hex_data}
 
 pub each_some : {X : Type 0} (p : Data → Option X) (vs : List Value) (xs : List X) → map (λ v. p (view v)) vs ≡ map Some xs → each_item p (items_view vs) ≡ Some xs
 each_some p [] [] e = refl
@@ -27,6 +29,25 @@ pub each_none : {X : Type 0} (p : Data → Option X) (vs : List Value) (i : ℕ)
 each_none p [] i d below h = absurd (omega arith)
 each_none p (v ∷ vs) zero d below h = rw h refl
 each_none p (v ∷ vs) (suc i) d below h = rw (each_none p vs i d (omega arith) h) (none_after (p (view v)))
+
+some_more : {X : Type 0} (o : Option X) (r : Option (List X)) → (is_some o && is_some r) ≡ is_some (option_and_then (λ x. option_map (λ (xs : List X). x ∷ xs) r) o)
+some_more None r = refl
+some_more (Some x) None = refl
+some_more (Some x) (Some xs) = refl
+
+each_all : {X : Type 0} (p : Data → Option X) (vs : List Value) → list_all (λ v. is_some (p (view v))) vs ≡ is_some (each_item p (items_view vs))
+each_all p [] = refl
+each_all p (v ∷ vs) = ap (λ b. is_some (p (view v)) && b) (each_all p vs) ∙ some_more (p (view v)) (each_item p (items_view vs))
+
+pub strings_all : (vs : List Value) → list_all (λ v. is_some (as_str (view v))) vs ≡ is_some (each_item as_str (items_view vs))
+strings_all vs = each_all as_str vs
+
+pub kinds_all : (vs : List Value) → list_all (λ v. is_some (kind_of (view v))) vs ≡ is_some (each_item kind_of (items_view vs))
+kinds_all vs = each_all kind_of vs
+
+pub given_some : {X : Type 0} (o : Option X) → is_some (option_map Some o) ≡ is_some o
+given_some None = refl
+given_some (Some x) = refl
 
 pub texts_back : (texts : List (List ℕ)) → texts_of (texts_data texts) ≡ Some texts
 texts_back [] = refl

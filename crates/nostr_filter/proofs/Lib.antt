@@ -1,4 +1,5 @@
 pub mod Bare
+pub mod Hexes
 pub mod Items
 pub mod Laws
 pub mod Membership

@@ -7,12 +7,12 @@ use Rattle.nostr_filter.specs.declared.fault.FilterFault.{FilterFault}
 use Rattle.nostr_filter.specs.declared.fault.FilterFault.TheVariants.{Shape, Memory}
 use Rattle.nostr_filter.specs.declared.reading.Shapes.{Shapes}
 use Rattle.nostr_filter.specs.Tags.{letters}
-use Rattle.nostr_filter.specs.FilterJson.{HasShapes, IsHexAt, All32, Refuses, field, texts_of, hex_texts, first_failing, tag_tests, named_tests, shape_tests}
+use Rattle.nostr_filter.specs.FilterJson.{HasShapes, IsHexAt, All32, Passes, Refuses, field, texts_of, hex_texts, first_failing, tag_tests, named_tests, shape_tests}
 use Rattle.nostr_filter.proofs.TagReading.{read_passes, failing_later, failing_earlier}
 
-pub refuse_or : (d : Data) (e : FilterFault) (f : FilterField) (P : Type 0) → is_some (as_object d) ≡ true → (e ≡ Memory) ⊎ ((e ≡ Shape f) × P) → (P → first_failing (shape_tests d) ≡ Some f) → Refuses d e
-refuse_or d e f P object (inl memory) shows = rw memory object
-refuse_or d e f P object (inr h) shows = rw (h.0) (shows h.1)
+pub refuse_or : (d : Data) (e : FilterFault) (f : FilterField) (P : Type 0) → Passes d → (e ≡ Memory) ⊎ ((e ≡ Shape f) × P) → (P → first_failing (shape_tests d) ≡ Some f) → Refuses d e
+refuse_or d e f P passes (inl memory) shows = rw memory passes
+refuse_or d e f P passes (inr h) shows = rw (h.0) (shows h.1)
 
 pub tags_refuse : (d : Data) (f : FilterField) → is_some (as_object d) ≡ true → first_failing (tag_tests letters d) ≡ Some f → first_failing (shape_tests d) ≡ Some f
 tags_refuse d f object fails = rw object (failing_earlier (tag_tests letters d) (named_tests d) f fails)

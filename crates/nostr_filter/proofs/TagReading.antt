@@ -37,6 +37,23 @@ pub test_fails : (xs : List ℕ) (d : Data) (i x : ℕ) → i < length xs → ge
     → first_failing (tag_tests (drop i xs) d) ≡ Some (Tag x)
 test_fails xs d i x below at found = rw (drop_more xs i 0 below, at, found) refl
 
+-- the same for what is only tested
+pub passed_step : (xs : List ℕ) (d : Data) (i x : ℕ) → i < length xs → get_or xs i 0 ≡ x → is_some (field texts_of (tag_name x) d) ≡ true
+    → first_failing (tag_tests (drop i xs) d) ≡ first_failing (tag_tests (drop (i + 1) xs) d)
+passed_step xs d i x below at passed = rw (drop_more xs i 0 below, at, passed) refl
+
+pub failed_step : (xs : List ℕ) (d : Data) (i x : ℕ) → i < length xs → get_or xs i 0 ≡ x → is_some (field texts_of (tag_name x) d) ≡ false
+    → first_failing (tag_tests (drop i xs) d) ≡ Some (Tag x)
+failed_step xs d i x below at failed = rw (drop_more xs i 0 below, at, failed) refl
+
+with_none : (x : ℕ) (rest : Option (List TagCondition)) → option_map (with_condition x None) rest ≡ rest
+with_none x None = refl
+with_none x (Some cs) = refl
+
+pub missing_step : (xs : List ℕ) (d : Data) (i x : ℕ) → i < length xs → get_or xs i 0 ≡ x → field texts_of (tag_name x) d ≡ Some None
+    → conditions_of (drop i xs) d ≡ conditions_of (drop (i + 1) xs) d
+missing_step xs d i x below at found = read_step xs d i x None below at found ∙ with_none x (conditions_of (drop (i + 1) xs) d)
+
 -- ---- what was read
 
 among_at : (x : ℕ) (xs : List ℕ) (values : Option (List (List ℕ))) (rest : Option (List TagCondition)) (cs : List TagCondition)

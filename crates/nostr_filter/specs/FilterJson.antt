@@ -109,6 +109,14 @@ shape_tests d = (Object, is_some (as_object d)) ∷ (tag_tests letters d ++ name
 abbrev pub IsHexAt : List ℕ → Data → Type 0
 IsHexAt name d = (values : Option (List (List ℕ))) × All32 values × (field texts_of name d ≡ Some (option_map hex_texts values))
 
+-- the value is such a text
+abbrev pub IsHex : Data → Type 0
+IsHex d = (bytes : List ℕ) × IsBytesOf 32 bytes × (as_str d ≡ Some (encode_lower bytes))
+
+-- each item is one
+abbrev pub AreHex : Items → Type 0
+AreHex ds = (values : List (List ℕ)) × All (IsBytesOf 32) values × (each_item as_str ds ≡ Some (hex_texts values))
+
 -- the first field, in the byte order of the names, with another text
 abbrev pub IsFirstNotHex : Data → FilterField → Type 0
 IsFirstNotHex d Object = ⊥
@@ -120,11 +128,15 @@ IsFirstNotHex d Limit = ⊥
 IsFirstNotHex d Since = ⊥
 IsFirstNotHex d Until = ⊥
 
--- the fault f is the first that d has; want of memory is told of an object alone
+-- all tests are passed
+abbrev pub Passes : Data → Type 0
+Passes d = (first_failing (shape_tests d) ≡ None) × IsHexAt (codes "authors") d × IsHexAt (codes "ids") d
+
+-- the fault f is the first that d has; want of memory is told only where there is none
 abbrev pub Refuses : Data → FilterFault → Type 0
 Refuses d (Shape f) = first_failing (shape_tests d) ≡ Some f
 Refuses d (Hex f) = (first_failing (shape_tests d) ≡ None) × IsFirstNotHex d f
-Refuses d Memory = is_some (as_object d) ≡ true
+Refuses d Memory = Passes d
 
 -- ---- what is written
 

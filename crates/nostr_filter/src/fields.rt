@@ -43,7 +43,7 @@ fn kinds_in(alloc: Global, values: &[Value]) -> Result<Kinds, FilterFault>
     Ok(Kinds::searchable(alloc, kinds)?)
 }
 
-fn kind_at(value: &Value) -> Option<u16>
+pub fn kind_at(value: &Value) -> Option<u16>
     ensures { result ≡ kind_of (view value.now) }
 {
     match value.as_u64() {

@@ -11,6 +11,7 @@ mod members;
 mod order;
 mod reading;
 mod sizes;
+mod tested;
 mod writing;
 
 pub use choice::{Rank, choose, cut, put_in_order, rank_at};

@@ -1,14 +1,16 @@
 // A filter read from its JSON object.
-ghost use Rattle.std.specs.Prelude.{◌≡◌, ◌≢◌, ℕ, Some, IfOk, IfErr, IsTrue, codes};
+ghost use Rattle.std.specs.Prelude.{◌≡◌, ◌≢◌, ◌⊎◌, ℕ, [], Some, false, IfOk, IfErr, IsTrue, codes};
 ghost use Rattle.serde_json.specs.Data.{object, no_members};
 ghost use Rattle.serde_json.specs.View.{view};
 ghost use Rattle.nostr_filter.specs.declared.filter.Filter.{Filter as FilterView};
-ghost use Rattle.nostr_filter.specs.FilterJson.{Reads, Refuses, HasShapes};
+ghost use Rattle.nostr_filter.specs.FilterJson.{conditions_of, first_failing, tag_tests, Passes, Reads, Refuses, HasShapes};
+ghost use Rattle.nostr_filter.specs.Tags.{letters};
 
-use crate::conditions::{Kinds, TagConditions, Texts};
+use crate::conditions::{Kinds, TagCondition, TagConditions, Texts};
 use crate::fault::{FilterFault, FilterField};
 use crate::fields::{bytes_of, conditions_at, kinds_at, texts_at, whole_at};
 use crate::filter::Filter;
+use crate::tested::tested;
 use serde_json::Value;
 use std::alloc::Global;
 
@@ -24,15 +26,35 @@ pub struct Shapes {
     pub until: Option<u64>,
 }
 
-// The fields, or the first of another shape.
-fn shapes_of(alloc: Global, value: &Value) -> Result<Shapes, FilterFault>
+// The conditions on tags, if there are any.
+fn conditions_in(
+    alloc: Global,
+    value: &Value,
+    are_there: bool,
+) -> Result<Vec<TagCondition>, FilterFault>
+    requires { are_there ≡ false → conditions_of letters (view value.now) ≡ Some [] }
+    ensures ok { IfOk result (λ v. conditions_of letters (view value.now) ≡ Some v.items) }
+    ensures err { IfErr result (λ e. (e ≡ FilterFault.Memory)
+        ⊎ ((x : ℕ) × (e ≡ FilterFault.Shape (FilterField.Tag x)) × (first_failing (tag_tests letters (view value.now)) ≡ Some (FilterField.Tag x)))) }
+{
+    if are_there {
+        conditions_at(alloc, value)
+    } else {
+        Ok(Vec::new(alloc))
+    }
+}
+
+// The fields of a value that passes all tests.
+fn shapes_of(alloc: Global, value: &Value, is_tagged: bool) -> Result<Shapes, FilterFault>
+    requires passes { Passes (view value.now) }
+    requires tagged { is_tagged ≡ false → conditions_of letters (view value.now) ≡ Some [] }
     ensures ok { IfOk result (λ s. HasShapes (view value.now) s) }
     ensures err { IfErr result (λ f. Refuses (view value.now) f) }
 {
     if !value.is_object() {
         return Err(FilterFault::Shape(FilterField::Object));
     }
-    let tags = conditions_at(alloc, value)?;
+    let tags = conditions_in(alloc, value, is_tagged)?;
     let authors = texts_at(alloc, value, FilterField::Authors, "authors")?;
     let ids = texts_at(alloc, value, FilterField::Ids, "ids")?;
     let kinds = kinds_at(alloc, value, "kinds")?;
@@ -71,7 +93,9 @@ fn read_filter(alloc: Global, value: &Value) -> Result<Filter, FilterFault>
         // Its fields needn't be looked for.
         return Ok(Filter::all());
     }
-    let shapes = shapes_of(alloc, value)?;
+    // Only what passes the tests is copied, so that want of memory is told of nothing else.
+    let is_tagged = tested(value)?;
+    let shapes = shapes_of(alloc, value, is_tagged)?;
     let authors = bytes_of(alloc, &shapes.authors, FilterField::Authors)?;
     let ids = bytes_of(alloc, &shapes.ids, FilterField::Ids)?;
     Ok(Filter {

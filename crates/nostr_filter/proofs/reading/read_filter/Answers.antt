@@ -11,7 +11,7 @@ returns-in_err-authors-clause-err c =
     let d = view c.args.value.now in
     let h = c.in_ok-shapes.ensures.ok in
     rw (p.1, p.2) (elim c.in_err-authors.ensures.err [
-      | inl memory ↦ rw memory h.object
+      | inl memory ↦ rw memory c.in_ok-is_tagged.ensures.passes
       | inr e ↦ rw (e.0) (shapes_pass d _ h, not_hex_at (codes "authors") d _ h.authors e.1)
     ])
 
@@ -22,7 +22,7 @@ returns-in_err-ids-clause-err c =
     let h = c.in_ok-shapes.ensures.ok in
     let a = c.in_ok-authors.ensures.ok in
     rw (p.1, p.2) (elim c.in_err-ids.ensures.err [
-      | inl memory ↦ rw memory h.object
+      | inl memory ↦ rw memory c.in_ok-is_tagged.ensures.passes
       | inr e ↦ rw (e.0) (shapes_pass d _ h, (hex_at (codes "authors") d _ _ h.authors a.0 a.1, not_hex_at (codes "ids") d _ h.ids e.1))
     ])
 

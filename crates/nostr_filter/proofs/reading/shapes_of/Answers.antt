@@ -14,7 +14,7 @@ returns-in_err-tags-clause-err c =
     let d = view c.args.value.now in
     let object : is_some (as_object d) ≡ true = search rules in
     rw (p.1, p.2) (elim c.in_err-tags.ensures.err [
-      | inl memory ↦ rw memory object
+      | inl memory ↦ rw memory c.requires.passes
       | inr h ↦ rw (h.1) (tags_refuse d _ object h.2)
     ])
 
@@ -24,7 +24,7 @@ returns-in_err-authors-clause-err c =
     let d = view c.args.value.now in
     let object : is_some (as_object d) ≡ true = search rules in
     let passed = read_passes letters d _ c.in_ok-tags.ensures.ok in
-    rw (p.1, p.2) (refuse_or d _ Authors _ object c.in_err-authors.ensures.err (λ none. named_refuse d (Some Authors) object passed (rw (none) refl)))
+    rw (p.1, p.2) (refuse_or d _ Authors _ c.requires.passes c.in_err-authors.ensures.err (λ none. named_refuse d (Some Authors) object passed (rw (none) refl)))
 
 pub returns-in_err-ids-clause-err : goal.returns-in_err-ids-clause-err
 returns-in_err-ids-clause-err c =
@@ -32,7 +32,7 @@ returns-in_err-ids-clause-err c =
     let d = view c.args.value.now in
     let object : is_some (as_object d) ≡ true = search rules in
     let passed = read_passes letters d _ c.in_ok-tags.ensures.ok in
-    rw (p.1, p.2) (refuse_or d _ Ids _ object c.in_err-ids.ensures.err (λ none. named_refuse d (Some Ids) object passed (rw (c.in_ok-authors.ensures.ok, none) refl)))
+    rw (p.1, p.2) (refuse_or d _ Ids _ c.requires.passes c.in_err-ids.ensures.err (λ none. named_refuse d (Some Ids) object passed (rw (c.in_ok-authors.ensures.ok, none) refl)))
 
 pub returns-in_err-kinds-clause-err : goal.returns-in_err-kinds-clause-err
 returns-in_err-kinds-clause-err c =
@@ -40,7 +40,7 @@ returns-in_err-kinds-clause-err c =
     let d = view c.args.value.now in
     let object : is_some (as_object d) ≡ true = search rules in
     let passed = read_passes letters d _ c.in_ok-tags.ensures.ok in
-    rw (p.1, p.2) (refuse_or d _ Kinds _ object c.in_err-kinds.ensures.err (λ none. named_refuse d (Some Kinds) object passed (rw (c.in_ok-authors.ensures.ok, c.in_ok-ids.ensures.ok, none) refl)))
+    rw (p.1, p.2) (refuse_or d _ Kinds _ c.requires.passes c.in_err-kinds.ensures.err (λ none. named_refuse d (Some Kinds) object passed (rw (c.in_ok-authors.ensures.ok, c.in_ok-ids.ensures.ok, none) refl)))
 
 pub returns-in_err-limit-clause-err : goal.returns-in_err-limit-clause-err
 returns-in_err-limit-clause-err c =
