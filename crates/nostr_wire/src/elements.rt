@@ -8,7 +8,7 @@ ghost use Rattle.nostr_wire.specs.Elements.{Part, Said, part_of, has_type, Says,
 ghost use Rattle.nostr_wire.specs.declared.fault.WireFault.{WireFault};
 
 use crate::fault::WireFault;
-use crate::lists::{Bytes, Sub, is_name};
+use crate::lists::{Bytes, Name, Sub, is_name};
 use hex::FromHexError;
 use id_text::{digits_of, parse_bytes, parse_id};
 use neg_codec::Id;
@@ -97,6 +97,24 @@ impl Element for Sub {
 
     fn read(alloc: Global, value: &mut Value) -> Result<Sub, WireFault> {
         sub_of(alloc, value)
+    }
+
+    fn write(&self, alloc: Global) -> Result<Value, AllocError> {
+        Value::try_from_str(alloc, self.as_str())
+    }
+}
+
+impl Element for Name {
+    ghost part = { a_sub };
+
+    ghost said = { λ s. sub s };
+
+    fn fits(value: &Value) -> bool {
+        value.is_string()
+    }
+
+    fn read(alloc: Global, value: &mut Value) -> Result<Name, WireFault> {
+        Ok(Name::own(sub_of(alloc, value)?))
     }
 
     fn write(&self, alloc: Global) -> Result<Value, AllocError> {

@@ -13,7 +13,7 @@ mod values;
 mod writing;
 
 pub use fault::WireFault;
-pub use lists::{Bytes, Filters, Sub};
+pub use lists::{Bytes, Filters, Name, Sub};
 pub use messages::{FromClient, FromRelay};
 pub use reading::{read_client, read_client_few, read_relay};
 pub use writing::{write_client, write_relay, write_relay_in};

@@ -1,5 +1,5 @@
 // What clients and relays say.
-use crate::lists::{Bytes, Filters, Sub};
+use crate::lists::{Bytes, Filters, Name, Sub};
 use neg_codec::Id;
 use nostr_event::{Event, Text};
 use nostr_filter::Filter;
@@ -40,7 +40,7 @@ pub enum FromClient {
 #[derive(Drop)]
 pub enum FromRelay {
     /// An event that a request asks for (NIP-01).
-    Event { sub: Sub, event: Arc<Event> },
+    Event { sub: Name, event: Arc<Event> },
     /// Whether an event was taken in (`OK` of NIP-01).
     Okay { id: Id, taken: bool, text: Text },
     /// All stored events of a request were sent (NIP-01).

@@ -8,7 +8,7 @@ ghost use Rattle.nostr_wire.specs.Reading.{SayEach, IsMessage, Reads};
 ghost use Rattle.nostr_wire.specs.Writing.{array_of, text_of};
 
 use crate::elements::Element;
-use crate::lists::{Filters, Sub};
+use crate::lists::{Filters, Name, Sub};
 use crate::messages::{FromClient, FromRelay};
 use json::Writer;
 use nostr_event::Event;
@@ -131,7 +131,7 @@ pub fn write_client(alloc: Global, message: &FromClient) -> Result<String, Alloc
 }
 
 // The text of an event for a subscription: the text that the event keeps, behind the names. It is made where room is.
-fn event_text(room: Vec<u8>, name: &Sub, event: &Arc<Event>) -> Result<String, AllocError>
+fn event_text(room: Vec<u8>, name: &Name, event: &Arc<Event>) -> Result<String, AllocError>
     ensures text { IfOk result (λ s. string_bytes s ≡ text_of (event_form name.now (arc_value event.now))) }
     ensures reads_back { IfOk result (λ s. Reads relay_table (string_bytes s) (event_form name.now (arc_value event.now))) }
 {

@@ -10,13 +10,13 @@ ghost use Rattle.relay_core.specs.Acknowledging.{AcknowledgeNone};
 ghost use Rattle.relay_core.specs.Due.{is_due as due_at, sent_at, due as all_due, CatchesUp};
 
 use crate::fault::Broken;
-use crate::messages::event_for;
+use crate::messages::{copied, event_for};
 use crate::subs::Subscription;
 use crate::talk::Talk;
 use event_store::{EventList, Naming, Reader};
 use nostr_event::Event;
 use nostr_filter::{Filter, TagOrder};
-use nostr_wire::FromRelay;
+use nostr_wire::{FromRelay, Name};
 use std::alloc::{AllocError, Global};
 use std::sync::Arc;
 
@@ -90,7 +90,8 @@ fn put_if_due(
     ensures { OnOk result (map relay_form out.new.items ≡ map relay_form out.old.items ++ sent_at place (arc_value event.now) (sub.now ∷ [])) }
 {
     if is_due(sub, place, event, order) {
-        out.push(event_for(alloc, &sub.name, event)?)?;
+        let name = Name::own(copied(alloc, &sub.name)?);
+        out.push(event_for(name, event)?)?;
     }
     Ok(())
 }

@@ -6,7 +6,7 @@ ghost use Rattle.relay_core.specs.Messages.{event_to, okay as okay_form, closed 
 
 use neg_codec::Id;
 use nostr_event::{Event, Text};
-use nostr_wire::{FromRelay, Sub};
+use nostr_wire::{FromRelay, Name, Sub};
 use std::alloc::{AllocError, Global};
 use std::sync::Arc;
 
@@ -27,11 +27,11 @@ pub fn copied(alloc: Global, name: &Sub) -> Result<Sub, AllocError>
 }
 
 /// An event that the subscription asks for.
-pub fn event_for(alloc: Global, name: &Sub, event: &Arc<Event>) -> Result<FromRelay, AllocError>
-    ensures { IfOk result (λ m. relay_form m ≡ event_to name.now (arc_value event.now)) }
+pub fn event_for(name: Name, event: &Arc<Event>) -> Result<FromRelay, AllocError>
+    ensures { IfOk result (λ m. relay_form m ≡ event_to name (arc_value event.now)) }
 {
     Ok(FromRelay::Event {
-        sub: copied(alloc, name)?,
+        sub: name,
         event: Arc::try_clone(event)?,
     })
 }

@@ -25,8 +25,9 @@ use crate::talk::Talk;
 use event_store::{EventList, Naming, Reader};
 use nostr_event::Event;
 use nostr_filter::room_behind;
-use nostr_wire::{Filters, FromRelay, Sub};
+use nostr_wire::{Filters, FromRelay, Name, Sub};
 use std::alloc::{AllocError, Global};
+use std::sync::Arc;
 
 // So many bytes the values of all open subscriptions may have.
 const MOST_VALUES: usize = 4_000_000;
@@ -59,8 +60,9 @@ fn stored_events(
 {
     let texts = texts_at(events, places);
     let mut out = Vec::with_capacity(alloc, texts.saturating_add(1))?;
+    let shared = Arc::new(alloc, copied(alloc, name)?)?;
     for place in places {
-        put_event(&mut out, alloc, name, events, *place)?;
+        put_event(&mut out, &shared, events, *place)?;
     }
     out.push(FromRelay::Eose {
         sub: copied(alloc, name)?,
@@ -71,15 +73,14 @@ fn stored_events(
 // Puts the event at the place behind the others, if there is one.
 fn put_event(
     out: &mut Vec<FromRelay>,
-    alloc: Global,
-    name: &Sub,
+    name: &Arc<Sub>,
     events: &EventList,
     place: usize,
 ) -> Result<(), AllocError>
-    ensures { OnOk result (map relay_form out.new.items ≡ map relay_form out.old.items ++ map (event_to name.now) (option_to_list (slice_get events.now place))) }
+    ensures { OnOk result (map relay_form out.new.items ≡ map relay_form out.old.items ++ map (event_to (arc_value name.now)) (option_to_list (slice_get events.now place))) }
 {
     if place < events.len() {
-        out.push(event_for(alloc, name, events.get(place))?)?;
+        out.push(event_for(Name::shared(name)?, events.get(place))?)?;
     }
     Ok(())
 }

@@ -324,21 +324,21 @@ fn hear<S: Read + Write, K: MaskKeys>(
 fn part_in(message: FromRelay) -> Part {
     match message {
         FromRelay::Event { sub, event } => {
-            if is_ours(&sub) {
+            if is_ours(sub.as_str()) {
                 Part::Event(event)
             } else {
                 Part::Other
             }
         }
         FromRelay::Eose { sub } => {
-            if is_ours(&sub) {
+            if is_ours(sub.as_str()) {
                 Part::End
             } else {
                 Part::Other
             }
         }
         FromRelay::Closed { sub, text } => {
-            if is_ours(&sub) {
+            if is_ours(sub.as_str()) {
                 Part::Closed(text)
             } else {
                 Part::Other
@@ -348,8 +348,8 @@ fn part_in(message: FromRelay) -> Part {
     }
 }
 
-fn is_ours(sub: &Sub) -> bool {
-    sub.as_str() == NAME
+fn is_ours(name: &str) -> bool {
+    name == NAME
 }
 
 impl<S, K> Explains for WsSource<S, K> {

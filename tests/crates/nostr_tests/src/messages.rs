@@ -3,9 +3,10 @@ use neg_codec::Id;
 use nostr_event::{EventFault, EventField, Text};
 use nostr_filter::Filter;
 use nostr_wire::{
-    Bytes, Filters, Sub, WireFault, read_client, read_relay, write_client, write_relay,
+    Bytes, Filters, Name, Sub, WireFault, read_client, read_relay, write_client, write_relay,
 };
 use std::alloc::Global;
+use std::sync::Arc;
 use std::test::*;
 
 // Texts of clients, and what is written of their messages. Python's json and hashlib made the event.
@@ -286,6 +287,14 @@ fn is_name_kept(alloc: Global) -> Result<bool, Fail> {
     Ok(is_seen && name.into_text().as_str() == "é")
 }
 
+// Whether the name of an event's message is seen as it is, its own and shared.
+fn is_name_shared(alloc: Global) -> Result<bool, Fail> {
+    let own = Name::own(sub(alloc, "é")?);
+    let sub = Arc::new(alloc, sub(alloc, "é")?)?;
+    let shared = Name::shared(&sub)?;
+    Ok(own.as_str() == "é" && shared.as_str() == "é" && sub.as_str() == "é")
+}
+
 // Whether bytes are given back as they were given.
 fn are_bytes_kept(alloc: Global) -> Result<bool, Fail> {
     let bytes = Bytes::new(Vec::from_slice(alloc, b"\x61\x00")?);
@@ -303,7 +312,7 @@ fn are_filters_kept(alloc: Global) -> Result<bool, Fail> {
 #[test]
 fn parts_are_given_back(rt: HostRuntime) -> Result<(), Fail> {
     let alloc = rt.alloc();
-    let is_name = is_name_kept(alloc)?;
+    let is_name = is_name_kept(alloc)? && is_name_shared(alloc)?;
     let are_bytes = are_bytes_kept(alloc)?;
     let are_filters = are_filters_kept(alloc)?;
     assert!(rt; is_name && are_bytes && are_filters);
