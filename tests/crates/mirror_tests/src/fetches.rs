@@ -325,15 +325,6 @@ static CASES: [(Case, Found); 4] = [
 ];
 
 #[test]
-fn cells_end_by_what_is_given(rt: HostRuntime) -> Result<(), Fail> {
-    for (case, found) in CASES {
-        let fetched = played::<_, Brand, _>(&rt, &rt, rt.alloc(), Blank::new(), Play::Give(case));
-        assert_eq!(rt; fetched, Some(found));
-    }
-    Ok(())
-}
-
-#[test]
 fn two_sources_meet(rt: HostRuntime) -> Result<(), Fail> {
     let found = played::<_, Brand, _>(&rt, &rt, rt.alloc(), Blank::new(), Play::Meet);
     assert_eq!(rt; found, Some((2, 0, 0, false, 2)));
@@ -397,8 +388,13 @@ fn filled<J: Naming>(
     ))
 }
 
+// A source that gives less, fails, or gives each event twice and others; and a store that is full for the second event.
 #[test]
-fn a_store_fills_up(rt: HostRuntime) -> Result<(), Fail> {
+fn fetch_faults(rt: HostRuntime) -> Result<(), Fail> {
+    for (case, found) in CASES {
+        let fetched = played::<_, Brand, _>(&rt, &rt, rt.alloc(), Blank::new(), Play::Give(case));
+        assert_eq!(rt; fetched, Some(found));
+    }
     let filled = fills_up::<_, Brand, _>(&rt, &rt, rt.alloc(), Blank::new());
     assert_eq!(rt; filled, Some((1, 1, true, true)));
     Ok(())

@@ -3,6 +3,7 @@ ghost use Rattle.std.specs.Prelude.{◌≡◌};
 ghost use Rattle.std.specs.Thread.{IsSync};
 
 use super::events::read;
+use super::rounds::is_set_in_time;
 use event_store::{Blank, Desk, Naming, Reader, open_store};
 use item_roll::Roll;
 use mirror_core::{Fetch, Source, SourceFault};
@@ -10,15 +11,19 @@ use neg_codec::{Id, Item};
 use neg_session::{Peer, PeerFault, SessionLimits, reconcile_with};
 use nostr_filter::Filter;
 use relay_core::RelayLimits;
-use std::alloc::{AllocError, Global};
-use std::io;
+use serve_run::run_serve;
+use std::alloc::Global;
+use std::fs::File;
 use std::io::{ErrorKind, Read, Write};
 use std::marker::Brand;
-use std::net::{Net, SocketAddr, TcpListener, TcpStream};
+use std::net::{Ipv4Addr, Net, SocketAddr, TcpListener, TcpStream};
 use std::random::RandomSource;
+use std::rt::{Clock, Files};
+use std::sync::atomic::{AtomicU64, Ordering};
 use std::sync::{Mutex, Wait};
 use std::test::Fail;
 use std::thread::{Threads, join};
+use std::{fs, io};
 use tungstenite::MaskKeys;
 use ws_link::{LinkFault, WsPeer, WsSource};
 use ws_serve::serve_conn;
@@ -198,26 +203,6 @@ static TALKS: [(&str, usize, u8); 12] = [
     (r##"["NEG-MSG","mirror","6"]"##, 1, 3),
 ];
 
-#[test]
-fn questions(rt: HostRuntime) -> Result<(), Fail> {
-    let alloc = rt.alloc();
-    for (text, times, number) in TALKS {
-        assert_eq!(rt;
-            (text, times, asked(alloc, times, text, 0)),
-            (text, times, Some(number))
-        );
-    }
-    // The handshake's write and read, and those of the question.
-    for fails_at in 1..5 {
-        assert_eq!(rt;
-            (fails_at, asked(alloc, 0, "", fails_at)),
-            (fails_at, Some(1))
-        );
-    }
-    assert_eq!(rt; asked(alloc, 0, "", 5), Some(0));
-    Ok(())
-}
-
 /// What a question comes to, where the relay answers it together with the handshake, in pieces of so many bytes.
 fn asked_at_once(alloc: Global, size: usize) -> Option<u8> {
     let mut all = ACCEPTS.to_vec(alloc).ok()?;
@@ -320,26 +305,6 @@ static GIFTS: [(&str, usize, u8); 8] = [
     (r##"["EVENT","fetch",{}]"##, 1_000, 4),
     ("hello", 1, 3),
 ];
-
-#[test]
-fn fetches(rt: HostRuntime) -> Result<(), Fail> {
-    let alloc = rt.alloc();
-    for (text, times, number) in GIFTS {
-        assert_eq!(rt;
-            (text, times, fetched(alloc, times, text, 0)),
-            (text, times, Some(number))
-        );
-    }
-    // The handshake's write and read, the request, what is given, and the end of the subscription.
-    for fails_at in 1..6 {
-        assert_eq!(rt;
-            (fails_at, fetched(alloc, 0, "", fails_at)),
-            (fails_at, Some(1))
-        );
-    }
-    assert_eq!(rt; fetched(alloc, 0, "", 6), Some(0));
-    Ok(())
-}
 
 // An event that wasn't asked for is let go, and counts among the other messages.
 #[test]
@@ -509,12 +474,47 @@ fn broken<R: Wait>(rt: &R, alloc: Global, asks: &[u8], bytes: &[u8]) -> Option<R
 }
 
 #[test]
-fn clients(rt: HostRuntime) -> Result<(), Fail> {
-    assert_eq!(rt; first_wrong(&rt, rt.alloc()), Some(20));
+fn broken_clients(rt: HostRuntime) -> Result<(), Fail> {
     for (asks, bytes, number) in BROKEN {
         let ended = broken(&rt, rt.alloc(), asks, bytes);
         assert_eq!(rt; (number, ended), (number, Some(Err(number))));
     }
+    Ok(())
+}
+
+// Each read and write of a stream fails in turn, and a relay says other things first.
+#[test]
+fn stream_sweep(rt: HostRuntime) -> Result<(), Fail> {
+    let alloc = rt.alloc();
+    // The handshake's write and read, and those of the question.
+    for fails_at in 1..5 {
+        assert_eq!(rt;
+            (fails_at, asked(alloc, 0, "", fails_at)),
+            (fails_at, Some(1))
+        );
+    }
+    assert_eq!(rt; asked(alloc, 0, "", 5), Some(0));
+    for (text, times, number) in TALKS {
+        assert_eq!(rt;
+            (text, times, asked(alloc, times, text, 0)),
+            (text, times, Some(number))
+        );
+    }
+    // The handshake's write and read, the request, what is given, and the end of the subscription.
+    for fails_at in 1..6 {
+        assert_eq!(rt;
+            (fails_at, fetched(alloc, 0, "", fails_at)),
+            (fails_at, Some(1))
+        );
+    }
+    assert_eq!(rt; fetched(alloc, 0, "", 6), Some(0));
+    for (text, times, number) in GIFTS {
+        assert_eq!(rt;
+            (text, times, fetched(alloc, times, text, 0)),
+            (text, times, Some(number))
+        );
+    }
+    assert_eq!(rt; first_wrong(&rt, alloc), Some(20));
     Ok(())
 }
 
@@ -620,10 +620,114 @@ fn met<
     Some((served, found))
 }
 
+/// A writer that keeps what is written, and tells which port it says that it listens on.
+#[derive(Drop)]
+struct Listening<'a> {
+    port: &'a AtomicU64,
+    written: Vec<u8>,
+}
+
+impl Write for Listening<'_> {
+    fn write(&mut self, buf: &[u8]) -> io::Result<usize> {
+        if self.written.extend_from_slice(buf).is_err() {
+            return Err(io::Error::from(ErrorKind::OutOfMemory));
+        }
+        if let Some(port) = port_in(self.written.as_slice()) {
+            self.port.store(port, Ordering::SeqCst);
+        }
+        Ok(buf.len())
+    }
+
+    fn flush(&mut self) -> io::Result<()> {
+        Ok(())
+    }
+}
+
+const LISTENS: &[u8] = b"listening 127.0.0.1:";
+
+/// The port of the first line, once it is whole.
+fn port_in(written: &[u8]) -> Option<u64> {
+    if !written.starts_with(LISTENS) || !written.contains(&b'\n') {
+        return None;
+    }
+    let mut port = 0u64;
+    for byte in &written[LISTENS.len()..] {
+        if *byte == b'\n' {
+            return Some(port);
+        }
+        port = 10 * port + u64::from(*byte - b'0');
+    }
+    None
+}
+
+/// Meets the relay that listens on this port of the loopback, once it is known.
+fn synced_at<R: Net<Stream = TcpStream> + RandomSource + Clock>(
+    rt: &R,
+    alloc: Global,
+    port: &AtomicU64,
+) -> Option<(usize, usize, bool, usize)> {
+    if !is_set_in_time(rt, port) {
+        return None;
+    }
+    let port = u16::try_from(port.load(Ordering::SeqCst)).ok()?;
+    let address = SocketAddr::from((Ipv4Addr::LOCALHOST, port));
+    synced(rt, alloc, address)
+}
+
+/// How the settings of a relay begin that serves one connection, from a file in the folder that the tests run in.
+const ONE_CONNECTION: &str = r##"
+listen = "127.0.0.1:0"
+conns = 1
+events = "loopback_session.jsonl"
+"##;
+
+/// What was found of a relay with both events that serves one connection, and whether it was done and what it then had said behind
+/// its first line.
+type Served = (Option<(usize, usize, bool, usize)>, bool, Option<bool>);
+
+fn serves_one<
+    R: Net<Listener = TcpListener, Stream = TcpStream>
+        + RandomSource
+        + Threads
+        + Wait
+        + Files<File = File>
+        + Clock
+        + Sync,
+>(rt: &R, alloc: Global) -> Option<Served> {
+    let text = format!(in alloc; "{EVENT_1}\n{EVENT_2}\n").ok()?;
+    fs::write(rt, "loopback_session.jsonl", text.as_bytes()).ok()?;
+    let port = AtomicU64::new(0);
+    let mut writer = Listening {
+        port: &port,
+        written: Vec::new(alloc),
+    };
+    let errors = Listening {
+        port: &port,
+        written: Vec::new(alloc),
+    };
+    let (found, served) = join(
+        rt,
+        || -> Option<(usize, usize, bool, usize)>
+            requires { IsSync R.row }
+        { synced_at(rt, alloc, &port) },
+        || -> bool { run_serve(rt, alloc, ONE_CONNECTION, &mut writer, errors).is_ok() },
+    );
+    let rest = ends_so(alloc, writer.written.as_slice(), port.load(Ordering::SeqCst));
+    Some((found, served, rest))
+}
+
+/// Whether what was written is the line of the port, one served connection and two events.
+fn ends_so(alloc: Global, written: &[u8], port: u64) -> Option<bool> {
+    let text = format!(in alloc; "listening 127.0.0.1:{port}\nserved 1\nevents 2\n").ok()?;
+    Some(written == text.as_bytes())
+}
+
 #[test]
 fn loopback_session(rt: HostRuntime) -> Result<(), Fail> {
     let met = meets::<Brand, _, _>(&rt, &rt, rt.alloc(), Blank::new());
     // The question, the end of the session.
     assert_eq!(rt; met, Some((Some(2), Some((1, 0, true, 1)))));
+    let served = serves_one(&rt, rt.alloc());
+    assert_eq!(rt; served, Some((Some((1, 0, true, 1)), true, Some(true))));
     Ok(())
 }

@@ -155,16 +155,16 @@ fn needed_ids_are_shared_out(rt: HostRuntime) -> Result<(), Fail> {
 static MANY: [&[u8]; 257] = [b"\x01"; 257];
 
 /// Brings an empty store level with such relays.
-fn planned<J: Naming, D: Wait + Drop, R: Threads + Sync>(
+fn planned<J: Naming, D: Wait + Drop, R: Threads + Sync, P: Peer + Send>(
     rt: &R,
     keep: D,
     alloc: Global,
     blank: Blank,
-    peers: &mut [LocalPeer],
+    peers: &mut [P],
 ) -> Option<Result<Synced, SyncFault>>
     requires book { blank ≡ J.book }
     requires most { J.most ≡ 1000000 }
-    requires ready { All (λ p. p.faults < 2 ^ 64 - 1) peers.old }
+    requires ready { All (λ p. P.faults p < 2 ^ 64 - 1) peers.old }
 {
     let (_desk, mut readers) = open_store::<J, D>(keep, alloc, blank, 1).ok()?;
     let mut reader = readers.pop()?;
@@ -174,14 +174,14 @@ fn planned<J: Naming, D: Wait + Drop, R: Threads + Sync>(
 }
 
 /// The same, where the store is named.
-fn synced_whole<R: Threads + Wait + Sync>(
+fn synced_whole<R: Threads + Wait + Sync, P: Peer + Send>(
     rt: &R,
     alloc: Global,
-    peers: &mut [LocalPeer],
+    peers: &mut [P],
 ) -> Option<Result<Synced, SyncFault>>
-    requires ready { All (λ p. p.faults < 2 ^ 64 - 1) peers.old }
+    requires ready { All (λ p. P.faults p < 2 ^ 64 - 1) peers.old }
 {
-    planned::<Brand, &R, R>(rt, rt, alloc, Blank::new(), peers)
+    planned::<Brand, &R, R, P>(rt, rt, alloc, Blank::new(), peers)
 }
 
 /// Whether the sessions with so many relays finished, of which one is to be asked for the item.
@@ -337,24 +337,15 @@ impl<C: Clock> Peer for Waiting<'_, C> {
     }
 }
 
-/// Brings a mirror without items level with these peers.
-fn met<R: Threads + Clock + Sync>(
+/// Brings an empty store level with these peers.
+fn met<R: Threads + Clock + Wait + Sync>(
     rt: &R,
     alloc: Global,
     peers: &mut [Waiting<'_, R>],
 ) -> Option<Synced>
     requires { All (λ p. p.failures < 2 ^ 64 - 1) peers.old }
 {
-    let mine = roll_of(alloc, b"")?;
-    sync_roll(
-        rt,
-        alloc,
-        peers,
-        &mine,
-        &Bases::none(),
-        &SessionLimits::default(),
-    )
-    .ok()
+    synced_whole(rt, alloc, peers)?.ok()
 }
 
 #[test]

@@ -1,4 +1,4 @@
-//! `calls`: makes calls of the libraries by themselves, for `tests/calls.py`.
+//! `memory_sweep`: makes calls of the libraries by themselves, for `tests/memory_sweep.py`.
 //!
 //! `sweep` makes calls that can answer want of memory, for runs in which one allocation is refused. With a name it makes that
 //! call alone. It prints behind each name what the call came to: `ample` for its answer with all memory, `memory` for want of
@@ -40,7 +40,7 @@ fn main(rt: HostRuntime) -> io::Result<ExitCode> {
         [_, "sweep", name] => sweep::sweep(&rt, alloc, Some(*name))?,
         [own, "keep", path] => fs::copy(&rt, *own, *path)? > 0,
         _ => {
-            eprintln!(rt; "usage: calls sweep [NAME] | keep PATH")?;
+            eprintln!(rt; "usage: memory_sweep sweep [NAME] | keep PATH")?;
             return Ok(ExitCode::from(2));
         }
     };

@@ -1,9 +1,9 @@
 #!/usr/bin/env python3
 """Refuses each allocation in calls that can answer want of memory, each call by itself.
 
-    tests/calls.py PATH      (`tests/units calls` builds the program `calls` and gives its path)
+    tests/memory_sweep.py PATH      (`tests/units memory_sweep` builds the program `memory_sweep` and gives its path)
 
-`calls sweep` makes one call a run, once it has made what the call is given. With each allocation of such a run refused in turn, and
+`memory_sweep sweep` makes one call a run, once it has made what the call is given. With each allocation of such a run refused in turn, and
 each start of a thread, it has to print one of these:
 
 - `memory`: the call answered want of memory, and the state is as it has to be;
