@@ -1,10 +1,20 @@
-use Rattle.std.proofs.Common.{◌≡◌, ◌+◌, ◌-◌, ◌<◌, ◌^◌, ◌++◌, [], ◌∷◌, ◌∙◌, length, append_assoc, sym, ap, arith}
+use Rattle.std.proofs.Common.{◌≡◌, ◌+◌, ◌-◌, ◌<◌, ◌^◌, ◌++◌, [], ◌∷◌, ◌∙◌, length, map, append_assoc, sym, ap, arith}
 use Rattle.std.specs.List.{range_with_len}
 use Rattle.std.specs.Vec.Iter.{into_iter_items}
 use Rattle.std.proofs.lemmas.List.{length_push, length-append}
-use Rattle.std.proofs.lemmas.List.Elements.{All-push}
+use Rattle.std.proofs.lemmas.List.Elements.{All-nil, All-push, All-same}
 use Rattle.sync_run.proofs.Numbers.{numbers_push}
 use Rattle.sync_run.proofs.links.peers_in.Goals as goal
+
+pub loop-place-init : goal.loop-place-init
+loop-place-init g c =
+    let none = c.new-peers.ensures.items in
+    record {
+      faults = All-same (λ p. p.peer.faults < 2 ^ 64 - 1) _ [] none (All-nil (λ p. p.peer.faults < 2 ^ 64 - 1));
+      numbers = ap (map (λ p. p.relay)) none ∙ sym (ap (λ ps. range_with_len 0 (length ps)) none);
+      some = ap length none;
+      all = sym c.into_iter-place-iterator.ensures.into_iter_gives.0;
+    }
 
 pub loop-place-preserved : goal.loop-place-preserved
 loop-place-preserved g c =
