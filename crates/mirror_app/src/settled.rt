@@ -14,7 +14,7 @@ use std::rt::{Clock, Files};
 use std::sync::Wait;
 use std::thread::Threads;
 use std::{fs, io};
-use sync_run::{Progress, run_sync};
+use sync_run::{Progress, run_sync_with};
 
 /// What an error of reading the settings comes to.
 fn refusal_of(error: &io::Error) -> Refusal {
@@ -76,7 +76,7 @@ pub fn sync<
     errors: E,
 ) -> Result<(), Refusal> {
     match fs::read_to_string(rt, path) {
-        Ok(text) => run_sync(rt, alloc, text.as_str(), writer, progress, errors),
+        Ok(text) => run_sync_with(rt, alloc, text.as_str(), writer, progress, errors),
         Err(error) => Err(refusal_of(&error)),
     }
 }

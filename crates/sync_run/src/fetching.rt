@@ -1,6 +1,8 @@
 //! Fetching what a plan gives.
 
-ghost use Rattle.std.specs.Prelude.{◌≡◌, ◌<◌, ◌^◌, ◌-◌, All, IfOk, IfSome, length};
+ghost use Rattle.std.specs.Prelude.{◌≡◌, ◌+◌, ◌<◌, ◌^◌, ◌-◌, min, All, IfOk, IfSome, length, if◌then◌else◌};
+ghost use Rattle.fetch_plan.specs.Plan.{IsPlan};
+ghost use Rattle.sync_run.specs.Rounds.{is_done, is_missed, is_left, AreCounted};
 
 use crate::links::{SourcePlace, connect_all, name_of};
 use crate::pace::Paced;
@@ -24,7 +26,7 @@ use tungstenite::RandomKeys;
 use ws_link::WsSource;
 
 /// What became of ids.
-#[derive(Clone, Copy, Default)]
+#[derive(Clone, Copy)]
 pub struct Counts {
     pub given: u64,
     pub missed: u64,
@@ -32,8 +34,24 @@ pub struct Counts {
 }
 
 impl Counts {
+    /// Of no ids.
+    pub fn none() -> Counts
+        ensures given { result.given ≡ 0 }
+        ensures missed { result.missed ≡ 0 }
+    {
+        Counts {
+            given: 0,
+            missed: 0,
+            left: 0,
+        }
+    }
+
     /// These of another round as well, whose cells alone are left.
-    pub fn with(&self, later: &Counts) -> Counts {
+    pub fn with(&self, later: &Counts) -> Counts
+        ensures given { result.given ≡ min (self.now.given + later.now.given) (2 ^ 64 - 1) }
+        ensures missed { result.missed ≡ min (self.now.missed + later.now.missed) (2 ^ 64 - 1) }
+        ensures left { result.left ≡ later.now.left }
+    {
         Counts {
             given: self.given.saturating_add(later.given),
             missed: self.missed.saturating_add(later.missed),
@@ -42,18 +60,51 @@ impl Counts {
     }
 }
 
+/// Whether the cell's id was fetched and placed.
+fn is_done(cell: Cell) -> bool
+    ensures { result ≡ is_done cell }
+{
+    matches!(cell, Cell::Done)
+}
+
+/// Whether its relay was asked for it and didn't give it.
+fn is_missed(cell: Cell) -> bool
+    ensures { result ≡ is_missed cell }
+{
+    matches!(cell, Cell::Missed)
+}
+
+/// Whether it is neither.
+fn is_left(cell: Cell) -> bool
+    ensures { result ≡ is_left cell }
+{
+    !matches!(cell, Cell::Done | Cell::Missed)
+}
+
+/// One more, if so.
+fn one_more(count: u64, is_so: bool) -> u64
+    requires { count < 2 ^ 64 - 1 }
+    ensures { result ≡ count + (if is_so then 1 else 0) }
+{
+    if is_so { count + 1 } else { count }
+}
+
 /// How many cells ended how.
-pub fn counts_of(cells: &[Cell]) -> Counts {
-    let mut counts = Counts::default();
-    for cell in cells {
-        let count = match cell {
-            Cell::Done => &mut counts.given,
-            Cell::Missed => &mut counts.missed,
-            _ => &mut counts.left,
-        };
-        *count = count.saturating_add(1);
+pub fn counts_of(cells: &[Cell]) -> Counts
+    ensures { AreCounted cells.now result }
+{
+    let (mut given, mut missed, mut left) = (0, 0, 0);
+    for at in 0..cells.len() {
+        let cell = cells[at];
+        given = one_more(given, is_done(cell));
+        missed = one_more(missed, is_missed(cell));
+        left = one_more(left, is_left(cell));
     }
-    counts
+    Counts {
+        given,
+        missed,
+        left,
+    }
 }
 
 /// What a round came to: what became of each id of its plan, which relays stopped before they came to all of theirs, and whether
@@ -80,7 +131,9 @@ pub fn finished_of(alloc: Global, ends: Vec<End>) -> Result<Vec<u16>, AllocError
 }
 
 /// The relays that a plan gives ids to.
-pub fn planned(plan: &Plan) -> RelaySet {
+pub fn planned(plan: &Plan) -> RelaySet
+    ensures plan { IsPlan plan.now }
+{
     let mut planned = RelaySet::empty();
     for at in 0..plan.len() {
         let (_id, relay) = plan.cell(at);

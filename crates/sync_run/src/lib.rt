@@ -10,4 +10,4 @@ mod text;
 mod told;
 
 pub use progress::Progress;
-pub use run::run_sync;
+pub use run::{run_sync, run_sync_with};

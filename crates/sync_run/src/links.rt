@@ -1,6 +1,7 @@
 //! Links to relays.
 
-ghost use Rattle.std.specs.Prelude.{◌≡◌, ◌<◌, ◌^◌, ◌-◌, All, IfOk, IfSome};
+ghost use Rattle.std.specs.Prelude.{◌≡◌, ◌<◌, ◌^◌, ◌-◌, All, IfOk, IfSome, length, map};
+ghost use Rattle.std.specs.List.{range_with_len};
 
 use crate::pace::{Pace, Paced, SharedPace};
 use crate::progress::Progress;
@@ -101,15 +102,11 @@ impl<S, K> Model for PeerPlace<S, K> {
 }
 
 impl<S, K> PeerPlace<S, K> {
-    /// The relay, and its peer.
-    fn into_parts(self) -> Result<(usize, WsPeer<S, K>), Refusal>
-        ensures { IfOk result (λ p. p.1.faults ≡ 0) }
+    /// The relay's peer.
+    fn into_peer(self) -> Result<WsPeer<S, K>, Refusal>
+        ensures { IfOk result (λ peer. peer.faults ≡ 0) }
     {
-        let PeerPlace { relay, peer } = self;
-        match peer {
-            Ok(found) => Ok((relay, found)),
-            Err(refusal) => Err(refusal),
-        }
+        self.peer
     }
 }
 
@@ -135,29 +132,36 @@ impl<'a, 's, R: Net<Listener = TcpListener, Stream = TcpStream> + RandomSource> 
     }
 }
 
-/// A peer for each relay, in their order, whose session is told as it ends. The relays are connected to side by side.
-pub fn linked_all<
-    'a,
-    R: Net<Listener = TcpListener, Stream = TcpStream> + RandomSource + Threads + Wait + Sync,
-    P,
->(
-    rt: &'a R,
+/// A place for each relay, in their order.
+fn peer_places<S: Drop, K: Drop>(
     alloc: Global,
     settings: &Settings,
-    progress: &'a Progress<P>,
-) -> Result<Vec<ToldPeer<'a, WsPeer<TcpStream, RandomKeys<&'a R>>, R, P>>, Refusal>
-    ensures { IfOk result (λ peers. All (λ told. told.peer.faults < 2 ^ 64 - 1) peers.items) }
+) -> Result<Vec<PeerPlace<S, K>>, AllocError>
+    ensures { IfOk result (λ places. length places.items ≡ length settings.now.relays) }
 {
     let mut places = Vec::new(alloc);
     for relay in 0..settings.relays.as_slice().len() {
         let peer = Ok(WsPeer::unreachable(alloc));
         places.push(PeerPlace { relay, peer })?;
     }
-    let connecting = Connecting { rt, settings };
-    run_workers(rt, alloc, &connecting, places.as_mut_slice());
+    Ok(places)
+}
+
+/// The peers of the places, in their order and numbered so, whose sessions are told as they end.
+fn peers_in<'a, S: Drop, K: Drop, R, P>(
+    rt: &'a R,
+    alloc: Global,
+    settings: &Settings,
+    places: Vec<PeerPlace<S, K>>,
+    progress: &'a Progress<P>,
+) -> Result<Vec<ToldPeer<'a, WsPeer<S, K>, R, P>>, Refusal>
+    ensures faults { IfOk result (λ peers. All (λ told. told.peer.faults < 2 ^ 64 - 1) peers.items) }
+    ensures numbers { IfOk result (λ peers. map (λ told. told.relay) peers.items ≡ range_with_len 0 (length places.items)) }
+{
     let mut peers = Vec::new(alloc);
     for place in places {
-        let (relay, peer) = place.into_parts()?;
+        let relay = peers.len();
+        let peer = place.into_peer()?;
         let name = name_of(alloc, settings, relay)?;
         peers.push(ToldPeer {
             peer,
@@ -168,6 +172,27 @@ pub fn linked_all<
         })?;
     }
     Ok(peers)
+}
+
+/// A peer for each relay, in their order and numbered so, whose session is told as it ends. The relays are connected to side by
+/// side.
+pub fn linked_all<
+    'a,
+    R: Net<Listener = TcpListener, Stream = TcpStream> + RandomSource + Threads + Wait + Sync,
+    P,
+>(
+    rt: &'a R,
+    alloc: Global,
+    settings: &Settings,
+    progress: &'a Progress<P>,
+) -> Result<Vec<ToldPeer<'a, WsPeer<TcpStream, RandomKeys<&'a R>>, R, P>>, Refusal>
+    ensures faults { IfOk result (λ peers. All (λ told. told.peer.faults < 2 ^ 64 - 1) peers.items) }
+    ensures numbers { IfOk result (λ peers. map (λ told. told.relay) peers.items ≡ range_with_len 0 (length settings.now.relays)) }
+{
+    let mut places = peer_places(alloc, settings)?;
+    let connecting = Connecting { rt, settings };
+    run_workers(rt, alloc, &connecting, places.as_mut_slice());
+    peers_in(rt, alloc, settings, places, progress)
 }
 
 /// A source that is this relay, if it can be reached, else it is noted why not.

@@ -2,7 +2,7 @@
 
 use crate::fetching::Counts;
 use std::fmt::{self, Display};
-use std::io::Write;
+use std::io::{self, Write};
 use std::rt::Clock;
 use std::sync::{Mutex, Wait};
 use std::time::Instant;
@@ -191,5 +191,19 @@ fn is_later(last: Option<Instant>, now: Option<Instant>) -> bool {
     match (last, now) {
         (Some(last), Some(now)) => now.duration_since(last).as_secs() > 0,
         _ => false,
+    }
+}
+
+/// A writer that keeps nothing.
+#[derive(Clone, Copy)]
+pub struct Nowhere;
+
+impl Write for Nowhere {
+    fn write(&mut self, buf: &[u8]) -> io::Result<usize> {
+        Ok(buf.len())
+    }
+
+    fn flush(&mut self) -> io::Result<()> {
+        Ok(())
     }
 }

@@ -1,17 +1,19 @@
 //! The job `sync`.
 
-ghost use Rattle.std.specs.Prelude.{◌≡◌, ◌++◌, ◌<◌, ◌^◌, ◌-◌, ℕ, All, List, None, length, IfOk, OnOk};
+ghost use Rattle.std.specs.Prelude.{◌≡◌, ◌≢◌, ◌++◌, ◌≤◌, ◌<◌, ◌^◌, ◌-◌, ℕ, All, List, None, length, IfOk, OnOk};
 ghost use Rattle.std.specs.Io.KnownBytes.{Appends};
 ghost use Rattle.std.specs.Thread.{IsSend};
-ghost use Rattle.fetch_plan.specs.Plan.{Planned};
+ghost use Rattle.sharing.specs.declared.TheConstants.{RELAYS, MOST_BASE};
+ghost use Rattle.sharing.specs.Bases.{base_of};
 ghost use Rattle.sync_run.specs.Lines.{ends_text, plan_text, round_text, counts_text};
-ghost use Rattle.sync_run.specs.Printed.{IsSynced, IsSyncDone, Prints, PrintsOfSome, rounds_text};
+ghost use Rattle.sync_run.specs.Rounds.{BeginAt, begin_at};
+ghost use Rattle.sync_run.specs.Printed.{IsSynced, IsFetched, IsSyncDone, PrintsOver, PrintsOfSome};
 
 use crate::fetching::{
     Counts, Round, asked_of, counts_of, fetched, finished_of, planned, sources_of,
 };
 use crate::links::{finish_all, linked_all};
-use crate::progress::Progress;
+use crate::progress::{Nowhere, Progress};
 use crate::text::{put_counts, put_ends, put_plan, put_round};
 use event_store::{Blank, Desk, Naming, Reader, open_store};
 use fetch_plan::Plan;
@@ -23,6 +25,7 @@ use serve_run::{
     Hall, Keeping, Refusal, begin, keep_beside, keep_meanwhile, keeping_of, open_hall, readers_for,
     say, serve_beside,
 };
+use sharing::SLOTS;
 use std::alloc::Global;
 use std::fs::File;
 use std::io::Write;
@@ -34,13 +37,23 @@ use std::rt::{Clock, Files};
 use std::sync::{Mutex, Wait};
 use std::thread::Threads;
 
+/// Lets a relay's load begin with this one, if it is a relay and the load one that it may begin with.
+fn begin_load(bases: &mut Bases, relay: usize, load: u64)
+    ensures begun { relay < RELAYS → load ≤ MOST_BASE → base_of bases.new relay ≡ load }
+    ensures others { (r : ℕ) → r ≢ relay → base_of bases.new r ≡ base_of bases.old r }
+{
+    if relay < SLOTS {
+        let _ = bases.set(relay as u16, load);
+    }
+}
+
 /// The loads that the relays begin with.
-fn bases_of(loads: &[u64]) -> Bases {
+fn bases_of(loads: &[u64]) -> Bases
+    ensures { BeginAt loads.now result }
+{
     let mut bases = Bases::none();
     for relay in 0..loads.len() {
-        if relay < 256 {
-            let _ = bases.set(relay as u16, loads[relay]);
-        }
+        begin_load(&mut bases, relay, loads[relay]);
     }
     bases
 }
@@ -67,7 +80,7 @@ fn synced<
     reader: &mut Reader<J>,
     progress: &Progress<P>,
 ) -> Result<Synced, Refusal>
-    ensures { IfOk result (λ done. IsSynced settings.now.filter reader.new done.ends.items done.plan) }
+    ensures { IfOk result (λ done. (bases : List ℕ) × BeginAt settings.now.bases bases × IsSynced settings.now bases reader.new done.ends.items done.table done.plan) }
 {
     let snapshot = reader.pin(alloc, &settings.filter)?;
     progress.tell(rt, snapshot.events().len(), "events are compared");
@@ -182,7 +195,7 @@ fn fetch_rounds<
     writer: &mut W,
     progress: &Progress<P>,
 ) -> Result<Counts, Refusal>
-    ensures { OnOk result ((rounds : List (ℕ × Planned)) × Appends (W.contents writer.old) (W.contents writer.new) (rounds_text rounds)) }
+    ensures { IfOk result (IsFetched settings.now.rounds (begin_at done.table done.plan) (W.contents writer.old) (W.contents writer.new)) }
 {
     let Synced {
         ends,
@@ -190,8 +203,7 @@ fn fetch_rounds<
         mut plan,
     } = done;
     let relays = finished_of(alloc, ends)?;
-    let mut bases = bases_of(settings.bases.as_slice());
-    let mut all = Counts::default();
+    let mut all = Counts::none();
     let mut stopped = RelaySet::empty();
     for round in 1..settings.rounds {
         let given = planned(&plan);
@@ -208,7 +220,7 @@ fn fetch_rounds<
         )?;
         let cells = ended.cells.as_slice();
         all = all.with(&counts_of(cells));
-        bases = grown(&bases, &plan, cells);
+        let bases = grown(&plan.bases(), &plan, cells);
         // One that wasn't asked since it stopped hasn't come back.
         stopped = stopped.minus(given).union(ended.stopped);
         plan = failover_plan(alloc, &mut table, &plan, cells, stopped, &bases)?;
@@ -254,7 +266,7 @@ fn run_all<
     writer: &mut W,
     progress: &Progress<P>,
 ) -> Result<(), Refusal>
-    ensures { OnOk result (Prints settings.now.filter reader.new (W.contents writer.old) (W.contents writer.new)) }
+    ensures { OnOk result (PrintsOver BeginAt settings.now reader.new (W.contents writer.old) (W.contents writer.new)) }
 {
     let done = synced(rt, alloc, settings, reader, progress)?;
     say_synced(alloc, writer, &done)?;
@@ -288,7 +300,7 @@ fn run_alone<
     writer: &mut W,
     progress: &Progress<P>,
 ) -> Result<(), Refusal>
-    ensures { OnOk result (PrintsOfSome settings.now.filter (W.contents writer.old) (W.contents writer.new)) }
+    ensures { OnOk result (PrintsOfSome BeginAt settings.now (W.contents writer.old) (W.contents writer.new)) }
 {
     // What the store holds is left to the system. To give it back event by event took a tenth of the job's time.
     let desk = ManuallyDrop::new(Mutex::new(desk));
@@ -432,7 +444,7 @@ fn run_named<
 ) -> Result<(), Refusal>
     requires book { blank ≡ J.book }
     requires most { J.most ≡ 1000000 }
-    ensures { settings.now.listen ≡ None → OnOk result (PrintsOfSome settings.now.filter (W.contents writer.old) (W.contents writer.new)) }
+    ensures { settings.now.listen ≡ None → OnOk result (PrintsOfSome BeginAt settings.now (W.contents writer.old) (W.contents writer.new)) }
 {
     let (mut desk, mut readers) = open_store::<J, D>(keep, alloc, blank, readers_of(settings))?;
     let (Some(mut reader), Some(mut of_file)) = (readers.pop(), readers.pop()) else {
@@ -477,9 +489,26 @@ fn run_named<
 
 /// Reads settings, puts the events of the file into a store, has sessions with the relays, prints how they ended and the plan
 /// made of what they found, and fetches by it. Events are kept in the file as they come in. Where the settings say where to listen,
-/// it listens before the sessions, serves connections meanwhile, and goes on to the end of the last. How far it is goes to
-/// `progress`, whatever becomes of it there; the file's faults, and what was torn off it, go to `errors`.
+/// it listens before the sessions, serves connections meanwhile, and goes on to the end of the last.
 pub fn run_sync<
+    R: Net<Listener = TcpListener, Stream = TcpStream>
+        + RandomSource
+        + Threads
+        + Wait
+        + Files<File = File>
+        + Clock
+        + Sync,
+    W: Write,
+>(rt: &R, alloc: Global, text: &str, writer: &mut W) -> Result<(), Refusal>
+    ensures { OnOk result (IsSyncDone text.now (W.contents writer.old) (W.contents writer.new)) }
+{
+    let progress: Progress<Nowhere> = Progress::none();
+    run_sync_with(rt, alloc, text, writer, &progress, Nowhere)
+}
+
+/// The same as [`run_sync`]. How far it is goes to `progress`, whatever becomes of it there; the file's faults, and what was torn
+/// off it, go to `errors`.
+pub fn run_sync_with<
     R: Net<Listener = TcpListener, Stream = TcpStream>
         + RandomSource
         + Threads

@@ -1,8 +1,10 @@
-use Rattle.std.proofs.Common.{ℕ, List}
-use Rattle.std.specs.Io.KnownBytes.{Appends}
-use Rattle.fetch_plan.specs.Plan.{Planned}
-use Rattle.sync_run.specs.Printed.{rounds_text}
+use Rattle.std.proofs.Common.{◌≤◌, max}
+use Rattle.sync_run.specs.Rounds.{begin_at}
+use Rattle.sync_run.proofs.Rounds.{IsAt}
 use Rattle.sync_run.proofs.run.fetch_rounds.Given as goal
 
 abbrev pub invariant-loop-round : goal.invariant-loop-round
-invariant-loop-round g l = (rounds : List (ℕ × Planned)) × Appends (g.W.Write.contents l.initial.writer) (g.W.Write.contents l.writer) (rounds_text rounds)
+invariant-loop-round g l = record {
+  at : IsAt (begin_at l.fn.done.table l.fn.done.plan) (begin_at l.table l.plan) l.round (g.W.Write.contents l.initial.writer) (g.W.Write.contents l.writer) l.all;
+  few : l.round ≤ max 1 l.settings.rounds
+}

@@ -1,4 +1,4 @@
-use Rattle.sync_run.proofs.run.run_sync.Given as goal
+use Rattle.sync_run.proofs.run.run_sync_with.Given as goal
 
 -- the store that is just opened
 abbrev pub ghosts-run_named : goal.ghosts-run_named
