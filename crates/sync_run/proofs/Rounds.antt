@@ -1,6 +1,6 @@
 -- Later rounds, one put behind the others.
 use Rattle.std.proofs.Common.{◌≡◌, ◌+◌, ◌-◌, ◌^◌, ◌<◌, ◌≤◌, ◌++◌, [], ◌∷◌, ◌∙◌, ℕ, List, Option, min, max, length, sym, ap, subst, refl, inl, inr, arith, flat_map}
-use Rattle.std.proofs.lemmas.List.{append_assoc, append-nil}
+use Rattle.std.proofs.lemmas.List.{append-nil}
 use Rattle.std.proofs.lemmas.List.Sums.{sum_by_push}
 use Rattle.std.proofs.lemmas.Grind.{flat_map-append}
 use Rattle.std.specs.List.{sum_by, count_by, enumerate_from}
@@ -15,7 +15,7 @@ use Rattle.mirror_core.specs.Next.{IsLeft, asked_of}
 use Rattle.mirror_core.specs.LeftOver.{IsFailover}
 use Rattle.sync_run.specs.declared.fetching.Counts.{Counts}
 use Rattle.sync_run.specs.Lines.{round_text}
-use Rattle.sync_run.specs.Rounds.{Stage, IsNext, GoOn, last_of, AreOver, AreRounds, AreCounted, AreCounts, capped, is_done, is_missed}
+use Rattle.sync_run.specs.Rounds.{Stage, IsNext, GoOn, last_of, AreOver, AreCounted, capped, is_done, is_missed}
 use Rattle.sync_run.specs.Printed.{rounds_text, IsFetched}
 use Rattle.sync_run.proofs.Written.{append_both}
 

@@ -1,5 +1,6 @@
-use Rattle.std.proofs.Common.{◌∙◌, ap, map, length}
+use Rattle.std.proofs.Common.{ℕ, List, ◌∙◌, ap, map, length, subst}
 use Rattle.sharing.specs.Bases.{base_of}
+use Rattle.sync_run.specs.Rounds.{BeginAt}
 use Rattle.sync_run.proofs.Headlines.{logged, ran_of_logs, headline_of_logs, length_of_ran, length_of_numbered}
 use Rattle.sync_run.proofs.run.synced.Goals as goal
 
@@ -12,7 +13,7 @@ returns-in-Ok g c =
     let done = c.in-Ok.done in
     (
       c.bases_of-bases.result,
-      c.bases_of-bases.ensures,
+      subst (λ (loads : List ℕ). BeginAt loads c.bases_of-bases.result) c.as_slice.ensures c.bases_of-bases.ensures,
       record {
         own = own;
         olds = map (logged (λ p. p.peer.log) (λ p. p.peer.faults)) c.as_mut_slice.result.now;
