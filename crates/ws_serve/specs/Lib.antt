@@ -1,1 +1,4 @@
 pub mod Faults
+pub mod Frames
+pub mod Handed
+pub mod Answering

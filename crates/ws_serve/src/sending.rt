@@ -1,8 +1,14 @@
 //! What a client is sent.
-ghost use Rattle.std.specs.Prelude.{◌≡◌, ◌≤◌, false, length, map, IfErr};
+ghost use Rattle.std.specs.Prelude.{◌≡◌, ◌≤◌, false, length, map, IfErr, OnOk};
+ghost use Rattle.std.specs.Io.KnownBytes.{Appends, Keeps};
 ghost use mathlib.Core.List.{IsPrefix};
 ghost use Rattle.nostr_wire.specs.Forms.{relay_form};
 ghost use Rattle.relay_core.specs.Acknowledging.{acknowledges, AcknowledgeNone};
+ghost use Rattle.relay_core.specs.Faults.{GoesOnBy};
+ghost use Rattle.relay_core.specs.Stored.{placed_answer};
+ghost use Rattle.ws_serve.specs.Answering.{SaysDue, IfOpen};
+ghost use Rattle.ws_serve.specs.Frames.{spoken, spoken_one};
+ghost use Rattle.ws_serve.specs.Handed.{handed, AllOrNone};
 ghost use Rattle.ws_socket.specs.Faults.{IsOfStream};
 
 use crate::fault::on_link;
@@ -28,6 +34,8 @@ pub fn catch_up<S: Write, J: Naming>(
     reader: &mut Reader<J>,
 ) -> Result<(), LinkFault>
     ensures fault { IfErr result IsOfStream }
+    ensures due { OnOk result (IfOpen (SaysDue reader.new (handed S.contents stream.old) (handed S.contents stream.new)) conn.old.kept conn.new.kept) }
+    ensures limits { conn.new.limits ≡ conn.old.limits }
     ensures reader { IsPrefix reader.old reader.new }
 {
     for _part in 0..MOST_PARTS {
@@ -43,7 +51,8 @@ pub fn catch_up<S: Write, J: Naming>(
 
 /// Sends what waits.
 fn send<S: Write>(stream: &mut Gathered<S>) -> Result<(), LinkFault>
-    ensures { IfErr result IsOfStream }
+    ensures fault { IfErr result IsOfStream }
+    ensures handed { Keeps (handed S.contents stream.old) (handed S.contents stream.new) }
 {
     match stream.send() {
         Ok(()) => Ok(()),
@@ -53,13 +62,15 @@ fn send<S: Write>(stream: &mut Gathered<S>) -> Result<(), LinkFault>
 
 /// Puts the messages, none of which is an OK with true, behind what waits to be sent. Each is dropped once it is written, and its memory
 /// is at hand for the next.
+#[tactic(auto, using(crate::proofs::Framing::appends_more))]
 pub fn say_all<S: Write>(
     alloc: Global,
     stream: &mut Gathered<S>,
     messages: Vec<FromRelay>,
 ) -> Result<(), LinkFault>
-    requires { AcknowledgeNone (map relay_form messages.items) }
-    ensures { IfErr result IsOfStream }
+    requires none_acknowledged { AcknowledgeNone (map relay_form messages.items) }
+    ensures fault { IfErr result IsOfStream }
+    ensures handed { OnOk result (Appends (handed S.contents stream.old) (handed S.contents stream.new) (spoken (map relay_form messages.items))) }
 {
     let mut room = Vec::new(alloc);
     for message in messages {
@@ -75,8 +86,10 @@ pub fn say<S: Write>(
     room: Vec<u8>,
     message: &FromRelay,
 ) -> Result<Vec<u8>, LinkFault>
-    requires { acknowledges (relay_form message.now) ≡ false }
-    ensures { IfErr result IsOfStream }
+    requires not_acknowledged { acknowledges (relay_form message.now) ≡ false }
+    ensures fault { IfErr result IsOfStream }
+    ensures handed { OnOk result (Appends (handed S.contents stream.old) (handed S.contents stream.new) (spoken_one (relay_form message.now))) }
+    ensures failed { AllOrNone (handed S.contents stream.old) (handed S.contents stream.new) (spoken_one (relay_form message.now)) }
 {
     put(alloc, stream, room, message)
 }
@@ -94,6 +107,9 @@ pub fn acknowledge<S: Write, J: Naming, M>(
 ) -> Result<Vec<u8>, LinkFault>
     requires kept { length placed.now.list ≤ length kept.now }
     ensures fault { IfErr result IsOfStream }
+    ensures handed { OnOk result (Appends (handed S.contents stream.old) (handed S.contents stream.new) (spoken_one (placed_answer placed.now.id placed.now.fresh))) }
+    ensures kept_so { OnOk result (GoesOnBy (λ old new. new ≡ old) conn.old.kept conn.new.kept) }
+    ensures limits { conn.new.limits ≡ conn.old.limits }
     ensures reader { IsPrefix reader.old reader.new }
 {
     let message = on_link(conn.stored(reader, placed, kept))?;
@@ -107,7 +123,9 @@ fn put<S: Write>(
     room: Vec<u8>,
     message: &FromRelay,
 ) -> Result<Vec<u8>, LinkFault>
-    ensures { IfErr result IsOfStream }
+    ensures fault { IfErr result IsOfStream }
+    ensures handed { OnOk result (Appends (handed S.contents stream.old) (handed S.contents stream.new) (spoken_one (relay_form message.now))) }
+    ensures failed { AllOrNone (handed S.contents stream.old) (handed S.contents stream.new) (spoken_one (relay_form message.now)) }
 {
     let text = write_relay_in(alloc, room, message)?;
     match stream.put_text(text.as_bytes()) {

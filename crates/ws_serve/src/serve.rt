@@ -1,6 +1,9 @@
 //! The relay's side of a link.
-ghost use Rattle.std.specs.Prelude.{◌≡◌, ◌≤◌, IfOk, IfErr};
+ghost use Rattle.std.specs.Prelude.{◌≡◌, ◌≤◌, IfOk, IfErr, OnOk};
 ghost use mathlib.Core.List.{IsPrefix};
+ghost use Rattle.relay_core.specs.Faults.{GoesOnBy};
+ghost use Rattle.ws_serve.specs.Answering.{SaysAnswers};
+ghost use Rattle.ws_serve.specs.Handed.{handed};
 ghost use Rattle.ws_socket.specs.Faults.{IsOfStream};
 
 use crate::fault::on_link;
@@ -341,6 +344,8 @@ fn answer<W: Wait, S: Write, J: Naming, D: Wait + Drop, H: Keeper<J>>(
     text: &str,
 ) -> Result<(), LinkFault>
     ensures fault { IfErr result IsOfStream }
+    ensures answers { OnOk result (GoesOnBy (SaysAnswers conn.old.limits reader.old reader.new text.now (handed S.contents stream.old) (handed S.contents stream.new)) conn.old.kept conn.new.kept) }
+    ensures limits { conn.new.limits ≡ conn.old.limits }
     ensures reader { IsPrefix reader.old reader.new }
 {
     let Step { out, store } = serve_text(rt, conn, reader, turn, text)?;

@@ -1,7 +1,12 @@
 //! Events that came together.
 
-ghost use Rattle.std.specs.Prelude.{IfErr};
+ghost use Rattle.std.specs.Prelude.{◌≡◌, IfOk, IfErr, OnOk};
+ghost use Rattle.std.specs.Arc.{arc_value};
+ghost use Rattle.std.specs.List.{AllByRecursion};
 ghost use mathlib.Core.List.{IsPrefix};
+ghost use Rattle.relay_core.specs.Faults.{GoesOnBy};
+ghost use Rattle.ws_serve.specs.Answering.{SaysOf};
+ghost use Rattle.ws_serve.specs.Handed.{handed};
 ghost use Rattle.ws_socket.specs.Faults.{IsOfStream};
 
 use crate::fault::on_link;
@@ -120,7 +125,8 @@ fn stored_all<W: Wait, J: Naming, D: Wait + Drop>(
     desk: &Mutex<Desk<J, D>>,
     events: &[Arc<Event>],
 ) -> Result<Vec<Stored<J>>, LinkFault>
-    ensures { IfErr result IsOfStream }
+    ensures fault { IfErr result IsOfStream }
+    ensures placed { IfOk result (λ v. AllByRecursion (λ s. IfOk s.placed (λ p. p.id ≡ s.id)) v.items) }
 {
     let mut all = Vec::with_capacity(alloc, events.len())?;
     let mut placed = placed_together(rt, alloc, desk, events).into_iter();
@@ -159,7 +165,10 @@ fn stored_one<W: Wait, J: Naming, D: Wait + Drop>(
     rt: &W,
     desk: &Mutex<Desk<J, D>>,
     event: Arc<Event>,
-) -> Stored<J> {
+) -> Stored<J>
+    ensures id { result.id ≡ (arc_value event).id }
+    ensures placed { IfOk result.placed (λ p. p.id ≡ (arc_value event).id) }
+{
     let id = event.id();
     let placed = match desk.lock(rt).insert(rt, event) {
         Ok(placed) => Ok(placed),
@@ -194,7 +203,11 @@ fn tell<S: Write, J: Naming, M>(
     stored: Stored<J>,
     kept: Option<&Kept<J, M>>,
 ) -> Result<Vec<u8>, LinkFault>
+    requires { IfOk stored.placed (λ p. p.id ≡ stored.id) }
     ensures fault { IfErr result IsOfStream }
+    ensures says { OnOk result (SaysOf stored.id (handed S.contents stream.old) (handed S.contents stream.new)) }
+    ensures kept { OnOk result (GoesOnBy (λ old new. new ≡ old) conn.old.kept conn.new.kept) }
+    ensures limits { conn.new.limits ≡ conn.old.limits }
     ensures reader { IsPrefix reader.old reader.new }
 {
     let Stored { id, placed } = stored;
@@ -222,6 +235,9 @@ fn tell_kept<S: Write, J: Naming, M>(
     kept: Option<&Kept<J, M>>,
 ) -> Result<Vec<u8>, LinkFault>
     ensures fault { IfErr result IsOfStream }
+    ensures says { OnOk result (SaysOf placed.now.id (handed S.contents stream.old) (handed S.contents stream.new)) }
+    ensures kept { OnOk result (GoesOnBy (λ old new. new ≡ old) conn.old.kept conn.new.kept) }
+    ensures limits { conn.new.limits ≡ conn.old.limits }
     ensures reader { IsPrefix reader.old reader.new }
 {
     match kept {
@@ -244,7 +260,10 @@ fn refuse<S: Write, J: Naming>(
     id: Id,
     fault: &StoringFault<J>,
 ) -> Result<Vec<u8>, LinkFault>
-    ensures { IfErr result IsOfStream }
+    ensures fault { IfErr result IsOfStream }
+    ensures says { OnOk result (SaysOf id (handed S.contents stream.old) (handed S.contents stream.new)) }
+    ensures kept { OnOk result (GoesOnBy (λ old new. new ≡ old) conn.old.kept conn.new.kept) }
+    ensures limits { conn.new.limits ≡ conn.old.limits }
 {
     let message = on_link(conn.unstored(id, fault))?;
     say(alloc, stream, room, &message)
@@ -262,6 +281,9 @@ pub fn answer_one<W: Wait, S: Write, J: Naming, D: Wait + Drop, H: Keeper<J>>(
     event: Arc<Event>,
 ) -> Result<(), LinkFault>
     ensures fault { IfErr result IsOfStream }
+    ensures says { OnOk result (SaysOf (arc_value event).id (handed S.contents stream.old) (handed S.contents stream.new)) }
+    ensures kept { OnOk result (GoesOnBy (λ old new. new ≡ old) conn.old.kept conn.new.kept) }
+    ensures limits { conn.new.limits ≡ conn.old.limits }
     ensures reader { IsPrefix reader.old reader.new }
 {
     let one = stored_one(rt, desk, event);

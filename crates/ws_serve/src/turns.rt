@@ -1,8 +1,11 @@
 //! Long texts, which are read one at a time.
-ghost use Rattle.std.specs.Prelude.{map, IfOk, IfErr};
+ghost use Rattle.std.specs.Prelude.{◌≡◌, map, IfOk, IfErr};
 ghost use mathlib.Core.List.{IsPrefix};
 ghost use Rattle.nostr_wire.specs.Forms.{relay_form};
 ghost use Rattle.relay_core.specs.Acknowledging.{AcknowledgeNone};
+ghost use Rattle.relay_core.specs.Faults.{GoesOnBy};
+ghost use Rattle.relay_core.specs.Serving.{Serves};
+ghost use Rattle.relay_core.specs.Turns.{turn_of};
 ghost use Rattle.ws_socket.specs.Faults.{IsOfStream};
 
 use crate::fault::on_link;
@@ -22,6 +25,8 @@ pub fn serve_text<W: Wait, J: Naming>(
     turn: &Mutex<()>,
     text: &str,
 ) -> Result<Step, LinkFault>
+    ensures served { IfOk result (λ s. GoesOnBy (λ old new. Serves conn.old.limits reader.new text.now old (turn_of s new)) conn.old.kept conn.new.kept) }
+    ensures limits { conn.new.limits ≡ conn.old.limits }
     ensures none_acknowledged { IfOk result (λ s. AcknowledgeNone (map relay_form s.out.items)) }
     ensures fault { IfErr result IsOfStream }
     ensures reader { IsPrefix reader.old reader.new }

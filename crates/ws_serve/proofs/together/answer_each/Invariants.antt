@@ -1,5 +1,12 @@
+use Rattle.std.proofs.Common.{◌≡◌}
+use Rattle.std.specs.Prelude.{IfOk}
+use Rattle.std.specs.List.{AllByRecursion}
+use Rattle.std.specs.Vec.Iter.{into_iter_items}
 use mathlib.Core.List.{IsPrefix}
 use Rattle.ws_serve.proofs.together.answer_each.Given as goal
 
 abbrev pub invariant-loop-one : goal.invariant-loop-one
-invariant-loop-one g l = record { reader : IsPrefix l.initial.reader l.reader }
+invariant-loop-one g l = record {
+  reader : IsPrefix l.initial.reader l.reader;
+  placed : AllByRecursion (λ s. IfOk s.placed (λ p. p.id ≡ s.id)) (into_iter_items l.one-iterator);
+}
