@@ -116,7 +116,7 @@ up_to_some events start place next count more a b c p lines q =
       u.1.0 ++ text_of (drop next events),
       takes_both t.0 u.0 x y z t.1 u.2,
       four_texts (text_of (take start events)) t.0 u.0 u.1.0 (text_of (drop next events)) more (text_of events) (text_of (take next events))
-      (text_split events next) (lines ∙ ap (λ (l : List ℕ). l ++ more) t.2) u.1.1,
+          (text_split events next) (lines ∙ ap (λ (l : List ℕ). l ++ more) t.2) u.1.1,
     )) a b c p q
 
 pub up_to_stop : (events : List EventView) (start place count : ℕ) (a b : Option Held) → Goes (TakesUpTo events start place count) a b → Goes (TakesBegun events start) a b

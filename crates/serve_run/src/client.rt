@@ -20,7 +20,8 @@ const MOST_HANDSHAKE_READS: u64 = 100;
 const PING: [u8; 2] = [0x89, 0];
 
 /// What is told to one that asks for a document (RFC 9110, section 15.5.22).
-const TURNED_AWAY: &str = "HTTP/1.1 426 Upgrade Required\r\nConnection: Upgrade, close\r\nUpgrade: websocket\r\nContent-Type: text/plain; charset=utf-8\r\nContent-Length: 61\r\n\r\nThis is a Nostr relay: it speaks WebSocket (NIP-01, NIP-77).\n";
+const TURNED_AWAY: &str =
+    "HTTP/1.1 426 Upgrade Required\r\nConnection: Upgrade, close\r\nUpgrade: websocket\r\nContent-Type: text/plain; charset=utf-8\r\nContent-Length: 61\r\n\r\nThis is a Nostr relay: it speaks WebSocket (NIP-01, NIP-77).\n";
 
 /// How long clients may keep a connection waiting.
 #[derive(Clone, Copy, Debug)]

@@ -36,9 +36,9 @@ pub begin_more : (loads old new : List ℕ) (n : ℕ) → (n < RELAYS → base_o
     → ((r : ℕ) → r ≢ n → base_of new r ≡ base_of old r) → IsBegun loads old n → IsBegun loads new (n + 1)
 begin_more loads old new n here others before = record {
   begun = λ r below relay small. ⊎_elim
-  (λ (e : r ≡ n). subst (λ k. base_of new k ≡ base_of loads k) (sym e) (here (subst (λ k. k < RELAYS) e relay) (subst (λ k. base_of loads k ≤ MOST_BASE) e small)))
-  (λ (other : r ≡ n → ⊥). others r other ∙ before.begun r (omega (arith, other)) relay small)
-  (cases_eq r n);
+      (λ (e : r ≡ n). subst (λ k. base_of new k ≡ base_of loads k) (sym e) (here (subst (λ k. k < RELAYS) e relay) (subst (λ k. base_of loads k ≤ MOST_BASE) e small)))
+      (λ (other : r ≡ n → ⊥). others r other ∙ before.begun r (omega (arith, other)) relay small)
+      (cases_eq r n);
   rest = λ r above. others r (λ e. absurd (omega (arith, e))) ∙ before.rest r (omega arith);
 }
 

@@ -100,7 +100,7 @@ next_round first here number old mid new before one both cells next at counted s
       given = rw (sum_by_push (λ (r : Ended). count_by is_done r.0) at.rounds (cells, next)) (capped_both before.given one.given _ _ both.given at.given counted.given sums.given);
       missed = rw (sum_by_push (λ (r : Ended). count_by is_missed r.0) at.rounds (cells, next)) (capped_both before.missed one.missed _ _ both.missed at.missed counted.missed sums.missed);
       printed = subst (λ (bs : List ℕ). Appends old new bs) (sym (rounds_push at.rounds (cells, next)))
-      (append_both old mid new (rounds_text at.rounds) (round_text (2 + length at.rounds) next.plan) at.printed (subst (λ k. Appends mid new (round_text k next.plan)) n line'));
+          (append_both old mid new (rounds_text at.rounds) (round_text (2 + length at.rounds) next.plan) at.printed (subst (λ k. Appends mid new (round_text k next.plan)) n line'));
     }
 
 -- the last round ended here
@@ -147,9 +147,9 @@ is_next offers later plan next cells bases raised stopped whole plan_ok same gro
     record {
       whole = whole;
       grown = λ r.
-      ap (λ bs. base_of bs r) over
-      ∙ grows r (subst (λ (bs : List ℕ). base_of bs r ≤ MOST_BASE) (sym same) (plan_ok.bases_ok.small r))
-      ∙ ap (λ bs. min (base_of bs r + asked_of plan.gives cells r (length cells)) MOST_BASE) same;
+          ap (λ bs. base_of bs r) over
+          ∙ grows r (subst (λ (bs : List ℕ). base_of bs r ≤ MOST_BASE) (sym same) (plan_ok.bases_ok.small r))
+          ∙ ap (λ bs. min (base_of bs r + asked_of plan.gives cells r (length cells)) MOST_BASE) same;
       left = left;
       stopped = stopped;
       planned = subst (λ (bs : List ℕ). IsFailover bs stopped later next) (sym over) planned;

@@ -80,9 +80,12 @@ due_none_yet events a None = refl
 -- one part more
 pub due_part_more : (e1 e2 : List EventView) (front : ℕ) (out : List Form) (a b c : Option (List ℕ)) (k0 k1 k2 : Option Kept) → IsPrefix e1 e2
     → IfOpen (SaysDue e1 a b) k0 k1 → GoesOnBy (CatchesUp e2 front out) k1 k2 → Appends b c (spoken out) → IfOpen (SaysDue e2 a c) k0 k2
-due_part_more e1 e2 front out a b c (Some old) (Some mid) (Some new) p h k said =
-    (h.0 ++ out, says_both h.0 out a b c h.1 said, λ more q.
-        h.2 more (prefix_trans e1 e2 more p q) ∙ ap (λ ms. h.0 ++ ms) (k.nothing_lost more q) ∙ sym (append_assoc h.0 out (due new.subs more)))
+due_part_more e1 e2 front out a b c (Some old) (Some mid) (Some new) p h k said = (
+  h.0 ++ out,
+  says_both h.0 out a b c h.1 said,
+  λ more q.
+      h.2 more (prefix_trans e1 e2 more p q) ∙ ap (λ ms. h.0 ++ ms) (k.nothing_lost more q) ∙ sym (append_assoc h.0 out (due new.subs more)),
+)
 due_part_more e1 e2 front out a b c (Some old) (Some mid) None p h k said = absurd k
 due_part_more e1 e2 front out a b c (Some old) None k2 p h k said = absurd h
 due_part_more e1 e2 front out a b c None k1 k2 p h k said = absurd (subst (λ (x : Option Kept). GoesOnBy (CatchesUp e2 front out) x k2) h k)

@@ -213,14 +213,7 @@ fn tell<S: Write, J: Naming, M>(
     let Stored { id, placed } = stored;
     match placed {
         Ok(placed) => tell_kept(alloc, stream, room, conn, reader, &placed, kept),
-        Err(fault) => refuse(
-            alloc,
-            stream,
-            room,
-            conn,
-            id,
-            &StoringFault::Refused(fault),
-        ),
+        Err(fault) => refuse(alloc, stream, room, conn, id, &StoringFault::Refused(fault)),
     }
 }
 

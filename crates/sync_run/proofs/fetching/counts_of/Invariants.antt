@@ -8,5 +8,5 @@ invariant-loop-at l = record {
   given : l.given ≡ count_by is_done (take l.at l.cells);
   missed : l.missed ≡ count_by is_missed (take l.at l.cells);
   left : l.left ≡ count_by is_left (take l.at l.cells);
-  few : (l.given ≤ l.at) × (l.missed ≤ l.at) × (l.left ≤ l.at)
+  few : (l.given ≤ l.at) × (l.missed ≤ l.at) × (l.left ≤ l.at);
 }

@@ -26,7 +26,7 @@ loop-place-preserved g c =
     (record {
       faults = All-push (λ p. p.peer.faults < 2 ^ 64 - 1) c.loop-place.peers.items _ before.faults small;
       numbers = numbers_push (λ p. p.relay) c.loop-place.peers.items _ (length c.loop-place.peers.items) before.numbers number
-      ∙ ap (λ n. range_with_len 0 n) (sym (length_push c.loop-place.peers.items _));
+          ∙ ap (λ n. range_with_len 0 n) (sym (length_push c.loop-place.peers.items _));
       some = length_push c.loop-place.peers.items _ ∙ ap (λ n. n + 1) before.some ∙ sym (length_push seen c.in-Some.place);
       all = before.all ∙ ap (λ ps. seen ++ ps) c.in-Some.ensures.steps.0 ∙ sym (append_assoc seen (c.in-Some.place ∷ []) _);
     })

@@ -8,5 +8,5 @@ invariant-loop-place g l = record {
   faults : All (λ p. p.peer.faults < 2 ^ 64 - 1) l.peers.items;
   numbers : map (λ p. p.relay) l.peers.items ≡ range_with_len 0 (length l.peers.items);
   some : length l.peers.items ≡ length l.yielded;
-  all : l.fn.places.items ≡ l.yielded ++ into_iter_items l.place-iterator
+  all : l.fn.places.items ≡ l.yielded ++ into_iter_items l.place-iterator;
 }

@@ -21,6 +21,6 @@ returns g c =
         all = fetched.all;
         counted = fetched.counted;
         printed = append_both _ _ _ _ _ (append_both _ _ _ _ _ c.in_ok-say_synced.ensures fetched.printed) last;
-      }
+      },
     ))
     c.say_counts.ensures
