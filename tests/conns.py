@@ -188,7 +188,7 @@ def a_crowd_meets(path):
 
 
 # After how many milliseconds silent clients are sent a ping.
-PING_MS = 300
+PING_MS = 1_000
 
 
 def the_silent_go(path):
