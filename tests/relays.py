@@ -204,7 +204,7 @@ FAULTS = [(closes_at_once, "closed"), (says_goodbye, "closed"), (says_nothing, "
           (says_else, "too many other messages after NOTICE wait"),
           (lambda connection, asked: connection.say(["NEG-ERR", asked[1], "blocked: too big"]), "NEG-ERR blocked: too big"),
           (lambda connection, asked: connection.say(["CLOSED", asked[1], "x" * 300]), "CLOSED " + "x" * 200),
-          (no_json, "no valid message"), (no_frame, "no valid message"), (sends_long, "no valid message"),
+          (no_json, "no valid message"), (no_frame, "no valid message"), (sends_long, "message too long"),
           (lambda connection, asked: connection.say(["NEG-MSG", asked[1], "62"]), "bad answer: version byte 98"),
           (compares, "too many rounds")]
 

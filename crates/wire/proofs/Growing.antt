@@ -1,5 +1,5 @@
 -- How what is said and heard goes on.
-use Rattle.std.proofs.Common.{◌≡◌, ℕ, List, [], ◌∷◌, ◌++◌, drop, Option, None, Some, refl, sym, ap, ◌∙◌, append_assoc, append-nil}
+use Rattle.std.proofs.Common.{◌≡◌, ℕ, List, [], ◌∷◌, ◌++◌, drop, Option, None, Some, refl, sym, ap, ◌∙◌, subst, append_assoc, append-nil}
 use Rattle.std.proofs.lemmas.List.{drop-append-le}
 use Rattle.std.specs.Prelude.{String, string_bytes}
 use Rattle.std.specs.declared.alloc.Global.{Global}
@@ -13,7 +13,7 @@ use Rattle.wire.specs.Frames.{text_frame, Puts}
 use Rattle.wire.specs.Line.{Line, Talk, talk_of, Fills, Hands, Rests}
 use Rattle.wire.specs.Steps.{heard_of, Comes}
 use Rattle.wire.specs.Talk.{Frames, AreParts, AreRead, AreReplied, Listens, Listened, Waited, HearsText, Says, Grows}
-use Rattle.wire.specs.Turns.{Means, Reads}
+use Rattle.wire.specs.Turns.{Means, Reads, Hears, ReadsApart, HearsApart}
 use mathlib.Core.List.{IsPrefix}
 
 pub prefix_self : (xs : List ℕ) → IsPrefix xs xs
@@ -185,6 +185,22 @@ module _ {S : Type 0} where
     },
     tt,
   )
+
+  reads_put : (l m n : Line S) (r : List ℕ) (h : Heard) (frame : ℕ × Effect) → ReadsApart l m [] r h frame → n ≡ record m { output = m.output ++ r } → Reads l n h frame
+  reads_put l m n r h frame read e =
+      let same : m.output ≡ l.output = rw read.3 refl in
+      let sent : Sends frame.1.next.role frame.1.reply l.output (l.output ++ r) =
+      subst (λ (z : List ℕ). Sends frame.1.next.role frame.1.reply z (l.output ++ r)) (append-nil l.output) (sends_behind frame.1.next.role frame.1.reply l.output [] r read.2) in
+      rw (e, read.3) (read.0, read.1, refl, refl, sent, (refl, refl, refl))
+
+  -- a frame was read, and then its reply was put
+  pub hears_put : (l m n : Line S) (r : List ℕ) (h : Heard) → HearsApart l m [] r h → n ≡ record m { output = m.output ++ r } → Hears l n h
+  hears_put l m n r Heard.Nothing k e = (rw (e, k.0, k.1) (ap (λ z. record l { output = z }) (append-nil l.output)), k.2)
+  hears_put l m n r (Heard.Text s) k e = (k.0, reads_put l m n r (Heard.Text s) k.0 k.1 e)
+  hears_put l m n r Heard.Binary k e = (k.0, reads_put l m n r Heard.Binary k.0 k.1 e)
+  hears_put l m n r Heard.Other k e = (k.0, reads_put l m n r Heard.Other k.0 k.1 e)
+  hears_put l m n r Heard.Close k e = (k.0, reads_put l m n r Heard.Close k.0 k.1 e)
+  hears_put l m n r Heard.Part k e = (k.0, reads_put l m n r Heard.Part k.0 k.1 e)
 
   listens_frame : (l m : Line S) (h : Heard) (frame : ℕ × Effect) → Reads l m h frame → Listens (talk_of l) (talk_of m) [] (frame ∷ [])
   listens_frame l m h frame r =

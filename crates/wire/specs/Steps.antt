@@ -10,6 +10,7 @@ use Rattle.wire.specs.Turns.{Means}
 -- what the frame says that is or ends the message
 abbrev pub heard_of : Message → Heard
 heard_of (Message.Text s) = Heard.Text s
+heard_of Message.Binary = Heard.Binary
 heard_of Message.Other = Heard.Other
 heard_of Message.Close = Heard.Close
 

@@ -5,7 +5,9 @@
 pub enum Heard {
     /// It is or ends this text.
     Text(String),
-    /// It is or ends another message: bytes, a ping or a pong.
+    /// It is or ends a message of bytes.
+    Binary,
+    /// It is a ping or a pong.
     Other,
     /// The other side closes.
     Close,
@@ -20,7 +22,9 @@ pub enum Heard {
 pub enum Message {
     /// A text.
     Text(String),
-    /// Bytes, a ping or a pong.
+    /// Bytes.
+    Binary,
+    /// A ping or a pong.
     Other,
     /// The other side closes.
     Close,

@@ -5,8 +5,8 @@ ghost use Rattle.std.specs.Io.KnownBytes.{Keeps, Appends, Consumes};
 ghost use Rattle.websocket.specs.Content.{message_content, received_content, IsReceivedInside, HasValidText};
 ghost use Rattle.websocket.specs.Connection.{close_step, read_step, failed_connection};
 ghost use Rattle.websocket.specs.View.{Leaves, Returns, ReadLeaves, KeepsRest, IfMessage, IfReceived};
-ghost use Rattle.wire.specs.Frames.{Puts};
-ghost use Rattle.wire.specs.Turns.{Means, Hears};
+ghost use Rattle.wire.specs.Frames.{Puts, text_frame};
+ghost use Rattle.wire.specs.Turns.{Means, Hears, HearsApart};
 ghost use Rattle.wire.specs.Line.{Line, Fills, Hands, Rests, fresh, talk_of};
 
 use crate::heard::Heard;
@@ -16,8 +16,10 @@ use std::io;
 use std::io::{ErrorKind, Read, Write};
 use std::marker::Model;
 use websocket::error::Error as FrameError;
+use websocket::protocol::frame::FrameHeader;
+use websocket::protocol::frame::coding::{Data, OpCode};
 use websocket::protocol::{
-    FrameStatus, MaskKeys, Message as Words, Role, Step, WebSocketConfig, WebSocketContext,
+    FrameStatus, MaskKeys, Message as Words, NoMask, Role, Step, WebSocketConfig, WebSocketContext,
 };
 
 /// A WebSocket over a stream. `K` gives a client's masking keys.
@@ -108,6 +110,61 @@ impl<S: Drop, K: Drop> Wire<S, K> {
     }
 }
 
+impl<S, K> Wire<S, K> {
+    /// How many bytes wait to be sent.
+    pub fn waiting(&self) -> usize
+        ensures { result ≡ length self.now.output }
+    {
+        self.output.len()
+    }
+
+    /// From now on a read asks for so many bytes.
+    pub fn ask_for(&mut self, read_bytes: usize) -> Result<(), AllocError>
+        ensures { self.new ≡ self.old }
+    {
+        if self.chunk.len() != read_bytes {
+            self.chunk.resize(read_bytes, 0)?;
+        }
+        Ok(())
+    }
+}
+
+impl<S, K> Wire<S, K> {
+    /// Puts these bytes, which are whole frames, behind what waits.
+    pub fn put_frames(&mut self, frames: &[u8]) -> Result<(), AllocError>
+        ensures whole { OnOk result (self.new ≡ record self.old { output = self.old.output ++ frames.now }) }
+        ensures none { OnErr result (self.new ≡ self.old) }
+    {
+        self.output.extend_from_slice(frames)?;
+        Ok(())
+    }
+}
+
+impl<S> Wire<S, NoMask> {
+    /// Puts a server's text, as one frame, behind what waits. It is taken in any state of the connection: behind a frame that broke
+    /// the protocol what came before it may still be answered. The caller sees to it that none stands behind a close.
+    pub fn put_unmasked(&mut self, text: &[u8]) -> Result<(), AllocError>
+        ensures whole { OnOk result (self.new ≡ record self.old { output = self.old.output ++ text_frame None text.now }) }
+        ensures none { OnErr result (self.new ≡ self.old) }
+    {
+        put_frame(&mut self.output, text)
+    }
+}
+
+/// Puts the text's frame, without a mask, behind the bytes.
+fn put_frame(output: &mut Vec<u8>, text: &[u8]) -> Result<(), AllocError>
+    ensures whole { OnOk result (output.new.items ≡ output.old.items ++ text_frame None text.now) }
+    ensures none { OnErr result (output.new.items ≡ output.old.items) }
+{
+    let header = FrameHeader::new(OpCode::Data(Data::Text), None);
+    let size = text.len() as u64;
+    // Room for all of it, so that no part is left alone.
+    output.reserve(header.len(size).saturating_add(text.len()))?;
+    header.format(size, output)?;
+    output.extend_from_slice(text)?;
+    Ok(())
+}
+
 impl<S: Read, K> Wire<S, K> {
     /// Reads what the stream has, once. The end of the stream is told as `UnexpectedEof`.
     pub fn fill(&mut self) -> io::Result<()>
@@ -188,29 +245,40 @@ impl<S, K: MaskKeys> Wire<S, K> {
         ensures hears { IfOk result (Hears self.old self.new) }
         ensures rests { Rests self.old self.new }
     {
-        match self.read_frame()? {
+        let mut reply = Vec::new(self.alloc);
+        let heard = self.hear_apart(&mut reply)?;
+        self.put_frames(reply.as_slice())?;
+        Ok(heard)
+    }
+
+    /// Reads a frame of the input. Its reply, if it asks for one, is put behind these bytes, and not behind what waits.
+    pub fn hear_apart(&mut self, reply: &mut Vec<u8>) -> Result<Heard, FrameError>
+        ensures hears { IfOk result (HearsApart self.old self.new reply.old.items reply.new.items) }
+        ensures rests { Rests self.old self.new }
+        ensures output { self.new.output ≡ self.old.output }
+        ensures role { self.new.conn.role ≡ self.old.conn.role }
+    {
+        match self.read_frame(reply)? {
             FrameStatus::Partial(_) => Ok(Heard::Nothing),
             FrameStatus::Complete(step) => Ok(self.finish_frame(step)?),
         }
     }
 
     // One step of the protocol on the input.
-    fn read_frame(&mut self) -> Result<FrameStatus<Step>, FrameError>
+    fn read_frame(&mut self, reply: &mut Vec<u8>) -> Result<FrameStatus<Step>, FrameError>
         ensures returns { IfOk result (Returns (read_step self.old.conn self.old.input) self.new.input) }
-        ensures leaves { OnOk result (ReadLeaves (read_step self.old.conn self.old.input) self.old.conn self.new.conn self.old.output self.new.output) }
+        ensures leaves { OnOk result (ReadLeaves (read_step self.old.conn self.old.input) self.old.conn self.new.conn reply.old.items reply.new.items) }
         ensures keeps_rest { IfOk result (λ status. KeepsRest status self.old.input self.new.input) }
         ensures inside { IfOk result (λ status. IfMessage status (IsReceivedInside self.new.input)) }
         ensures valid_text { IfReceived result self.new.input HasValidText }
         ensures same_len { length self.new.input ≡ length self.old.input }
         ensures rests { Rests self.old self.new }
+        ensures output { self.new.output ≡ self.old.output }
         ensures err_state { OnErr result (self.new.conn ≡ failed_connection self.old.conn) }
-        ensures err_output { OnErr result (self.new.output ≡ self.old.output) }
+        ensures role { self.new.conn.role ≡ self.old.conn.role }
     {
-        self.context.read(
-            &mut self.input[self.start..],
-            &mut self.output,
-            &mut self.keys,
-        )
+        self.context
+            .read(&mut self.input[self.start..], reply, &mut self.keys)
     }
 
     // What a frame says, which is then gone.
@@ -274,7 +342,8 @@ fn meant(alloc: Global, message: Words<'_>) -> Result<Heard, AllocError>
 {
     Ok(match message {
         Words::Text(text) => Heard::Text(String::from_str(alloc, text)?),
-        Words::Binary(_) | Words::Ping(_) | Words::Pong(_) => Heard::Other,
+        Words::Binary(_) => Heard::Binary,
+        Words::Ping(_) | Words::Pong(_) => Heard::Other,
         Words::Close(_) => Heard::Close,
     })
 }

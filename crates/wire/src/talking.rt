@@ -53,6 +53,7 @@ impl<S: Read + Write, K: MaskKeys> Wire<S, K> {
         self.send_some()?;
         match self.hear()? {
             Heard::Text(text) => Ok(Some(Message::Text(text))),
+            Heard::Binary => Ok(Some(Message::Binary)),
             Heard::Other => Ok(Some(Message::Other)),
             Heard::Close => Ok(Some(Message::Close)),
             Heard::Part => Ok(None),

@@ -17,9 +17,8 @@ use std::io::{Read, Write};
 use std::random::RandomSource;
 use tungstenite::handshake::client::{request_of, start};
 use tungstenite::{Error as SocketError, HandshakeError, MaskKeys, NoMask, RandomKeys, Role};
-use websocket::protocol::WebSocketConfig as FrameConfig;
 use wire::{Message, Wire};
-use ws_socket::{LinkFault, MANY_BYTES, Reason, config};
+use ws_socket::{LinkFault, MANY_BYTES, Reason, limits};
 
 /// Does the client's handshake, which names this host and path. The masking keys come from `source`.
 pub fn connected<S: Read + Write + Drop, R: RandomSource + Drop>(
@@ -52,16 +51,6 @@ pub fn connected<S: Read + Write + Drop, R: RandomSource + Drop>(
         MANY_BYTES,
     )?;
     Ok(wire)
-}
-
-/// The limits of messages and frames.
-fn limits() -> FrameConfig {
-    let limits = config(MANY_BYTES);
-    FrameConfig {
-        max_message_size: limits.max_message_size,
-        max_frame_size: limits.max_frame_size,
-        accept_unmasked_frames: limits.accept_unmasked_frames,
-    }
 }
 
 /// Does the client's handshake, with a nonce from `source`.
@@ -164,6 +153,7 @@ pub fn heard<S: Read + Write, K: MaskKeys>(
             notes.tell(Reason::Closed);
             Err(LinkFault::Link)
         }
+        Ok(Message::Binary) => Ok(None),
         Ok(Message::Other) => Ok(None),
         Err(fault) => Err(notes.broken(fault)),
     }

@@ -7,4 +7,4 @@ mod socket;
 
 pub use fault::LinkFault;
 pub use reason::{Reason, TOO_SLOW, Told};
-pub use socket::{MANY_BYTES, close, config};
+pub use socket::{MANY_BYTES, limits};

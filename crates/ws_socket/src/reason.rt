@@ -32,6 +32,8 @@ pub enum Reason {
     NoHandshake,
     /// The other side sent what is no message.
     NoMessage,
+    /// The other side sent a message of more bytes than are taken.
+    TooLong,
     /// What was asked for came too slowly.
     TooSlow,
     /// A thousand messages came that have nothing to do with the call.
@@ -78,6 +80,7 @@ impl Reason {
             SocketError::Http(response) => Reason::Status(response.status().as_u16()),
             SocketError::Url => Reason::NoHost,
             SocketError::Handshake(_) | SocketError::AttackAttempt => Reason::NoHandshake,
+            SocketError::Capacity(_) => Reason::TooLong,
             _ => Reason::NoMessage,
         }
     }
@@ -94,6 +97,7 @@ impl fmt::Display for Reason {
             Reason::Status(status) => write!(f, "status {status}"),
             Reason::NoHandshake => write!(f, "no WebSocket handshake"),
             Reason::NoMessage => write!(f, "no valid message"),
+            Reason::TooLong => write!(f, "message too long"),
             Reason::TooSlow => write!(f, "too slow"),
             Reason::TooManyOthers => write!(f, "too many other messages"),
             Reason::NegErr(text) => write!(f, "NEG-ERR {}", Told(text.as_str())),

@@ -10,11 +10,11 @@ use wire::{Fault, Message, Wire};
 
 /// A stream that gives one byte at each read and takes so many at each write, and would block at each third call.
 #[derive(Drop)]
-struct Dripping<'a> {
-    left: &'a [u8],
-    sent: &'a mut Vec<u8>,
-    takes: usize,
-    calls: u64,
+pub struct Dripping<'a> {
+    pub left: &'a [u8],
+    pub sent: &'a mut Vec<u8>,
+    pub takes: usize,
+    pub calls: u64,
 }
 
 impl Dripping<'_> {
@@ -61,10 +61,11 @@ const HEARD: &[u8] =
 const SAID: &[u8] =
     b"\x81\x82\x00\x00\x00\x00yo\x8a\x84\x00\x00\x00\x00beat\x8a\x82\x00\x00\x00\x00go\x88\x80\x00\x00\x00\x00";
 
-/// Puts what was heard behind the rest: a text, a dot for another message, a bar for the close.
+/// Puts what was heard behind the rest: a text, a hash for bytes, a dot for a ping or a pong, a bar for the close.
 fn note(heard: &mut String, message: &Message) -> Option<()> {
     match message {
         Message::Text(text) => heard.push_str(text.as_str()).ok(),
+        Message::Binary => heard.push_str("#").ok(),
         Message::Other => heard.push_str(".").ok(),
         Message::Close => heard.push_str("|").ok(),
     }
@@ -128,7 +129,7 @@ fn cut_frames(rt: HostRuntime) -> Result<(), Fail> {
         let heard = talked(alloc, stream, first);
         assert_eq!(rt; heard.is_some(), true);
         if let Some(heard) = heard {
-            assert_eq!(rt; (ahead, heard.as_str()), (ahead, "..hi.there|"));
+            assert_eq!(rt; (ahead, heard.as_str()), (ahead, "..hi#there|"));
         }
         assert_eq!(rt; (ahead, sent.as_slice()), (ahead, SAID));
     }

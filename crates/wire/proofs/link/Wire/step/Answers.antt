@@ -13,6 +13,15 @@ returns-in-Text g c =
     let come = comes_later (talk_of old) (talk_of mid) (talk_of new) (Message.Text c.in-Text.text) (waited_send g.S.Write.contents old mid c.send_some.ensures.hands) (comes_frame mid new (Message.Text c.in-Text.text) heard.0 heard.1) in
     record { may_come = come; grows = grows_came (talk_of old) (talk_of new) (Message.Text c.in-Text.text) come }
 
+pub returns-in-Binary : goal.returns-in-Binary
+returns-in-Binary g c =
+    let heard = rw c.in-Binary.is at c.in_ok-text.ensures.hears in
+    let old = c.args.self.now in
+    let mid = c.send_some.new.self in
+    let new = c.hear.new.self in
+    let come = comes_later (talk_of old) (talk_of mid) (talk_of new) Message.Binary (waited_send g.S.Write.contents old mid c.send_some.ensures.hands) (comes_frame mid new Message.Binary heard.0 heard.1) in
+    record { may_come = come; grows = grows_came (talk_of old) (talk_of new) Message.Binary come }
+
 pub returns-in-Other : goal.returns-in-Other
 returns-in-Other g c =
     let heard = rw c.in-Other.is at c.in_ok-text.ensures.hears in
