@@ -1,7 +1,7 @@
 -- The keys of the settings.
 use Rattle.std.specs.Prelude.{ℕ, List, codes}
 use Rattle.mirror_settings.specs.declared.fault.SettingsKey.{SettingsKey}
-use Rattle.mirror_settings.specs.declared.fault.SettingsKey.TheVariants.{Events, Listen, Conns, Relays, Filter, Workers, Bases, Rounds, PushMs, TimeoutMs, Fsync, SlowBytes, Clients, PingMs}
+use Rattle.mirror_settings.specs.declared.fault.SettingsKey.TheVariants.{Events, Listen, Conns, Relays, Filter, Workers, Bases, Rounds, PushMs, TimeoutMs, Fsync, SlowBytes, Clients, PingMs, ReadOnly, EveryMs, Passes, Live}
 
 abbrev pub name_of : SettingsKey → List ℕ
 name_of Events = codes "events"
@@ -18,6 +18,10 @@ name_of Fsync = codes "fsync"
 name_of SlowBytes = codes "slow_bytes"
 name_of Clients = codes "clients"
 name_of PingMs = codes "ping_ms"
+name_of ReadOnly = codes "read_only"
+name_of EveryMs = codes "every_ms"
+name_of Passes = codes "passes"
+name_of Live = codes "live"
 
 -- its place in the order in which the keys are looked at
 abbrev pub place_of : SettingsKey → ℕ
@@ -35,3 +39,7 @@ place_of Fsync = 10
 place_of SlowBytes = 11
 place_of Clients = 12
 place_of PingMs = 13
+place_of ReadOnly = 14
+place_of EveryMs = 15
+place_of Passes = 16
+place_of Live = 17

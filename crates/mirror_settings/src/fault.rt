@@ -22,6 +22,10 @@ pub enum SettingsKey {
     SlowBytes,
     Clients,
     PingMs,
+    ReadOnly,
+    EveryMs,
+    Passes,
+    Live,
 }
 
 impl SettingsKey {
@@ -46,6 +50,10 @@ impl SettingsKey {
             SettingsKey::SlowBytes => "slow_bytes",
             SettingsKey::Clients => "clients",
             SettingsKey::PingMs => "ping_ms",
+            SettingsKey::ReadOnly => "read_only",
+            SettingsKey::EveryMs => "every_ms",
+            SettingsKey::Passes => "passes",
+            SettingsKey::Live => "live",
         }
     }
 }

@@ -3,17 +3,21 @@
 
 mod address;
 mod fault;
+mod job;
 mod lists;
 mod reading;
 mod relay;
 mod settings;
 mod tunnel;
+mod unknown;
 mod url;
 mod values;
 
 pub use address::{Address, read_address};
 pub use fault::{SettingsFault, SettingsKey};
+pub use job::Job;
 pub use lists::{Loads, Relays};
 pub use reading::read_settings;
 pub use relay::Relay;
-pub use settings::{Settings, Syncing};
+pub use settings::{Mirroring, Settings, Syncing};
+pub use unknown::unknown_keys;

@@ -1,17 +1,20 @@
 //! The settings that a TOML text tells.
 
-ghost use Rattle.std.specs.Prelude.{◌≡◌, ℕ, Bool, List, IfOk, IfErr};
+ghost use Rattle.std.specs.Prelude.{◌≡◌, ℕ, Bool, true, List, IfOk, IfErr};
 ghost use Rattle.toml.specs.Data.{Members};
 ghost use Rattle.toml.specs.Parse.{parse_document};
 ghost use Rattle.toml.specs.View.{table_view};
-ghost use Rattle.mirror_settings.specs.Settings.{Fails, HasEvents, HasListen, HasConns, HasRelays, HasFilter, HasWorkers, HasBases, HasRounds, HasPushMs, HasTimeoutMs, HasFsync, HasSlowBytes, Tells, Refuses, RefusesTable, Stops};
+ghost use Rattle.mirror_settings.specs.Settings.{Fails, HasEvents, HasListen, HasConns, HasRelays, HasFilter, HasWorkers, HasBases, HasRounds, HasPushMs, HasTimeoutMs, HasFsync, HasSlowBytes, HasMirroring, AreGoodBelow, Tells, TellsFor, Refuses, RefusesTable, RefusesTableFor, Stops};
+ghost use Rattle.mirror_settings.specs.Settings.{reads_relays as relays_are_read};
 
 use crate::address::Address;
 use crate::fault::{SettingsFault, SettingsKey};
+use crate::job::Job;
 use crate::lists::{Loads, Relays};
-use crate::settings::{Settings, Syncing};
+use crate::settings::{Mirroring, Settings, Syncing};
 use crate::values::{
-    address_in, filter_in, loads_in, no_loads, relays_in, syncing_in, value_at, whole_at, whole_in,
+    address_in, filter_in, flag_at, loads_in, no_loads, relays_in, syncing_in, value_at, whole_at,
+    whole_in, whole_or,
 };
 use nostr_event::Text;
 use nostr_filter::Filter;
@@ -21,9 +24,12 @@ use toml::Table;
 /// What `slow_bytes` is where it is left out.
 const SLOW_BYTES: u64 = 10_000;
 
+/// What `every_ms` is where it is left out: five minutes.
+const EVERY_MS: u64 = 300_000;
+
 fn events_at(alloc: Global, table: &Table) -> Result<Text, SettingsFault>
     ensures ok { IfOk result (HasEvents (table_view table.now)) }
-    ensures err { IfErr result (λ e. (sync : Bool) → Stops sync (table_view table.now) SettingsKey.Events e) }
+    ensures err { IfErr result (λ e. (sync mirror : Bool) → Stops sync mirror (table_view table.now) SettingsKey.Events e) }
 {
     let Some(value) = value_at(table, SettingsKey::Events) else {
         return Err(SettingsFault::Key(SettingsKey::Events));
@@ -36,7 +42,7 @@ fn events_at(alloc: Global, table: &Table) -> Result<Text, SettingsFault>
 
 fn listen_at(alloc: Global, table: &Table, sync: bool) -> Result<Option<Address>, SettingsFault>
     ensures ok { IfOk result (HasListen sync (table_view table.now)) }
-    ensures err { IfErr result (Stops sync (table_view table.now) SettingsKey.Listen) }
+    ensures err { IfErr result (λ e. (mirror : Bool) → Stops sync mirror (table_view table.now) SettingsKey.Listen e) }
 {
     match value_at(table, SettingsKey::Listen) {
         Some(value) => Ok(Some(address_in(alloc, value, SettingsKey::Listen)?)),
@@ -45,10 +51,13 @@ fn listen_at(alloc: Global, table: &Table, sync: bool) -> Result<Option<Address>
     }
 }
 
-fn conns_at(table: &Table) -> Result<Option<u64>, SettingsFault>
-    ensures ok { IfOk result (HasConns (table_view table.now)) }
-    ensures err { IfErr result (λ e. (sync : Bool) → Stops sync (table_view table.now) SettingsKey.Conns e) }
+fn conns_at(table: &Table, mirror: bool) -> Result<Option<u64>, SettingsFault>
+    ensures ok { IfOk result (HasConns mirror (table_view table.now)) }
+    ensures err { IfErr result (λ e. (sync : Bool) → Stops sync mirror (table_view table.now) SettingsKey.Conns e) }
 {
+    if mirror {
+        return Ok(None);
+    }
     let is_listening = value_at(table, SettingsKey::Listen).is_some();
     let conns = whole_at(table, SettingsKey::Conns, 1, 1_000_000)?;
     if conns.is_none() && is_listening {
@@ -59,7 +68,7 @@ fn conns_at(table: &Table) -> Result<Option<u64>, SettingsFault>
 
 fn relays_at(alloc: Global, table: &Table, sync: bool) -> Result<Relays, SettingsFault>
     ensures ok { IfOk result (HasRelays sync (table_view table.now)) }
-    ensures err { IfErr result (Stops sync (table_view table.now) SettingsKey.Relays) }
+    ensures err { IfErr result (λ e. (mirror : Bool) → Stops sync mirror (table_view table.now) SettingsKey.Relays e) }
 {
     if !sync {
         return Ok(Relays::new(Vec::new(alloc)));
@@ -79,7 +88,7 @@ fn relays_at(alloc: Global, table: &Table, sync: bool) -> Result<Relays, Setting
 
 fn filter_at(alloc: Global, table: &Table, sync: bool) -> Result<Filter, SettingsFault>
     ensures ok { IfOk result (HasFilter sync (table_view table.now)) }
-    ensures err { IfErr result (Stops sync (table_view table.now) SettingsKey.Filter) }
+    ensures err { IfErr result (λ e. (mirror : Bool) → Stops sync mirror (table_view table.now) SettingsKey.Filter e) }
 {
     if !sync {
         return Ok(Filter::all());
@@ -92,7 +101,7 @@ fn filter_at(alloc: Global, table: &Table, sync: bool) -> Result<Filter, Setting
 
 fn workers_at(table: &Table, sync: bool) -> Result<u64, SettingsFault>
     ensures ok { IfOk result (HasWorkers sync (table_view table.now)) }
-    ensures err { IfErr result (Stops sync (table_view table.now) SettingsKey.Workers) }
+    ensures err { IfErr result (λ e. (mirror : Bool) → Stops sync mirror (table_view table.now) SettingsKey.Workers e) }
 {
     if !sync {
         return Ok(1);
@@ -124,7 +133,7 @@ fn bases_at(alloc: Global, table: &Table, sync: bool, count: usize) -> Result<Lo
 
 fn rounds_at(table: &Table, sync: bool) -> Result<u64, SettingsFault>
     ensures ok { IfOk result (HasRounds sync (table_view table.now)) }
-    ensures err { IfErr result (Stops sync (table_view table.now) SettingsKey.Rounds) }
+    ensures err { IfErr result (λ e. (mirror : Bool) → Stops sync mirror (table_view table.now) SettingsKey.Rounds e) }
 {
     if !sync {
         return Ok(1);
@@ -137,7 +146,7 @@ fn rounds_at(table: &Table, sync: bool) -> Result<u64, SettingsFault>
 
 fn fsync_at(table: &Table) -> Result<Syncing, SettingsFault>
     ensures ok { IfOk result (HasFsync (table_view table.now)) }
-    ensures err { IfErr result (λ e. (sync : Bool) → Stops sync (table_view table.now) SettingsKey.Fsync e) }
+    ensures err { IfErr result (λ e. (sync mirror : Bool) → Stops sync mirror (table_view table.now) SettingsKey.Fsync e) }
 {
     match value_at(table, SettingsKey::Fsync) {
         Some(value) => syncing_in(value).ok_or(SettingsFault::Key(SettingsKey::Fsync)),
@@ -147,7 +156,7 @@ fn fsync_at(table: &Table) -> Result<Syncing, SettingsFault>
 
 fn slow_bytes_at(table: &Table, sync: bool) -> Result<u64, SettingsFault>
     ensures ok { IfOk result (HasSlowBytes sync (table_view table.now)) }
-    ensures err { IfErr result (Stops sync (table_view table.now) SettingsKey.SlowBytes) }
+    ensures err { IfErr result (λ e. (mirror : Bool) → Stops sync mirror (table_view table.now) SettingsKey.SlowBytes e) }
 {
     if !sync {
         return Ok(SLOW_BYTES);
@@ -160,14 +169,49 @@ fn slow_bytes_at(table: &Table, sync: bool) -> Result<u64, SettingsFault>
     }
 }
 
-/// The settings that a table tells.
-fn settings_of(alloc: Global, table: &Table, sync: bool) -> Result<Settings, SettingsFault>
-    ensures ok { IfOk result (Tells sync (table_view table.now)) }
-    ensures err { IfErr result (RefusesTable sync (table_view table.now)) }
+/// What a table tells a mirror beside.
+fn mirroring_at(table: &Table) -> Result<Mirroring, SettingsFault>
+    ensures ok { IfOk result (HasMirroring true (table_view table.now)) }
+    ensures err { IfErr result (λ e. (sync : Bool) → AreGoodBelow sync true (table_view table.now) 15 → RefusesTable sync true (table_view table.now) e) }
+{
+    let every_ms = whole_or(table, SettingsKey::EveryMs, 1, 86_400_000, EVERY_MS)?;
+    let passes = whole_at(table, SettingsKey::Passes, 1, 1_000_000_000)?;
+    let live = flag_at(table, SettingsKey::Live, true)?;
+    Ok(Mirroring {
+        every_ms,
+        passes,
+        live,
+    })
+}
+
+/// What a table tells a run beside that is a mirror or isn't.
+fn mirroring_of(table: &Table, mirror: bool) -> Result<Mirroring, SettingsFault>
+    ensures ok { IfOk result (HasMirroring mirror (table_view table.now)) }
+    ensures err { IfErr result (λ e. (sync : Bool) → AreGoodBelow sync mirror (table_view table.now) 15 → RefusesTable sync mirror (table_view table.now) e) }
+{
+    if mirror {
+        return mirroring_at(table);
+    }
+    Ok(Mirroring {
+        every_ms: EVERY_MS,
+        passes: None,
+        live: false,
+    })
+}
+
+/// The settings that a table tells of a run that reads relays or doesn't, and is a mirror or isn't.
+fn settings_of(
+    alloc: Global,
+    table: &Table,
+    sync: bool,
+    mirror: bool,
+) -> Result<Settings, SettingsFault>
+    ensures ok { IfOk result (Tells sync mirror (table_view table.now)) }
+    ensures err { IfErr result (RefusesTable sync mirror (table_view table.now)) }
 {
     let events = events_at(alloc, table)?;
     let listen = listen_at(alloc, table, sync)?;
-    let conns = conns_at(table)?;
+    let conns = conns_at(table, mirror)?;
     let relays = relays_at(alloc, table, sync)?;
     let filter = filter_at(alloc, table, sync)?;
     let workers = workers_at(table, sync)?;
@@ -180,6 +224,8 @@ fn settings_of(alloc: Global, table: &Table, sync: bool) -> Result<Settings, Set
     let slow_bytes = slow_bytes_at(table, sync)?;
     let clients = whole_at(table, SettingsKey::Clients, 1, 1_000)?;
     let ping_ms = whole_at(table, SettingsKey::PingMs, 1, 3_600_000)?;
+    let read_only = flag_at(table, SettingsKey::ReadOnly, mirror)?;
+    let mirroring = mirroring_of(table, mirror)?;
     Ok(Settings {
         events,
         listen,
@@ -195,17 +241,37 @@ fn settings_of(alloc: Global, table: &Table, sync: bool) -> Result<Settings, Set
         slow_bytes,
         clients,
         ping_ms,
+        read_only,
+        mirroring,
     })
 }
 
-/// The settings that a TOML text tells of a run that synchronises, or else of one that serves. Keys that aren't settings are
-/// passed over.
-pub fn read_settings(alloc: Global, text: &str, sync: bool) -> Result<Settings, SettingsFault>
-    ensures ok { IfOk result (λ s. (t : Members) × (parse_document text.now ≡ Some t) × Tells sync t s) }
-    ensures err { IfErr result (Refuses sync text.now) }
+/// Whether the job reads relays.
+fn reads_relays(table: &Table, job: Job) -> bool
+    ensures { result ≡ relays_are_read job (table_view table.now) }
+{
+    match job {
+        Job::Serve => false,
+        Job::Sync => true,
+        Job::Mirror => value_at(table, SettingsKey::Relays).is_some(),
+    }
+}
+
+/// The settings that a table tells of a run of this job.
+fn settings_for(alloc: Global, table: &Table, job: Job) -> Result<Settings, SettingsFault>
+    ensures ok { IfOk result (TellsFor job (table_view table.now)) }
+    ensures err { IfErr result (RefusesTableFor job (table_view table.now)) }
+{
+    settings_of(alloc, table, reads_relays(table, job), job.is_mirror())
+}
+
+/// The settings that a TOML text tells of a run of this job. Keys that aren't settings are passed over.
+pub fn read_settings(alloc: Global, text: &str, job: Job) -> Result<Settings, SettingsFault>
+    ensures ok { IfOk result (λ s. (t : Members) × (parse_document text.now ≡ Some t) × TellsFor job t s) }
+    ensures err { IfErr result (Refuses job text.now) }
 {
     match toml::table_from_str(alloc, text) {
-        Ok(table) => settings_of(alloc, &table, sync),
+        Ok(table) => settings_for(alloc, &table, job),
         Err(error) => Err(if error.is_memory() {
             SettingsFault::Memory
         } else {

@@ -22,14 +22,25 @@ pub enum Syncing {
     Never,
 }
 
-/// The settings of a run that serves, or of one that synchronises and may serve beside.
+/// What a mirror does beside.
+#[derive(Clone, Copy, Debug, PartialEq, Eq)]
+pub struct Mirroring {
+    /// How many milliseconds behind one another passes begin at least, 1 to 86,400,000.
+    pub every_ms: u64,
+    /// After how many passes it ends, 1 to 1,000,000,000; without an end where that is left out.
+    pub passes: Option<u64>,
+    /// Whether it subscribes to relays that are level.
+    pub live: bool,
+}
+
+/// The settings of a run that serves, of one that synchronises and may serve beside, or of a mirror.
 #[derive(Debug, Drop)]
 pub struct Settings {
     /// The path of the events file.
     pub events: Text,
     /// Where to listen.
     pub listen: Option<Address>,
-    /// How many connections are served, 1 to 1,000,000.
+    /// How many connections are served, 1 to 1,000,000. A mirror serves without an end.
     pub conns: Option<u64>,
     /// The relays to synchronise with, 1 to 256. None are read where the run only serves.
     pub relays: Relays,
@@ -54,6 +65,10 @@ pub struct Settings {
     /// After how many milliseconds in which a client brings nothing it is sent a ping, and after as many more its connection ends, 1 to
     /// 3,600,000.
     pub ping_ms: Option<u64>,
+    /// Whether events of clients are refused.
+    pub read_only: bool,
+    /// What a mirror does beside.
+    pub mirroring: Mirroring,
 }
 
 impl Settings {

@@ -1,6 +1,6 @@
 //! Values of a TOML table, in the forms that the settings want.
 
-ghost use Rattle.std.specs.Prelude.{◌≡◌, ℕ, List, Option, IfSome, IfNone, IfOk, IfErr, option_map, map, All, replicate};
+ghost use Rattle.std.specs.Prelude.{◌≡◌, ℕ, Bool, List, Option, IfSome, IfNone, IfOk, IfErr, option_map, map, All, replicate};
 ghost use Rattle.toml.specs.View.{view, table_view};
 ghost use Rattle.serde_json.specs.Read.{read as read_text};
 ghost use Rattle.serde_json.specs.View.{view as json_view};
@@ -9,7 +9,7 @@ ghost use Rattle.mirror_settings.specs.declared.address.Address.{Address as AnAd
 ghost use Rattle.mirror_settings.specs.declared.relay.Relay.{Relay as ARelay};
 ghost use Rattle.mirror_settings.specs.declared.settings.Syncing.{Syncing as ASyncing};
 ghost use Rattle.mirror_settings.specs.Relays.{IsRelay, IsRelayText, AreRelays};
-ghost use Rattle.mirror_settings.specs.Settings.{at, Fails, Holds, IsWhole, IsLoad, whole_data, IsAddressData, IsFilterData, IsSyncing};
+ghost use Rattle.mirror_settings.specs.Settings.{at, Fails, Holds, HoldsOr, IsWhole, IsFlag, IsLoad, whole_data, IsAddressData, IsFilterData, IsSyncing};
 
 use crate::address::{Address, read_address};
 use crate::fault::{SettingsFault, SettingsKey};
@@ -63,6 +63,40 @@ pub fn whole_at(
     };
     match whole_in(value, least, most) {
         Some(whole) => Ok(Some(whole)),
+        None => Err(SettingsFault::Key(key)),
+    }
+}
+
+/// The whole number of a range at a key, or this one where the key isn't there.
+pub fn whole_or(
+    table: &Table,
+    key: SettingsKey,
+    least: u64,
+    most: u64,
+    default: u64,
+) -> Result<u64, SettingsFault>
+    ensures ok { IfOk result (HoldsOr default (IsWhole least most) (at key (table_view table.now))) }
+    ensures err { IfErr result (λ e. (e ≡ SettingsFault.Key key) × ((n : ℕ) → ¬ HoldsOr default (IsWhole least most) (at key (table_view table.now)) n)) }
+{
+    let Some(value) = value_at(table, key) else {
+        return Ok(default);
+    };
+    match whole_in(value, least, most) {
+        Some(whole) => Ok(whole),
+        None => Err(SettingsFault::Key(key)),
+    }
+}
+
+/// What is said at a key, yes or no, or this where the key isn't there.
+pub fn flag_at(table: &Table, key: SettingsKey, default: bool) -> Result<bool, SettingsFault>
+    ensures ok { IfOk result (HoldsOr default IsFlag (at key (table_view table.now))) }
+    ensures err { IfErr result (λ e. (e ≡ SettingsFault.Key key) × ((b : Bool) → ¬ HoldsOr default IsFlag (at key (table_view table.now)) b)) }
+{
+    let Some(value) = value_at(table, key) else {
+        return Ok(default);
+    };
+    match value.as_bool() {
+        Some(flag) => Ok(flag),
         None => Err(SettingsFault::Key(key)),
     }
 }

@@ -26,7 +26,7 @@ use Rattle.relay_core.specs.Acknowledging.{acknowledges, AcknowledgeNone}
 use Rattle.relay_core.specs.Due.{is_due, due_from}
 use Rattle.relay_core.specs.Kept.{Kept, kept_of, without_session, without_sub, session_of}
 use Rattle.relay_core.specs.Limits.{most_values}
-use Rattle.relay_core.specs.Messages.{event_to, answered, ended, notice}
+use Rattle.relay_core.specs.Messages.{event_to, answered, ended, notice, okay}
 use Rattle.relay_core.specs.Requests.{open_sizes, stored_events, Requests}
 use Rattle.relay_core.specs.Serving.{refusal, Brings, IsServed, Serves}
 use Rattle.relay_core.specs.Sessions.{Answers, GoesOn, Opens, IsPin, Begins, session}
@@ -112,8 +112,13 @@ open_none limits events name filter query t turn h =
 
 -- ---- texts
 
+taken_none : (b : Bool) (e : EventView) (t : Kept) (turn : Turn)
+    → MatchBool b (turn ≡ says_one (okay e.id false (codes "blocked: this relay takes no events")) t) (turn ≡ record { out = []; store = Some e; kept = t }) → AcknowledgeNone turn.out
+taken_none true e t turn h = one (okay e.id false (codes "blocked: this relay takes no events")) t turn refl h
+taken_none false e t turn h = subst (λ (x : Turn). AcknowledgeNone x.out) (sym h) tt
+
 brings_none : (limits : RelayLimits) (events : List EventView) (t : Kept) (m : FromClient) (turn : Turn) → Brings limits events t m turn → AcknowledgeNone turn.out
-brings_none limits events t (client.Event e) turn h = subst (λ (x : Turn). AcknowledgeNone x.out) (sym h) tt
+brings_none limits events t (client.Event e) turn h = taken_none limits.is_read_only e.value t turn h
 brings_none limits events t (client.Req name filters) turn h = request_none limits events name filters t turn h
 brings_none limits events t (client.Close name) turn h = subst (λ (x : Turn). AcknowledgeNone x.out) (sym h) tt
 brings_none limits events t (client.NegOpen name filter query) turn h = open_none limits events name filter query t turn h

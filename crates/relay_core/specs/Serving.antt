@@ -20,9 +20,16 @@ refusal (wire.Event f (Some id)) = okay id false (codes "invalid: bad event")
 refusal (wire.Event f None) = notice (codes "invalid: bad message")
 refusal _ = notice (codes "invalid: bad message")
 
+-- what the event of a client brings about: it is to be stored, unless events are refused
+abbrev pub Takes : RelayLimits → EventView → Kept → Turn → Type 0
+Takes limits e t turn =
+    MatchBool limits.is_read_only
+    (turn ≡ says_one (okay e.id false (codes "blocked: this relay takes no events")) t)
+    (turn ≡ record { out = []; store = Some e; kept = t })
+
 -- what a message brings about, where these events are published
 abbrev pub Brings : RelayLimits → List EventView → Kept → FromClient → Turn → Type 0
-Brings limits events t (client.Event e) turn = turn ≡ record { out = []; store = Some e.value; kept = t }
+Brings limits events t (client.Event e) turn = Takes limits e.value t turn
 Brings limits events t (client.Req name filters) turn = Requests limits events name filters t turn
 Brings limits events t (client.Close name) turn = turn ≡ says [] (without_sub name t)
 Brings limits events t (client.NegOpen name filter query) turn = Opens limits events name filter query t turn

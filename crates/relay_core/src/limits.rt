@@ -20,11 +20,13 @@ pub struct RelayLimits {
     pub records: usize,
     /// How many bytes a Negentropy message that is sent may have, 4,096 to 1,048,576.
     pub limit: usize,
+    /// Whether events of clients are refused.
+    pub is_read_only: bool,
     pub ghost within: { AreWithin subs filters text sessions records limit },
 }
 
 impl RelayLimits {
-    ghost use Rattle.std.specs.Prelude.{◌≤◌};
+    ghost use Rattle.std.specs.Prelude.{◌≡◌, ◌≤◌};
     ghost use Rattle.relay_core.specs.Most.{AreMost};
 
     /// The greatest limits, with Negentropy messages of at most so many bytes, 4,096 to 1,048,576.
@@ -39,7 +41,16 @@ impl RelayLimits {
             sessions: 16,
             records: 500_000,
             limit,
+            is_read_only: false,
         }
+    }
+
+    /// The same, where events of clients are refused or aren't.
+    pub fn read_only(mut self, is_read_only: bool) -> RelayLimits
+        ensures { result ≡ record self { is_read_only = is_read_only } }
+    {
+        self.is_read_only = is_read_only;
+        self
     }
 }
 

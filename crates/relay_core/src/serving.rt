@@ -1,9 +1,10 @@
 //! A client's text, and what it brings about.
 ghost use Rattle.std.specs.Prelude.{◌≡◌, ◌≢◌, IfOk, IfErr};
+ghost use Rattle.std.specs.Arc.{arc_value};
 ghost use mathlib.Core.List.{IsPrefix};
 ghost use Rattle.relay_core.specs.Asking.{Asks, TextAsks};
 ghost use Rattle.relay_core.specs.Kept.{Kept};
-ghost use Rattle.relay_core.specs.Serving.{refusal, Brings, Serves};
+ghost use Rattle.relay_core.specs.Serving.{refusal, Takes, Brings, Serves};
 ghost use Rattle.relay_core.specs.Turns.{turn_of, says_one};
 
 use crate::fault::Broken;
@@ -14,8 +15,10 @@ use crate::sessions;
 use crate::step::Step;
 use crate::talk::Talk;
 use event_store::{Naming, Reader};
+use nostr_event::Event;
 use nostr_wire::{FromClient, WireFault, read_client_few};
 use std::alloc::{AllocError, Global};
+use std::sync::Arc;
 
 // Tells why a text is no message.
 fn refuse(alloc: Global, fault: WireFault) -> Result<Step, AllocError>
@@ -28,6 +31,20 @@ fn refuse(alloc: Global, fault: WireFault) -> Result<Step, AllocError>
         _ => notice(alloc, "invalid: bad message")?,
     };
     Step::one(alloc, message)
+}
+
+// The event is to be stored, unless events are refused.
+fn take(alloc: Global, limits: &RelayLimits, event: Arc<Event>) -> Result<Step, AllocError>
+    ensures { IfOk result (λ s. (k : Kept) → Takes limits.now (arc_value event) k (turn_of s k)) }
+{
+    if limits.is_read_only {
+        let text = "blocked: this relay takes no events";
+        return Step::one(alloc, okay(alloc, event.id(), false, text)?);
+    }
+    Ok(Step {
+        out: Vec::new(alloc),
+        store: Some(event),
+    })
 }
 
 // Does what the message asks for.
@@ -43,10 +60,7 @@ fn bring<J: Naming>(
     ensures reader { IsPrefix reader.old reader.new }
 {
     match message {
-        FromClient::Event(event) => Ok(Step {
-            out: Vec::new(alloc),
-            store: Some(event),
-        }),
+        FromClient::Event(event) => Ok(take(alloc, limits, event)?),
         FromClient::Req { sub, filters } => request(talk, alloc, limits, reader, sub, filters),
         FromClient::Close { sub } => {
             talk.end_sub(&sub);

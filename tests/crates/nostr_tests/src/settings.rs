@@ -1,12 +1,14 @@
 //! Settings from a table of texts. What is told of wrong ones is tried by runs of the program (`tests/jobs.py`).
 
-use mirror_settings::{Address, Relay, Settings, SettingsFault, SettingsKey, Syncing, read_settings};
+use mirror_settings::{
+    Address, Job, Mirroring, Relay, Settings, SettingsFault, SettingsKey, Syncing, read_settings,
+    unknown_keys,
+};
 use std::test::*;
 
 /// What a run has.
 struct Row {
-    /// Whether it synchronises.
-    sync: bool,
+    job: Job,
     text: &'static str,
     events: &'static str,
     relays: &'static [(&'static str, u16)],
@@ -23,7 +25,7 @@ struct Row {
 
 static ROWS: [Row; 6] = [
     Row {
-        sync: false,
+        job: Job::Serve,
         text: "events = 'e'\nlisten = '127.0.0.1:0'\nconns = 1\nrelays = 7\nworkers = 9\nslow_bytes = 0\n",
         events: "e",
         relays: &[],
@@ -37,7 +39,7 @@ static ROWS: [Row; 6] = [
         has_kinds: false,
     },
     Row {
-        sync: false,
+        job: Job::Serve,
         text: "push_ms = 60000\nconns = 1000000\nclients = 1000\nping_ms = 3600000\nlisten = 'relay.example:65535'\nevents = 'a b'\n",
         events: "a b",
         relays: &[],
@@ -51,7 +53,7 @@ static ROWS: [Row; 6] = [
         has_kinds: false,
     },
     Row {
-        sync: true,
+        job: Job::Sync,
         text: "events = 'e'\nrelays = ['localhost:7000']\n",
         events: "e",
         relays: &[("localhost", 7000)],
@@ -65,7 +67,7 @@ static ROWS: [Row; 6] = [
         has_kinds: false,
     },
     Row {
-        sync: true,
+        job: Job::Sync,
         text: "events = 'e'\nlisten = '[::1]:80'\nconns = 5\nrelays = ['a:1', 'b:2']\nfilter = '{\"kinds\":[1]}'\nworkers = 4\nbases = [0, 1000000000]\nrounds = 16\npush_ms = 1\ntimeout_ms = 3600000\nfsync = 'everysec'\nslow_bytes = 1000000000\nclients = 1\nping_ms = 1\n",
         events: "e",
         relays: &[("a", 1), ("b", 2)],
@@ -79,7 +81,7 @@ static ROWS: [Row; 6] = [
         has_kinds: true,
     },
     Row {
-        sync: true,
+        job: Job::Sync,
         text: "events = ''\nconns = 3\nrelays = ['a:0']\nfilter = '{}'\n",
         events: "",
         relays: &[("a", 0)],
@@ -93,7 +95,7 @@ static ROWS: [Row; 6] = [
         has_kinds: false,
     },
     Row {
-        sync: true,
+        job: Job::Sync,
         text: "# none\nother = [1, { a = 2 }]\nevents = 'e'\nrelays = ['a:1']\nworkers = 2\n",
         events: "e",
         relays: &[("a", 1)],
@@ -154,7 +156,7 @@ fn are_of(settings: &Settings, row: &Row) -> bool {
 #[test]
 fn settings_are_told(rt: HostRuntime) -> Result<(), Fail> {
     for row in &ROWS {
-        let settings = read_settings(rt.alloc(), row.text, row.sync)?;
+        let settings = read_settings(rt.alloc(), row.text, row.job)?;
         assert!(rt; are_of(&settings, row));
     }
     Ok(())
@@ -166,7 +168,7 @@ fn so_many_relays(rt: HostRuntime) -> Result<(), Fail> {
     let alloc = rt.alloc();
     let many = "'a:1', ".repeat(alloc, 255)?;
     let text = format!(in alloc; "events = 'e'\nrelays = [{many}'b:2']\n")?;
-    let settings = read_settings(alloc, text.as_str(), true)?;
+    let settings = read_settings(alloc, text.as_str(), Job::Sync)?;
     assert_eq!(rt; settings.relays.as_slice().len(), 256);
     Ok(())
 }
@@ -194,7 +196,7 @@ fn entries_name_relays(rt: HostRuntime) -> Result<(), Fail> {
     let alloc = rt.alloc();
     for (entry, host, path, via) in ENTRIES {
         let text = format!(in alloc; "events = 'e'\nrelays = ['x:1', {entry}]\n")?;
-        let settings = read_settings(alloc, text.as_str(), true)?;
+        let settings = read_settings(alloc, text.as_str(), Job::Sync)?;
         let relay = &settings.relays.as_slice()[1];
         assert_eq!(rt; relay.host.as_str(), host);
         assert_eq!(rt; relay.path.as_str(), path);
@@ -254,7 +256,7 @@ fn entries_are_refused(rt: HostRuntime) -> Result<(), Fail> {
     let alloc = rt.alloc();
     for entry in NO_ENTRIES {
         let text = format!(in alloc; "events = 'e'\nrelays = ['x:1', {entry}]\nslow_bytes = 0\n")?;
-        let fault = read_settings(alloc, text.as_str(), true).err();
+        let fault = read_settings(alloc, text.as_str(), Job::Sync).err();
         assert_eq!(rt; fault, Some(SettingsFault::Key(SettingsKey::Relays)));
     }
     Ok(())
@@ -266,8 +268,79 @@ fn slow_bytes_are_refused(rt: HostRuntime) -> Result<(), Fail> {
     let alloc = rt.alloc();
     for value in ["0", "-1", "1000000001", "'1'", "1.5"] {
         let text = format!(in alloc; "events = 'e'\nrelays = ['x:1']\nslow_bytes = {value}\n")?;
-        let fault = read_settings(alloc, text.as_str(), true).err();
+        let fault = read_settings(alloc, text.as_str(), Job::Sync).err();
         assert_eq!(rt; fault, Some(SettingsFault::Key(SettingsKey::SlowBytes)));
     }
+    Ok(())
+}
+
+/// What a mirror is told: whether it refuses events of clients, how often passes begin, how many, whether it subscribes, and how many
+/// relays it has.
+static MIRRORS: [(&str, bool, u64, Option<u64>, bool, usize); 4] = [
+    ("events = 'e'\nlisten = 'a:1'\n", true, 300_000, None, true, 0),
+    ("events = 'e'\nrelays = ['a:1']\nconns = 0\n", true, 300_000, None, true, 1),
+    (
+        "events = 'e'\nrelays = ['a:1', 'b:2']\nread_only = false\nevery_ms = 1\npasses = 1\nlive = false\n",
+        false,
+        1,
+        Some(1),
+        false,
+        2,
+    ),
+    (
+        "events = 'e'\nrelays = ['a:1']\nread_only = true\nevery_ms = 86400000\npasses = 1000000000\nlive = true\n",
+        true,
+        86_400_000,
+        Some(1_000_000_000),
+        true,
+        1,
+    ),
+];
+
+#[test]
+fn mirrors_are_told(rt: HostRuntime) -> Result<(), Fail> {
+    for (text, read_only, every_ms, passes, live, relays) in MIRRORS {
+        let settings = read_settings(rt.alloc(), text, Job::Mirror)?;
+        assert_eq!(rt; settings.read_only, read_only);
+        assert_eq!(rt; settings.mirroring, Mirroring { every_ms, passes, live });
+        assert_eq!(rt; settings.relays.as_slice().len(), relays);
+        assert_eq!(rt; settings.conns, None);
+    }
+    Ok(())
+}
+
+/// What is wrong of a mirror, and of another job not.
+static NO_MIRRORS: [(&str, SettingsKey); 9] = [
+    ("", SettingsKey::Listen),
+    ("relays = []", SettingsKey::Relays),
+    ("relays = ['a:1']\nread_only = 'yes'", SettingsKey::ReadOnly),
+    ("relays = ['a:1']\nevery_ms = 0", SettingsKey::EveryMs),
+    ("relays = ['a:1']\nevery_ms = 86400001", SettingsKey::EveryMs),
+    ("relays = ['a:1']\npasses = 0", SettingsKey::Passes),
+    ("relays = ['a:1']\npasses = 1000000001", SettingsKey::Passes),
+    ("relays = ['a:1']\nlive = 1", SettingsKey::Live),
+    ("relays = ['a:1']\nlive = 1\nevery_ms = 'a'", SettingsKey::EveryMs),
+];
+
+#[test]
+fn mirrors_are_refused(rt: HostRuntime) -> Result<(), Fail> {
+    let alloc = rt.alloc();
+    for (rest, key) in NO_MIRRORS {
+        let text = format!(in alloc; "events = 'e'\n{rest}\n")?;
+        let fault = read_settings(alloc, text.as_str(), Job::Mirror).err();
+        assert_eq!(rt; fault, Some(SettingsFault::Key(key)));
+    }
+    let text = "events = 'e'\nrelays = ['a:1']\nevery_ms = 0\npasses = 0\nlive = 0\n";
+    assert!(rt; read_settings(alloc, text, Job::Sync).is_ok());
+    Ok(())
+}
+
+#[test]
+fn unknown_keys_are_told(rt: HostRuntime) -> Result<(), Fail> {
+    let text = "evnts = 1\nevents = 'e'\n[relay]\nhost = 'a'\n";
+    let names = unknown_keys(rt.alloc(), text)?;
+    assert_eq!(rt; names.len(), 2);
+    assert_eq!(rt; names[0].as_str(), "evnts");
+    assert_eq!(rt; names[1].as_str(), "relay");
     Ok(())
 }

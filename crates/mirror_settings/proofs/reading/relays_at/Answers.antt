@@ -17,9 +17,9 @@ returns-then-count-eq0-clause-err c =
       | then-count-eq0-via-then-count-eq0 w ↦ inl (omega arith)
       | then-count-eq0-via-else-count-eq0+then-count-gt256 w ↦ inr (omega arith)
     ] in
-    inr (
+    λ mirror. inr (
       refl,
-      no_relays c.args.sync (table_view c.args.table.now) vs c.if-not-sync.false is
+      no_relays c.args.sync mirror (table_view c.args.table.now) vs c.if-not-sync.false is
           (λ l low high is. omega (arith, count, low, high, as_many_relays (map view vs) l is, length-map vs view)),
     )
 
@@ -35,7 +35,7 @@ pub returns-clause-err : goal.returns-clause-err
 returns-clause-err c =
     let vs = c.in-Some-as_array.values.now.items in
     let is = stands _ (view c.in-Some.value.now) (items_of (map view vs)) c.in-Some.ensures c.in-Some-as_array.ensures in
-    IfErr-weaker c.relays_in.result _ _ (λ e h. elim h [
+    IfErr-weaker c.relays_in.result _ _ (λ e h mirror. elim h [
       | inl memory ↦ inl memory
-      | inr wrong ↦ inr (wrong.0, no_relays c.args.sync (table_view c.args.table.now) vs c.if-not-sync.false is (λ l low high is. wrong.1 l (subst (λ (ws : List Value). AreRelays (map view ws) l) (sym c.as_slice.ensures.value) is)))
+      | inr wrong ↦ inr (wrong.0, no_relays c.args.sync mirror (table_view c.args.table.now) vs c.if-not-sync.false is (λ l low high is. wrong.1 l (subst (λ (ws : List Value). AreRelays (map view ws) l) (sym c.as_slice.ensures.value) is)))
     ]) c.relays_in.ensures.err
