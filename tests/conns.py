@@ -330,6 +330,7 @@ def events_are_sent_once(path):
 
 
 DUPLICATE = "%d true duplicate: already have this event"
+TAKES_NONE = "blocked: this relay takes no events"
 
 
 def events_that_come_together(path):
@@ -355,6 +356,18 @@ def events_that_come_together(path):
         finally:
             relay.kill()
             relay.communicate()
+
+
+def events_are_refused(path):
+    """Where the settings say so. All else is as before, and a bad event is told as such."""
+    play(path, [
+        (gives(1), ["1 false " + TAKES_NONE]),
+        (gives(1), ["1 false " + TAKES_NONE]),
+        ('["EVENT",{"id":"%s"}]' % EVENTS["4"]["id"], ["4 false invalid: bad event"]),
+        (req("a"), [eose("a")]),
+        (neg_open("s", "6100000200"), [neg_msg("s", "6100000200")]),
+    ], read_only=True)
+    play(path, [(gives(1), ["1 true "])], read_only=False)
 
 
 def events_come_by_themselves(path):
@@ -600,7 +613,7 @@ def beginnings_of_messages(path):
 
 def main():
     path = program()
-    for part in (the_newest_are_chosen, events_are_sent_once, events_that_come_together, events_come_by_themselves,
+    for part in (the_newest_are_chosen, events_are_sent_once, events_that_come_together, events_are_refused, events_come_by_themselves,
                  a_crowd_meets, a_throng_is_served, the_silent_go, no_document_is_given,
                  names_in_byte_order, subscriptions_end, texts_that_are_no_messages, sessions_keep_what_they_found,
                  sessions_end, long_texts, beginnings_of_messages):

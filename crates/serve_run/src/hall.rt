@@ -37,6 +37,7 @@ pub struct Hall<K> {
     // Whether no further connections are taken.
     closed: AtomicBool,
     patience: Patience,
+    limits: RelayLimits,
     desk: Mutex<K>,
     // Held while a long text is read.
     turn: Mutex<()>,
@@ -47,7 +48,13 @@ pub struct Hall<K> {
 
 impl<K> Hall<K> {
     /// A hall for so many connections.
-    pub fn new(listener: TcpListener, conns: u64, patience: Patience, desk: K) -> Hall<K> {
+    pub fn new(
+        listener: TcpListener,
+        conns: u64,
+        patience: Patience,
+        limits: RelayLimits,
+        desk: K,
+    ) -> Hall<K> {
         Hall {
             listener,
             conns,
@@ -55,6 +62,7 @@ impl<K> Hall<K> {
             waiting: AtomicU64::new(0),
             closed: AtomicBool::new(false),
             patience,
+            limits,
             desk: Mutex::new(desk),
             turn: Mutex::new(()),
             over: Mutex::new(false),
@@ -155,13 +163,12 @@ fn serve_one<J: Naming, D: Wait + Drop, R: Wait, C: Clock, E: Write + Drop>(
     client: Client,
     reader: &mut Reader<J>,
 ) {
-    let limits = RelayLimits::default();
     let clerk = Clerk {
         clock: serving.clock,
         keeping: serving.keeping,
     };
     let hall = serving.hall;
-    let (desk, turn) = (&hall.desk, &hall.turn);
+    let (desk, turn, limits) = (&hall.desk, &hall.turn, hall.limits);
     let served = serve_kept(rt, alloc, client.line(), reader, desk, &clerk, turn, limits);
     if let Err(LinkFault::Wire) = served {
         client.turn_away();

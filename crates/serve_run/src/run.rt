@@ -9,7 +9,8 @@ use crate::keeping::{Keeping, keep_meanwhile, keeping_of};
 use crate::refusal::{Refusal, write_refusal};
 use crate::saving::begin;
 use event_store::{Blank, Naming, open_store};
-use mirror_settings::{Address, Settings, SettingsKey, read_settings};
+use mirror_settings::{Address, Job, Settings, SettingsKey, read_settings};
+use relay_core::RelayLimits;
 use std::alloc::Global;
 use std::fs::File;
 use std::io::Write;
@@ -21,6 +22,10 @@ use std::thread::Threads;
 
 /// How many connections are served at once where the settings don't say.
 const CLIENTS: u64 = 64;
+
+/// How many connections a hall without an end serves: so many that workers, who count on beyond them, don't come to the greatest
+/// number.
+const ENDLESS: u64 = u64::MAX / 2;
 
 /// As many readers as connections may be served at once, 1 to 1,000.
 pub fn readers_for(conns: u64, clients: Option<u64>) -> usize {
@@ -62,8 +67,8 @@ fn listen<R: Net<Listener = TcpListener, Stream = TcpStream>, W: Write>(
     Ok(listener)
 }
 
-/// Listens as the settings say, and tells where. The hall has the desk. Where the settings don't say where to listen or how
-/// many connections are served, that is refused.
+/// Listens as the settings say, and tells where. The hall has the desk, and serves as many connections as the settings say, or
+/// without an end. Where they don't say where to listen, that is refused.
 pub fn open_hall<K: Drop, R: Net<Listener = TcpListener, Stream = TcpStream>, W: Write>(
     rt: &R,
     alloc: Global,
@@ -74,11 +79,10 @@ pub fn open_hall<K: Drop, R: Net<Listener = TcpListener, Stream = TcpStream>, W:
     let Some(address) = &settings.listen else {
         return Err(Refusal::Key(SettingsKey::Listen));
     };
-    let Some(conns) = settings.conns else {
-        return Err(Refusal::Key(SettingsKey::Conns));
-    };
     let listener = listen(rt, alloc, address, writer)?;
-    Ok(Hall::new(listener, conns, Patience::of(settings), desk))
+    let conns = settings.conns.unwrap_or(ENDLESS);
+    let limits = RelayLimits::default().read_only(settings.read_only);
+    Ok(Hall::new(listener, conns, Patience::of(settings), limits, desk))
 }
 
 /// Writes what is left to the events file, and tells how many connections and events there were.
@@ -156,6 +160,6 @@ pub fn run_serve<
     W: Write,
     E: Write + Send + Drop,
 >(rt: &R, alloc: Global, text: &str, writer: &mut W, errors: E) -> Result<(), Refusal> {
-    let settings = read_settings(alloc, text, false)?;
+    let settings = read_settings(alloc, text, Job::Serve)?;
     run_named::<Brand, &R, R, W, E>(rt, rt, alloc, Blank::new(), &settings, writer, errors)
 }

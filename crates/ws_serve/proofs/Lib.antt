@@ -1,3 +1,4 @@
-pub mod Answering
+pub mod Putting
 pub mod Framing
+pub mod Answering
 pub mod Saying

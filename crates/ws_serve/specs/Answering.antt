@@ -1,6 +1,5 @@
 -- What is said to a text.
 use Rattle.std.specs.Prelude.{◌≡◌, ◌⊎◌, ℕ, List, [], ◌∷◌, ◌++◌, Bool, false, Option, Some, None, codes}
-use Rattle.std.specs.Io.KnownBytes.{Appends}
 use mathlib.Core.List.{IsPrefix}
 use Rattle.neg_codec.specs.declared.Id.{Id}
 use Rattle.nostr_event.specs.EventView.{EventView}
@@ -13,6 +12,7 @@ use Rattle.relay_core.specs.Serving.{Serves}
 use Rattle.relay_core.specs.Stored.{placed_answer}
 use Rattle.relay_core.specs.Turns.{Turn}
 use Rattle.ws_serve.specs.Frames.{spoken}
+use Rattle.ws_serve.specs.Traffic.{Traffic, Says}
 
 -- the event of this id is in the store and kept there, or it is told why not
 abbrev pub TellsOf : Id → Form → Type 0
@@ -36,19 +36,19 @@ AnswersBetween limits before after text old forms new =
     (events : List EventView) × IsPrefix before events × IsPrefix events after × Answers limits events text old forms new
 
 -- the frames of these answers were put behind what was there, and nothing else
-abbrev pub SaysAnswers : RelayLimits → (before after : List EventView) → List ℕ → (said now : Option (List ℕ)) → Kept → Kept → Type 0
+abbrev pub SaysAnswers : RelayLimits → (before after : List EventView) → List ℕ → (said now : Traffic) → Kept → Kept → Type 0
 SaysAnswers limits before after text said now old new =
-    (forms : List Form) × AnswersBetween limits before after text old forms new × Appends said now (spoken forms)
+    (forms : List Form) × AnswersBetween limits before after text old forms new × Says said now (spoken forms)
 
 -- the frame of what became of the event was put there
-abbrev pub SaysOf : Id → (said now : Option (List ℕ)) → Type 0
-SaysOf id said now = (m : Form) × TellsOf id m × Appends said now (spoken (m ∷ []))
+abbrev pub SaysOf : Id → (said now : Traffic) → Type 0
+SaysOf id said now = (m : Form) × TellsOf id m × Says said now (spoken (m ∷ []))
 
 -- The frames of what was due were put there, and nothing is lost or repeated by that: where these events are published, or more behind
 -- them, what was due is what was said and what is due then.
-abbrev pub SaysDue : List EventView → (said now : Option (List ℕ)) → Kept → Kept → Type 0
+abbrev pub SaysDue : List EventView → (said now : Traffic) → Kept → Kept → Type 0
 SaysDue events said now old new =
-    (forms : List Form) × Appends said now (spoken forms) × ((more : List EventView) → IsPrefix events more → due old.subs more ≡ forms ++ due new.subs more)
+    (forms : List Form) × Says said now (spoken forms) × ((more : List EventView) → IsPrefix events more → due old.subs more ≡ forms ++ due new.subs more)
 
 -- an open connection goes on so, and a closed one stays closed
 abbrev pub IfOpen : (Kept → Kept → Type 0) → Option Kept → Option Kept → Type 0

@@ -1,15 +1,12 @@
 -- The frames of texts that a server sends (RFC 6455, section 5.2).
 use Rattle.std.specs.Prelude.{ℕ, List, [], ◌∷◌, ◌++◌, None}
-use Rattle.websocket.specs.declared.protocol.frame.coding.OpCode.TheVariants.{Data}
-use Rattle.websocket.specs.declared.protocol.frame.coding.Data.TheVariants.{Text}
-use Rattle.websocket.specs.Connection.{whole_header}
-use Rattle.websocket.specs.Frame.{encode_frame}
 use Rattle.nostr_wire.specs.Forms.{Form}
 use Rattle.nostr_wire.specs.Writing.{text_of}
+use Rattle.wire.specs.Frames.{text_frame}
 
 -- the text as one whole frame of a server, which has no mask
 abbrev pub frame : List ℕ → List ℕ
-frame text = encode_frame (whole_header (Data Text) None) text
+frame text = text_frame None text
 
 -- the frame of a message's text
 abbrev pub spoken_one : Form → List ℕ

@@ -1,4 +1,6 @@
 pub mod Faults
 pub mod Frames
-pub mod Handed
+pub mod Traffic
 pub mod Answering
+pub mod Counts
+pub mod Talking

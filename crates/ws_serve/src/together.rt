@@ -1,113 +1,185 @@
 //! Events that came together.
 
-ghost use Rattle.std.specs.Prelude.{◌≡◌, IfOk, IfErr, OnOk};
+ghost use Rattle.std.specs.Prelude.{◌≡◌, ◌<◌, [], map, IfOk, IfErr, IfSome, OnOk};
 ghost use Rattle.std.specs.Arc.{arc_value};
 ghost use Rattle.std.specs.List.{AllByRecursion};
 ghost use mathlib.Core.List.{IsPrefix};
+ghost use Rattle.nostr_wire.specs.Forms.{relay_form};
+ghost use Rattle.relay_core.specs.Acknowledging.{AcknowledgeNone};
 ghost use Rattle.relay_core.specs.Faults.{GoesOnBy};
 ghost use Rattle.ws_serve.specs.Answering.{SaysOf};
-ghost use Rattle.ws_serve.specs.Handed.{handed};
+ghost use Rattle.ws_serve.specs.Counts.{AreFew};
 ghost use Rattle.ws_socket.specs.Faults.{IsOfStream};
 
+use crate::counts::{Counts, MOST_READS};
 use crate::fault::on_link;
-use crate::gathered::Gathered;
+use crate::messages::{Next, next_message};
 use crate::sending::{acknowledge, catch_up, say, say_all};
+use crate::socket::Socket;
 use crate::turns::serve_text;
 use event_log::{Keeper, Kept};
 use event_store::{Desk, InsertFault, Naming, Placed, Reader};
 use neg_codec::Id;
 use nostr_event::Event;
+use nostr_wire::FromRelay;
 use relay_core::{Conn, Step, StoringFault};
 use std::alloc::Global;
 use std::io::Write;
 use std::sync::{Arc, Mutex, Wait};
+use wire::Heard;
 use ws_socket::LinkFault;
 
 /// So many events wait for no more.
 pub const MOST_TOGETHER: usize = 64;
 
-/// Hears the text of an event, which then waits for those that came with it. A text that has none is answered behind those
-/// that wait.
-pub fn take_event<W: Wait, S: Write, J: Naming, D: Wait + Drop, H: Keeper<J>>(
+/// What came behind events.
+#[derive(Drop)]
+struct Behind {
+    /// The message, if one was read.
+    heard: Result<Option<Heard>, LinkFault>,
+    /// The answers to the last of the events' texts, if that has none.
+    out: Vec<FromRelay>,
+}
+
+impl Behind {
+    // A message, or none.
+    fn message(alloc: Global, heard: Result<Option<Heard>, LinkFault>) -> Behind
+        ensures heard { result.heard ≡ heard }
+        ensures nothing { result.out.items ≡ [] }
+    {
+        Behind {
+            heard,
+            out: Vec::new(alloc),
+        }
+    }
+}
+
+/// Hears the text of an event and those that came behind it, up to a message that is none, and at most 64. These are put into the
+/// store together, and their answers, and what was published for the client, are put behind what waits to be sent. It gives that other
+/// message, if one was read, whose reply is put behind these bytes.
+pub fn take_events<W: Wait, S: Write, J: Naming, D: Wait + Drop, H: Keeper<J>>(
     rt: &W,
     alloc: Global,
-    stream: &mut Gathered<S>,
+    socket: &mut Socket<S>,
     conn: &mut Conn,
     reader: &mut Reader<J>,
     desk: &Mutex<Desk<J, D>>,
     keeper: &H,
     turn: &Mutex<()>,
-    events: &mut Vec<Arc<Event>>,
-    text: &str,
-) -> Result<(), LinkFault>
+    counts: &mut Counts,
+    reply: &mut Vec<u8>,
+    text: String,
+) -> Result<Option<Heard>, LinkFault>
+    requires few { AreFew counts.old }
+    requires room { counts.old.reads < 1000000 }
+    ensures few { AreFew counts.new }
+    ensures room { IfOk result (λ o. IfSome o (λ _. counts.new.reads < 1000000)) }
     ensures fault { IfErr result IsOfStream }
     ensures reader { IsPrefix reader.old reader.new }
 {
-    let Step { out, store } = match serve_text(rt, conn, reader, turn, text) {
-        Ok(step) => step,
+    // Those who send events send many.
+    socket.read_many();
+    let mut events = Vec::with_capacity(alloc, MOST_TOGETHER)?;
+    let gathered = gather(
+        rt,
+        alloc,
+        socket,
+        conn,
+        reader,
+        turn,
+        counts,
+        reply,
+        text,
+        &mut events,
+    );
+    let Behind { heard, out } = match gathered {
+        Ok(behind) => behind,
         Err(fault) => {
             // Those that wait came before: they are stored at least.
-            let _ = desk.lock(rt).insert_each(rt, events);
+            let _ = desk.lock(rt).insert_each(rt, events.as_slice());
             return Err(fault);
         }
     };
-    if let Some(event) = store {
-        events.push(event)?;
-        if events.len() < MOST_TOGETHER {
-            return Ok(());
-        }
-    }
-    answer_each(rt, alloc, stream, conn, reader, desk, keeper, events)?;
-    say_all(alloc, stream, out)?;
-    catch_up(alloc, stream, conn, reader)
+    answer_each(
+        rt,
+        alloc,
+        socket,
+        conn,
+        reader,
+        desk,
+        keeper,
+        events.as_slice(),
+    )?;
+    say_all(alloc, socket, out)?;
+    catch_up(alloc, socket, conn, reader)?;
+    heard
 }
 
-/// Puts the events that wait into the store, sees to it that they are kept, and puts the answers to them and what was published
-/// for the client behind what waits to be sent.
-pub fn answer_all<W: Wait, S: Write, J: Naming, D: Wait + Drop, H: Keeper<J>>(
+/// Reads events, of which this is the first text.
+fn gather<W: Wait, S: Write, J: Naming>(
     rt: &W,
     alloc: Global,
-    stream: &mut Gathered<S>,
+    socket: &mut Socket<S>,
     conn: &mut Conn,
     reader: &mut Reader<J>,
-    desk: &Mutex<Desk<J, D>>,
-    keeper: &H,
+    turn: &Mutex<()>,
+    counts: &mut Counts,
+    reply: &mut Vec<u8>,
+    mut text: String,
     events: &mut Vec<Arc<Event>>,
-) -> Result<(), LinkFault>
+) -> Result<Behind, LinkFault>
+    requires few { AreFew counts.old }
+    requires room { counts.old.reads < 1000000 }
+    ensures few { AreFew counts.new }
+    ensures room { IfOk result (λ b. IfOk b.heard (λ o. IfSome o (λ _. counts.new.reads < 1000000))) }
+    ensures none_acknowledged { IfOk result (λ b. AcknowledgeNone (map relay_form b.out.items)) }
     ensures fault { IfErr result IsOfStream }
+    ensures heard_fault { IfOk result (λ b. IfErr b.heard IsOfStream) }
     ensures reader { IsPrefix reader.old reader.new }
 {
-    if events.is_empty() {
-        return Ok(());
+    for _event in 0..MOST_TOGETHER {
+        counts.reads += 1;
+        counts.texts += 1;
+        let Step { out, store } = serve_text(rt, conn, reader, turn, text.as_str())?;
+        let Some(event) = store else {
+            return Ok(Behind {
+                heard: Ok(None),
+                out,
+            });
+        };
+        events.push(event)?;
+        if counts.reads >= MOST_READS || events.len() >= MOST_TOGETHER {
+            return Ok(Behind::message(alloc, Ok(None)));
+        }
+        match next_message(socket, reply) {
+            Ok(Next::Event(next)) => text = next,
+            Ok(Next::Other(heard)) => return Ok(Behind::message(alloc, Ok(Some(heard)))),
+            Err(fault) => return Ok(Behind::message(alloc, Err(fault))),
+        }
     }
-    answer_each(rt, alloc, stream, conn, reader, desk, keeper, events)?;
-    catch_up(alloc, stream, conn, reader)
+    Ok(Behind::message(alloc, Ok(Some(Heard::Text(text)))))
 }
 
-/// The same without what was published for the client.
+/// Puts the events into the store, sees to it that they are kept, and puts the answers to them behind what waits to be sent.
 fn answer_each<W: Wait, S: Write, J: Naming, D: Wait + Drop, H: Keeper<J>>(
     rt: &W,
     alloc: Global,
-    stream: &mut Gathered<S>,
+    socket: &mut Socket<S>,
     conn: &mut Conn,
     reader: &mut Reader<J>,
     desk: &Mutex<Desk<J, D>>,
     keeper: &H,
-    events: &mut Vec<Arc<Event>>,
+    events: &[Arc<Event>],
 ) -> Result<(), LinkFault>
     ensures fault { IfErr result IsOfStream }
     ensures reader { IsPrefix reader.old reader.new }
 {
-    if events.is_empty() {
-        return Ok(());
-    }
     let all = stored_all(rt, alloc, desk, events)?;
     let kept = kept_of(rt, keeper, all.as_slice());
     let mut room = Vec::new(alloc);
     for one in all {
-        room = tell(alloc, stream, room, conn, reader, one, kept.as_ref())?;
+        room = tell(alloc, socket, room, conn, reader, one, kept.as_ref())?;
     }
-    events.clear();
     Ok(())
 }
 
@@ -196,7 +268,7 @@ fn kept_of<W: Wait, J: Naming, H: Keeper<J>>(
 /// back.
 fn tell<S: Write, J: Naming, M>(
     alloc: Global,
-    stream: &mut Gathered<S>,
+    socket: &mut Socket<S>,
     room: Vec<u8>,
     conn: &mut Conn,
     reader: &mut Reader<J>,
@@ -205,22 +277,22 @@ fn tell<S: Write, J: Naming, M>(
 ) -> Result<Vec<u8>, LinkFault>
     requires { IfOk stored.placed (λ p. p.id ≡ stored.id) }
     ensures fault { IfErr result IsOfStream }
-    ensures says { OnOk result (SaysOf stored.id (handed S.contents stream.old) (handed S.contents stream.new)) }
+    ensures says { OnOk result (SaysOf stored.id socket.old socket.new) }
     ensures kept { OnOk result (GoesOnBy (λ old new. new ≡ old) conn.old.kept conn.new.kept) }
     ensures limits { conn.new.limits ≡ conn.old.limits }
     ensures reader { IsPrefix reader.old reader.new }
 {
     let Stored { id, placed } = stored;
     match placed {
-        Ok(placed) => tell_kept(alloc, stream, room, conn, reader, &placed, kept),
-        Err(fault) => refuse(alloc, stream, room, conn, id, &StoringFault::Refused(fault)),
+        Ok(placed) => tell_kept(alloc, socket, room, conn, reader, &placed, kept),
+        Err(fault) => refuse(alloc, socket, room, conn, id, &StoringFault::Refused(fault)),
     }
 }
 
 /// The same for an event that is in the store.
 fn tell_kept<S: Write, J: Naming, M>(
     alloc: Global,
-    stream: &mut Gathered<S>,
+    socket: &mut Socket<S>,
     room: Vec<u8>,
     conn: &mut Conn,
     reader: &mut Reader<J>,
@@ -228,18 +300,18 @@ fn tell_kept<S: Write, J: Naming, M>(
     kept: Option<&Kept<J, M>>,
 ) -> Result<Vec<u8>, LinkFault>
     ensures fault { IfErr result IsOfStream }
-    ensures says { OnOk result (SaysOf placed.now.id (handed S.contents stream.old) (handed S.contents stream.new)) }
+    ensures says { OnOk result (SaysOf placed.now.id socket.old socket.new) }
     ensures kept { OnOk result (GoesOnBy (λ old new. new ≡ old) conn.old.kept conn.new.kept) }
     ensures limits { conn.new.limits ≡ conn.old.limits }
     ensures reader { IsPrefix reader.old reader.new }
 {
     match kept {
         Some(kept) if placed.front() <= kept.len() => {
-            acknowledge(alloc, stream, room, conn, reader, placed, kept)
+            acknowledge(alloc, socket, room, conn, reader, placed, kept)
         }
         _ => {
             let fault: StoringFault<J> = StoringFault::Unkept;
-            refuse(alloc, stream, room, conn, placed.id(), &fault)
+            refuse(alloc, socket, room, conn, placed.id(), &fault)
         }
     }
 }
@@ -247,26 +319,26 @@ fn tell_kept<S: Write, J: Naming, M>(
 /// Puts behind what waits to be sent why the event isn't in the store, or isn't kept there.
 fn refuse<S: Write, J: Naming>(
     alloc: Global,
-    stream: &mut Gathered<S>,
+    socket: &mut Socket<S>,
     room: Vec<u8>,
     conn: &mut Conn,
     id: Id,
     fault: &StoringFault<J>,
 ) -> Result<Vec<u8>, LinkFault>
     ensures fault { IfErr result IsOfStream }
-    ensures says { OnOk result (SaysOf id (handed S.contents stream.old) (handed S.contents stream.new)) }
+    ensures says { OnOk result (SaysOf id socket.old socket.new) }
     ensures kept { OnOk result (GoesOnBy (λ old new. new ≡ old) conn.old.kept conn.new.kept) }
     ensures limits { conn.new.limits ≡ conn.old.limits }
 {
     let message = on_link(conn.unstored(id, fault))?;
-    say(alloc, stream, room, &message)
+    say(alloc, socket, room, &message)
 }
 
 /// Puts the event into the store, sees to it that it is kept, and puts whether it is behind what waits to be sent.
 pub fn answer_one<W: Wait, S: Write, J: Naming, D: Wait + Drop, H: Keeper<J>>(
     rt: &W,
     alloc: Global,
-    stream: &mut Gathered<S>,
+    socket: &mut Socket<S>,
     conn: &mut Conn,
     reader: &mut Reader<J>,
     desk: &Mutex<Desk<J, D>>,
@@ -274,7 +346,7 @@ pub fn answer_one<W: Wait, S: Write, J: Naming, D: Wait + Drop, H: Keeper<J>>(
     event: Arc<Event>,
 ) -> Result<(), LinkFault>
     ensures fault { IfErr result IsOfStream }
-    ensures says { OnOk result (SaysOf (arc_value event).id (handed S.contents stream.old) (handed S.contents stream.new)) }
+    ensures says { OnOk result (SaysOf (arc_value event).id socket.old socket.new) }
     ensures kept { OnOk result (GoesOnBy (λ old new. new ≡ old) conn.old.kept conn.new.kept) }
     ensures limits { conn.new.limits ≡ conn.old.limits }
     ensures reader { IsPrefix reader.old reader.new }
@@ -286,7 +358,7 @@ pub fn answer_one<W: Wait, S: Write, J: Naming, D: Wait + Drop, H: Keeper<J>>(
     };
     tell(
         alloc,
-        stream,
+        socket,
         Vec::new(alloc),
         conn,
         reader,

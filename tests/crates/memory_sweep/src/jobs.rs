@@ -5,7 +5,7 @@ use crate::said::Said;
 use crate::stores::publishes;
 use event_file::{FileFault, insert_lines, write_lines};
 use event_store::{Desk, Naming, Reader};
-use mirror_settings::{SettingsFault, read_settings};
+use mirror_settings::{Job, SettingsFault, read_settings};
 use nostr_filter::Filter;
 use std::alloc::Global;
 use std::io::ErrorKind;
@@ -19,7 +19,7 @@ const SETTINGS: &str =
 
 /// Reads settings with each key.
 pub fn read(alloc: Global) -> Option<Said> {
-    match read_settings(alloc, SETTINGS, true) {
+    match read_settings(alloc, SETTINGS, Job::Sync) {
         Ok(settings) => Said::ample(
             settings.events.as_str() == "e"
                 && settings.listen.is_some()

@@ -99,6 +99,7 @@ fn with(most: usize) -> RelayLimits
         sessions: most,
         records: most,
         limit: 60_000,
+        is_read_only: false,
     }
 }
 

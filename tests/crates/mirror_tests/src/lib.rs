@@ -23,4 +23,6 @@ mod rounds;
 #[cfg(test)]
 mod stores;
 #[cfg(test)]
+mod talks;
+#[cfg(test)]
 mod wires;

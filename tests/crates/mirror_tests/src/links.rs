@@ -109,7 +109,7 @@ impl Write for Played<'_> {
 }
 
 /// Puts a frame behind the others: the first byte, the mask's bit and the length, a mask that changes nothing, the payload.
-fn put_frame(frames: &mut Vec<u8>, first: u8, masked: bool, payload: &[u8]) -> Option<()> {
+pub fn put_frame(frames: &mut Vec<u8>, first: u8, masked: bool, payload: &[u8]) -> Option<()> {
     let bit = if masked { 0x80 } else { 0 };
     frames.push(first).ok()?;
     if payload.len() < 126 {
@@ -352,6 +352,7 @@ fn served<J: Naming, D: Wait + Drop, R: Wait>(
         sessions: 1,
         records: 100,
         limit: 4_096,
+        is_read_only: false,
     };
     Some(
         match serve_conn(rt, alloc, stream, &mut reader, &desk, limits) {
@@ -368,7 +369,7 @@ const EVENT_2: &str =
     r##"{"id":"ddc79761c55c70341e7c207d769ad686a8b8e3f82408006465aeb8dde0119e79","pubkey":"0101010101010101010101010101010101010101010101010101010101010101","created_at":10,"kind":1,"tags":[],"content":"2","sig":"5a5a5a5a5a5a5a5a5a5a5a5a5a5a5a5a5a5a5a5a5a5a5a5a5a5a5a5a5a5a5a5a5a5a5a5a5a5a5a5a5a5a5a5a5a5a5a5a5a5a5a5a5a5a5a5a5a5a5a5a5a5a5a5a"}"##;
 
 /// What a client sends: the first byte of the frame, and the payload. Where there is no byte, the stream would block.
-static SAID: [(u8, &str); 9] = [
+pub static SAID: [(u8, &str); 9] = [
     (0x81, r##"["REQ","a",{}]"##),
     (
         0x81,
@@ -387,7 +388,7 @@ static SAID: [(u8, &str); 9] = [
 ];
 
 /// What it is sent for that.
-static HEARD: [(u8, &str); 8] = [
+pub static HEARD: [(u8, &str); 8] = [
     (0x81, r##"["EOSE","a"]"##),
     (
         0x81,

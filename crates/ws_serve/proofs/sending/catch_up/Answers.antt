@@ -12,10 +12,10 @@ loop-part-preserved g c =
     record {
       reader = prefix_trans _ _ _ c.loop-part.invariant.reader c.catch_up.ensures.reader;
       limits = search rules;
-      due = due_sent _ _ _ _ _ _ (due_part_more _ _ _ _ _ _ _ _ _ _ c.catch_up.ensures.reader c.loop-part.invariant.due caught c.in_ok-say_all.ensures.handed) c.send.ensures.handed;
+      due = due_sent _ _ _ _ _ _ (due_part_more _ _ _ _ _ _ _ _ _ _ c.catch_up.ensures.reader c.loop-part.invariant.due caught c.in_ok-say_all.ensures.says) c.send.ensures.rests;
     }
 
 pub returns-then-caught-clause-due : goal.returns-then-caught-clause-due
 returns-then-caught-clause-due g c =
     let caught : GoesOnBy (CatchesUp c.catch_up.new.reader c.in_ok-caught.caught.front (map relay_form c.in_ok-caught.caught.out.items)) c.loop-part.conn.kept c.catch_up.new.self.kept = search rules in
-    due_part_more _ _ _ _ _ _ _ _ _ _ c.catch_up.ensures.reader c.loop-part.invariant.due caught c.in_ok-say_all.ensures.handed
+    due_part_more _ _ _ _ _ _ _ _ _ _ c.catch_up.ensures.reader c.loop-part.invariant.due caught c.in_ok-say_all.ensures.says

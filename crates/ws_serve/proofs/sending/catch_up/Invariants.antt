@@ -1,12 +1,11 @@
 use Rattle.std.proofs.Common.{◌≡◌}
 use mathlib.Core.List.{IsPrefix}
 use Rattle.ws_serve.specs.Answering.{SaysDue, IfOpen}
-use Rattle.ws_serve.specs.Handed.{handed}
 use Rattle.ws_serve.proofs.sending.catch_up.Given as goal
 
 abbrev pub invariant-loop-part : goal.invariant-loop-part
 invariant-loop-part g l = record {
   reader : IsPrefix l.initial.reader l.reader;
   limits : l.conn.limits ≡ l.initial.conn.limits;
-  due : IfOpen (SaysDue l.reader (handed g.S.Write.contents l.initial.stream) (handed g.S.Write.contents l.stream)) l.initial.conn.kept l.conn.kept;
+  due : IfOpen (SaysDue l.reader l.initial.socket l.socket) l.initial.conn.kept l.conn.kept;
 }

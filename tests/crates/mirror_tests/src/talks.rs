@@ -1,0 +1,87 @@
+//! Connections that are served turn by turn, over streams that drip and would block.
+ghost use Rattle.std.specs.Prelude.{◌≡◌};
+
+use super::links::{HEARD, SAID, put_frame};
+use super::wires::Dripping;
+use event_log::Unfiled;
+use event_store::{Blank, Naming, open_store};
+use relay_core::RelayLimits;
+use std::alloc::Global;
+use std::marker::Brand;
+use std::sync::{Mutex, Wait};
+use std::test::Fail;
+use ws_serve::{Talk, Turned};
+
+/// The frames, each with its first byte. Where that is 0 there is none.
+fn frames_of(alloc: Global, list: &[(u8, &str)], masked: bool) -> Option<Vec<u8>> {
+    let mut frames = Vec::new(alloc);
+    for (first, text) in list {
+        if *first != 0 {
+            put_frame(&mut frames, *first, masked, text.as_bytes())?;
+        }
+    }
+    Some(frames)
+}
+
+/// Serves a client over an empty store until it has closed and all was sent, and gives the number of texts. While the stream would
+/// block no more than so many bytes may wait.
+fn served<J: Naming, R: Wait>(
+    rt: &R,
+    alloc: Global,
+    blank: Blank,
+    stream: Dripping<'_>,
+    most_waiting: usize,
+) -> Option<u64>
+    requires book { blank ≡ J.book }
+    requires most { J.most ≡ 1000000 }
+{
+    let (desk, mut readers) = open_store::<J, &R>(rt, alloc, blank, 1).ok()?;
+    let mut reader = readers.pop()?;
+    let desk = Mutex::new(desk);
+    let limits = RelayLimits {
+        subs: 4,
+        filters: 2,
+        text: 400,
+        sessions: 1,
+        records: 100,
+        limit: 4_096,
+        is_read_only: false,
+    };
+    let mut talk = Talk::new(alloc, stream, limits, most_waiting).ok()?;
+    let long = Mutex::new(());
+    for _turn in 0..100_000 {
+        let turned = talk
+            .turn(rt, alloc, &mut reader, &desk, &Unfiled, &long)
+            .ok()?;
+        if turned == Turned::Over && !talk.has_waiting() {
+            return Some(talk.texts());
+        }
+    }
+    None
+}
+
+/// The number of texts that are served, and whether the client is sent what it should be, and nothing else.
+fn dripped<R: Wait>(rt: &R, alloc: Global, takes: usize, most: usize) -> Option<(u64, bool)> {
+    let said = frames_of(alloc, &SAID, true)?;
+    let heard = frames_of(alloc, &HEARD, false)?;
+    let mut sent = Vec::new(alloc);
+    let stream = Dripping {
+        left: said.as_slice(),
+        sent: &mut sent,
+        takes,
+        calls: 0,
+    };
+    let texts = served::<Brand, R>(rt, alloc, Blank::new(), stream, most)?;
+    Some((texts, sent.as_slice() == heard.as_slice()))
+}
+
+// However a stream drips and would block, and however much may wait, each answer goes out once, whole and in its order.
+#[test]
+fn dripping_clients(rt: HostRuntime) -> Result<(), Fail> {
+    let alloc = rt.alloc();
+    for (takes, most) in [(1, 0), (5, 10), (1_000, 0), (3, 1_000_000)] {
+        let served = dripped(&rt, alloc, takes, most);
+        assert_eq!(rt; (takes, most, served), (takes, most, Some((4, true))));
+    }
+    Ok(())
+}
