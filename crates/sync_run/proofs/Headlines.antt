@@ -1,5 +1,5 @@
 -- What is known of sessions, said of the logs alone.
-use Rattle.std.proofs.Common.{◌≡◌, ◌∙◌, ℕ, List, [], ◌∷◌, suc, refl, sym, ap, map, length}
+use Rattle.std.proofs.Common.{◌≡◌, ◌∙◌, ℕ, List, [], ◌∷◌, suc, refl, sym, ap, map, length, Result, Ok, Err, IfOk}
 use Rattle.std.specs.Bool.{⊤}
 use Rattle.core.specs.Option.{option_map}
 use Rattle.std.specs.List.{range_with_len}
@@ -52,3 +52,8 @@ module _ {P : Type 0} (log : P → List Exchange) (faults : P → ℕ) where
 -- peers that are numbered from 0 on
 pub length_of_numbered : {P : Type 0} (number : P → ℕ) (peers : List P) (n : ℕ) → map number peers ≡ range_with_len 0 n → length peers ≡ n
 length_of_numbered number peers n numbered = sym (length-map peers number) ∙ ap length numbered ∙ length-range_with_len 0 n
+
+-- four facts on what a result holds give a fifth
+pub of_four : {T E : Type 0} (A B C D G : T → Type 0) (r : Result T E) → IfOk r A → IfOk r B → IfOk r C → IfOk r D → ((x : T) → A x → B x → C x → D x → G x) → IfOk r G
+of_four A B C D G (Ok x) a b c d f = f x a b c d
+of_four A B C D G (Err e) a b c d f = tt

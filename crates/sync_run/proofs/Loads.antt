@@ -4,9 +4,10 @@ use Rattle.std.proofs.lemmas.Bool.{cases_eq, cases_lt}
 use Rattle.std.proofs.lemmas.List.{get_or_past}
 use Rattle.std.proofs.lemmas.List.Elements.{All-head, All-tail, All-same, All-replicate}
 use Rattle.toml.specs.Data.{Data, Members}
+use Rattle.mirror_settings.specs.declared.job.Job.TheVariants.{Sync}
 use Rattle.mirror_settings.specs.declared.settings.Settings.{Settings}
 use Rattle.mirror_settings.specs.declared.fault.SettingsKey.TheVariants.{Bases}
-use Rattle.mirror_settings.specs.Settings.{at, HoldsOr, IsLoad, IsBases, Tells}
+use Rattle.mirror_settings.specs.Settings.{at, HoldsOr, IsLoad, IsBases, TellsFor}
 use Rattle.sharing.specs.declared.TheConstants.{RELAYS, MOST_BASE}
 use Rattle.sharing.specs.Bases.{base_of}
 use Rattle.sync_run.specs.Rounds.{BeginAt, BeginWith}
@@ -22,7 +23,7 @@ small_of None n loads holds r = small_in loads (All-same IsLoad loads (replicate
 small_of (Some d) n loads holds r = small_in loads holds.1 r
 
 -- settings that are read tell loads that a load may begin with
-pub begin_with : (t : Members) (s : Settings) (old new : Option (List ℕ)) → Tells true t s → PrintsOfSome BeginAt s old new → PrintsOfSome BeginWith s old new
+pub begin_with : (t : Members) (s : Settings) (old new : Option (List ℕ)) → TellsFor Sync t s → PrintsOfSome BeginAt s old new → PrintsOfSome BeginWith s old new
 begin_with t s old new tells p = (p.0, (p.1.0, (λ r lt. p.1.1 r lt (small_of (at Bases t) (length s.relays) s.bases tells.bases r)), p.1.2))
 
 -- ---- one load behind another

@@ -11,8 +11,9 @@ use Rattle.neg_session.specs.declared.limits.SessionLimits.{SessionLimits}
 use Rattle.nostr_event.specs.EventView.{EventView, item_of}
 use Rattle.toml.specs.Data.{Members}
 use Rattle.toml.specs.Parse.{parse_document}
+use Rattle.mirror_settings.specs.declared.job.Job.TheVariants.{Sync}
 use Rattle.mirror_settings.specs.declared.settings.Settings.{Settings}
-use Rattle.mirror_settings.specs.Settings.{Tells}
+use Rattle.mirror_settings.specs.Settings.{TellsFor}
 use Rattle.event_store.specs.Events.{matching}
 use Rattle.sharing.specs.Bases.{base_of}
 use Rattle.offer_table.specs.Table.{Table}
@@ -84,4 +85,4 @@ PrintsOfSome Begin settings old new = (seen : List EventView) × PrintsOver Begi
 -- the place, and nothing is said of them.
 abbrev pub IsSyncDone : List ℕ → Option (List ℕ) → Option (List ℕ) → Type 0
 IsSyncDone text old new =
-    (t : Members) × (s : Settings) × (parse_document text ≡ Some t) × Tells true t s × (s.listen ≡ None → PrintsOfSome BeginWith s old new)
+    (t : Members) × (s : Settings) × (parse_document text ≡ Some t) × TellsFor Sync t s × (s.listen ≡ None → PrintsOfSome BeginWith s old new)

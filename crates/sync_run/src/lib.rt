@@ -4,10 +4,14 @@
 mod fetching;
 mod links;
 mod pace;
+mod pass;
 mod progress;
 mod run;
 mod text;
 mod told;
 
-pub use progress::Progress;
+pub use fetching::Counts;
+pub use pass::{Compared, compare, fetch_rounds};
+pub use progress::{Nowhere, Progress};
 pub use run::{run_sync, run_sync_with};
+pub use told::Heard;

@@ -5,9 +5,12 @@ ghost use Rattle.std.specs.List.{range_with_len};
 
 use crate::pace::{Pace, Paced, SharedPace};
 use crate::progress::Progress;
-use crate::told::ToldPeer;
+use crate::told::{Heard, ToldPeer};
 use mirror_settings::{Relay, Settings};
+use nostr_filter::Filter;
+use offer_table::RelaySet;
 use serve_run::{Duty, Refusal, run_workers};
+use sharing::SLOTS;
 use std::alloc::{AllocError, Global};
 use std::io::{Read, Write};
 use std::marker::Model;
@@ -58,6 +61,7 @@ fn linked<'a, R: Net<Listener = TcpListener, Stream = TcpStream> + RandomSource>
     alloc: Global,
     relay: &Relay,
     settings: &Settings,
+    filter: &Filter,
 ) -> Result<WsPeer<TcpStream, RandomKeys<&'a R>>, Refusal>
     ensures { IfOk result (λ peer. peer.faults ≡ 0) }
 {
@@ -74,7 +78,7 @@ fn linked<'a, R: Net<Listener = TcpListener, Stream = TcpStream> + RandomSource>
         stream,
         relay.host.as_str(),
         relay.path.as_str(),
-        &settings.filter,
+        filter,
         &mut notes,
     );
     match started {
@@ -110,26 +114,36 @@ impl<S, K> PeerPlace<S, K> {
     }
 }
 
-/// Connects to the relays of the settings.
+/// Connects to the relays of the settings, but for those that are left out, to compare events.
 #[derive(Clone, Copy)]
-struct Connecting<'a, 's, R> {
+struct Comparing<'a, 's, R> {
     rt: &'a R,
     settings: &'s Settings,
+    filter: &'s Filter,
+    left_out: RelaySet,
 }
 
 impl<'a, 's, R: Net<Listener = TcpListener, Stream = TcpStream> + RandomSource> Duty<
     PeerPlace<TcpStream, RandomKeys<&'a R>>,
-> for Connecting<'a, 's, R> {
+> for Comparing<'a, 's, R> {
     fn work<W: Wait>(
         &self,
         _waits: &W,
         alloc: Global,
         place: &mut PeerPlace<TcpStream, RandomKeys<&'a R>>,
     ) {
+        if is_in(self.left_out, place.relay) {
+            return;
+        }
         if let Some(relay) = self.settings.relays.as_slice().get(place.relay) {
-            place.peer = linked(self.rt, alloc, relay, self.settings);
+            place.peer = linked(self.rt, alloc, relay, self.settings, self.filter);
         }
     }
+}
+
+/// Whether the relay is one of these.
+fn is_in(relays: RelaySet, relay: usize) -> bool {
+    relay < SLOTS && relays.has(relay as u16)
 }
 
 /// A place for each relay, in their order.
@@ -152,6 +166,7 @@ fn peers_in<'a, S: Drop, K: Drop, R, P>(
     rt: &'a R,
     alloc: Global,
     settings: &Settings,
+    left_out: RelaySet,
     places: Vec<PeerPlace<S, K>>,
     progress: &'a Progress<P>,
 ) -> Result<Vec<ToldPeer<'a, WsPeer<S, K>, R, P>>, Refusal>
@@ -167,6 +182,8 @@ fn peers_in<'a, S: Drop, K: Drop, R, P>(
             peer,
             relay,
             name,
+            is_asked: !is_in(left_out, relay),
+            heard: Mutex::new(Heard::Nothing),
             rt,
             progress,
         })?;
@@ -175,7 +192,7 @@ fn peers_in<'a, S: Drop, K: Drop, R, P>(
 }
 
 /// A peer for each relay, in their order and numbered so, whose session is told as it ends. The relays are connected to side by
-/// side.
+/// side, but for those that are left out.
 pub fn linked_all<
     'a,
     R: Net<Listener = TcpListener, Stream = TcpStream> + RandomSource + Threads + Wait + Sync,
@@ -184,15 +201,29 @@ pub fn linked_all<
     rt: &'a R,
     alloc: Global,
     settings: &Settings,
+    filter: &Filter,
+    left_out: RelaySet,
     progress: &'a Progress<P>,
 ) -> Result<Vec<ToldPeer<'a, WsPeer<TcpStream, RandomKeys<&'a R>>, R, P>>, Refusal>
     ensures faults { IfOk result (λ peers. All (λ told. told.peer.faults < 2 ^ 64 - 1) peers.items) }
     ensures numbers { IfOk result (λ peers. map (λ told. told.relay) peers.items ≡ range_with_len 0 (length settings.now.relays)) }
 {
     let mut places = peer_places(alloc, settings)?;
-    let connecting = Connecting { rt, settings };
-    run_workers(rt, alloc, &connecting, places.as_mut_slice());
-    peers_in(rt, alloc, settings, places, progress)
+    let comparing = Comparing {
+        rt,
+        settings,
+        filter,
+        left_out,
+    };
+    run_workers(rt, alloc, &comparing, places.as_mut_slice());
+    peers_in(rt, alloc, settings, left_out, places, progress)
+}
+
+/// Connects to the relays of the settings, to fetch events.
+#[derive(Clone, Copy)]
+struct Connecting<'a, 's, R> {
+    rt: &'a R,
+    settings: &'s Settings,
 }
 
 /// A source that is this relay, if it can be reached, else it is noted why not.

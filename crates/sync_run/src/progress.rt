@@ -1,6 +1,8 @@
 //! How far the job is, told while it goes on.
 
 use crate::fetching::Counts;
+use offer_table::RelaySet;
+use sharing::SLOTS;
 use std::fmt::{self, Display};
 use std::io::{self, Write};
 use std::rt::Clock;
@@ -14,6 +16,8 @@ pub struct Progress<P> {
     telling: Option<Mutex<Telling<P>>>,
     // Whether a relay failed or an id is left.
     fell_short: Mutex<bool>,
+    // The relays that failed since that was asked.
+    failed: Mutex<RelaySet>,
 }
 
 /// What is told of a relay, which has a number and a name.
@@ -41,6 +45,7 @@ impl<P> Progress<P> {
                 last: None,
             })),
             fell_short: Mutex::new(false),
+            failed: Mutex::new(RelaySet::empty()),
         }
     }
 
@@ -49,6 +54,7 @@ impl<P> Progress<P> {
         Progress {
             telling: None,
             fell_short: Mutex::new(false),
+            failed: Mutex::new(RelaySet::empty()),
         }
     }
 }
@@ -63,12 +69,29 @@ impl<P> Progress<P> {
     pub fn fell_short<R: Wait>(&self, rt: &R) -> bool {
         *self.fell_short.lock(rt)
     }
+
+    // A relay failed.
+    fn note_failed<R: Wait>(&self, rt: &R, relay: usize) {
+        if relay < SLOTS {
+            let mut failed = self.failed.lock(rt);
+            *failed = (*failed).with(relay as u16);
+        }
+    }
+
+    /// The relays that failed since this was asked last.
+    pub fn take_failed<R: Wait>(&self, rt: &R) -> RelaySet {
+        let mut failed = self.failed.lock(rt);
+        let taken = *failed;
+        *failed = RelaySet::empty();
+        taken
+    }
 }
 
 impl<P: Write> Progress<P> {
     /// A relay failed: tells why.
     pub fn fail<R: Wait, D: Display>(&self, rt: &R, line: RelayLine<'_, D>) {
         self.fall_short(rt);
+        self.note_failed(rt, line.relay);
         self.say(rt, line);
     }
 

@@ -1,31 +1,24 @@
 //! The job `sync`.
 
-ghost use Rattle.std.specs.Prelude.{◌≡◌, ◌≢◌, ◌++◌, ◌≤◌, ◌<◌, ◌^◌, ◌-◌, ℕ, All, List, None, length, IfOk, OnOk};
+ghost use Rattle.std.specs.Prelude.{◌≡◌, ◌++◌, ℕ, List, None, IfOk, OnOk};
 ghost use Rattle.std.specs.Io.KnownBytes.{Appends};
 ghost use Rattle.std.specs.Thread.{IsSend};
-ghost use Rattle.sharing.specs.declared.TheConstants.{RELAYS, MOST_BASE};
-ghost use Rattle.sharing.specs.Bases.{base_of};
-ghost use Rattle.sync_run.specs.Lines.{ends_text, plan_text, round_text, counts_text};
-ghost use Rattle.sync_run.specs.Rounds.{BeginAt, begin_at};
-ghost use Rattle.sync_run.specs.Printed.{IsSynced, IsFetched, IsSyncDone, PrintsOver, PrintsOfSome};
+ghost use Rattle.sync_run.specs.Lines.{ends_text, plan_text, counts_text};
+ghost use Rattle.sync_run.specs.Rounds.{BeginAt};
+ghost use Rattle.sync_run.specs.Printed.{IsSynced, IsSyncDone, PrintsOver, PrintsOfSome};
 
-use crate::fetching::{
-    Counts, Round, asked_of, counts_of, fetched, finished_of, planned, sources_of,
-};
-use crate::links::{finish_all, linked_all};
+use crate::fetching::Counts;
+use crate::pass::{Compared, compare, fetch_rounds};
 use crate::progress::{Nowhere, Progress};
-use crate::text::{put_counts, put_ends, put_plan, put_round};
+use crate::text::{put_counts, put_ends, put_plan};
 use event_store::{Blank, Desk, Naming, Reader, open_store};
-use fetch_plan::Plan;
-use mirror_core::{SyncFault, Synced, failover_plan, grown, sync_plan};
-use mirror_settings::{Settings, SettingsKey, read_settings};
-use neg_session::SessionLimits;
-use offer_table::{Bases, RelaySet};
+use mirror_core::{SyncFault, Synced};
+use mirror_settings::{Job, Settings, SettingsKey, read_settings};
+use offer_table::RelaySet;
 use serve_run::{
     Hall, Keeping, Refusal, begin, keep_beside, keep_meanwhile, keeping_of, open_hall, readers_for,
     say, serve_beside,
 };
-use sharing::SLOTS;
 use std::alloc::Global;
 use std::fs::File;
 use std::io::Write;
@@ -36,27 +29,6 @@ use std::random::RandomSource;
 use std::rt::{Clock, Files};
 use std::sync::{Mutex, Wait};
 use std::thread::Threads;
-
-/// Lets a relay's load begin with this one, if it is a relay and the load one that it may begin with.
-fn begin_load(bases: &mut Bases, relay: usize, load: u64)
-    ensures begun { relay < RELAYS → load ≤ MOST_BASE → base_of bases.new relay ≡ load }
-    ensures others { (r : ℕ) → r ≢ relay → base_of bases.new r ≡ base_of bases.old r }
-{
-    if relay < SLOTS {
-        let _ = bases.set(relay as u16, load);
-    }
-}
-
-/// The loads that the relays begin with.
-fn bases_of(loads: &[u64]) -> Bases
-    ensures { BeginAt loads.now result }
-{
-    let mut bases = Bases::none();
-    for relay in 0..loads.len() {
-        begin_load(&mut bases, relay, loads[relay]);
-    }
-    bases
-}
 
 /// What a fault of the sessions comes to.
 fn refusal_of(fault: SyncFault) -> Refusal {
@@ -82,75 +54,20 @@ fn synced<
 ) -> Result<Synced, Refusal>
     ensures { IfOk result (λ done. (bases : List ℕ) × BeginAt settings.now.bases bases × IsSynced settings.now bases reader.new done.ends.items done.table done.plan) }
 {
-    let snapshot = reader.pin(alloc, &settings.filter)?;
-    progress.tell(rt, snapshot.events().len(), "events are compared");
-    let mut peers = linked_all(rt, alloc, settings, progress)?;
-    progress.tell(rt, peers.len(), "relays are asked");
-    let bases = bases_of(settings.bases.as_slice());
-    let limits = SessionLimits::default();
-    let done = sync_plan(rt, alloc, peers.as_mut_slice(), &snapshot, &bases, &limits);
-    finish_all(peers);
+    let all = RelaySet::empty();
+    let Compared { done, .. } = compare(
+        rt,
+        alloc,
+        settings,
+        &settings.filter,
+        all,
+        reader,
+        progress,
+    )?;
     match done {
         Ok(done) => Ok(done),
         Err(fault) => Err(refusal_of(fault)),
     }
-}
-
-/// Fetches what a plan gives from these relays, connected anew, and tells what became of each of its ids. What they give is kept in
-/// the file meanwhile.
-fn fetch_round<
-    J: Naming + Send + Sync,
-    D: Wait + Drop + Send + Sync,
-    R: Net<Listener = TcpListener, Stream = TcpStream>
-        + RandomSource
-        + Threads
-        + Wait
-        + Clock
-        + Sync,
-    P: Write + Send,
-    E: Write + Send + Drop,
->(
-    rt: &R,
-    alloc: Global,
-    settings: &Settings,
-    relays: &[u16],
-    plan: &Plan,
-    desk: &Mutex<Desk<J, D>>,
-    keeping: &Keeping<J, E>,
-    progress: &Progress<P>,
-) -> Result<Round, Refusal>
-    ensures { IfOk result (λ round. length round.cells.items ≡ length plan.now.gives) }
-{
-    progress.tell(rt, plan.len(), "ids are planned");
-    let (mut sources, relays) = sources_of(rt, alloc, settings, relays, progress)?;
-    progress.begin(rt, plan.len());
-    progress.tell(rt, sources.len(), "connections fetch");
-    let (sources, relays) = (sources.as_mut_slice(), relays.as_slice());
-    let round = keep_beside(
-        rt,
-        keeping,
-        ||
-            requires { IsSend J.row × IsSend D.row × IsSend P.row × All (λ s. s.source.faults < 2 ^ 64 - 1) sources.now }
-            ensures { IfOk result (λ round. length round.cells.items ≡ length plan.entry.now.gives) }
-        { fetched(rt, alloc, plan, sources, relays, desk) },
-    )?;
-    progress.tell_counts(rt, &counts_of(round.cells.as_slice()));
-    progress.tell_full(rt, round.is_full);
-    Ok(round)
-}
-
-/// Prints a later round and its plan.
-fn say_round<W: Write>(
-    alloc: Global,
-    writer: &mut W,
-    round: u64,
-    plan: &Plan,
-) -> Result<(), Refusal>
-    ensures { OnOk result (Appends (W.contents writer.old) (W.contents writer.new) (round_text round plan.now)) }
-{
-    let mut text = String::new(alloc);
-    put_round(alloc, &mut text, round, plan)?;
-    say(writer, text.as_str())
 }
 
 /// Prints how the sessions ended, and the plan.
@@ -170,77 +87,6 @@ fn say_counts<W: Write>(alloc: Global, writer: &mut W, counts: &Counts) -> Resul
     let mut text = String::new(alloc);
     put_counts(alloc, &mut text, counts)?;
     say(writer, text.as_str())
-}
-
-/// Fetches by the plan, and by a later one of what is left in each further round, and tells what became of the ids.
-fn fetch_rounds<
-    J: Naming + Send + Sync,
-    D: Wait + Drop + Send + Sync,
-    R: Net<Listener = TcpListener, Stream = TcpStream>
-        + RandomSource
-        + Threads
-        + Wait
-        + Clock
-        + Sync,
-    W: Write,
-    P: Write + Send,
-    E: Write + Send + Drop,
->(
-    rt: &R,
-    alloc: Global,
-    settings: &Settings,
-    done: Synced,
-    desk: &Mutex<Desk<J, D>>,
-    keeping: &Keeping<J, E>,
-    writer: &mut W,
-    progress: &Progress<P>,
-) -> Result<Counts, Refusal>
-    ensures { IfOk result (IsFetched settings.now.rounds (begin_at done.table done.plan) (W.contents writer.old) (W.contents writer.new)) }
-{
-    let Synced {
-        ends,
-        mut table,
-        mut plan,
-    } = done;
-    let relays = finished_of(alloc, ends)?;
-    let mut all = Counts::none();
-    let mut stopped = RelaySet::empty();
-    for round in 1..settings.rounds {
-        let given = planned(&plan);
-        let asked = asked_of(alloc, relays.as_slice(), given, stopped)?;
-        let ended = fetch_round(
-            rt,
-            alloc,
-            settings,
-            asked.as_slice(),
-            &plan,
-            desk,
-            keeping,
-            progress,
-        )?;
-        let cells = ended.cells.as_slice();
-        all = all.with(&counts_of(cells));
-        let bases = grown(&plan.bases(), &plan, cells);
-        // One that wasn't asked since it stopped hasn't come back.
-        stopped = stopped.minus(given).union(ended.stopped);
-        plan = failover_plan(alloc, &mut table, &plan, cells, stopped, &bases)?;
-        if plan.len() == 0 {
-            return Ok(all);
-        }
-        say_round(alloc, writer, round.saturating_add(1), &plan)?;
-    }
-    let asked = asked_of(alloc, relays.as_slice(), planned(&plan), stopped)?;
-    let ended = fetch_round(
-        rt,
-        alloc,
-        settings,
-        asked.as_slice(),
-        &plan,
-        desk,
-        keeping,
-        progress,
-    )?;
-    Ok(all.with(&counts_of(ended.cells.as_slice())))
 }
 
 /// Runs the sessions, prints how they ended and the plan, and fetches by it.
@@ -529,7 +375,7 @@ pub fn run_sync_with<
 ) -> Result<(), Refusal>
     ensures { OnOk result (IsSyncDone text.now (W.contents writer.old) (W.contents writer.new)) }
 {
-    let settings = read_settings(alloc, text, true)?;
+    let settings = read_settings(alloc, text, Job::Sync)?;
     run_named::<Brand, &R, R, W, P, E>(
         rt,
         rt,

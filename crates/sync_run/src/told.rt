@@ -12,9 +12,47 @@ use neg_session::{Pair, Peer, PeerFault, SessionFault};
 use nostr_event::Event;
 use std::io::Write;
 use std::rt::Clock;
-use std::sync::{Arc, Wait};
+use std::sync::{Arc, Mutex, Wait};
 use std::time::Instant;
-use ws_link::Explains;
+use ws_link::{Explains, Notes, Reason};
+
+/// What a session with a relay came to.
+#[derive(Clone, Copy, Debug, PartialEq, Eq)]
+pub enum Heard {
+    /// Nothing: the relay wasn't asked, or its session hasn't ended.
+    Nothing,
+    /// So many ids are needed of it.
+    Needs(usize),
+    /// The relay lists more than one session takes, or compares no more than a part of these events. The number is the fault's.
+    TooMuch(u8),
+    /// It failed, by the fault of this number.
+    Failed(u8),
+}
+
+/// Whether a relay compares no more than a part of what it was asked for: it says that it is blocked (NIP-77), or its answer is too
+/// long.
+fn is_too_much(notes: &Notes) -> bool {
+    match notes.reason() {
+        Some(Reason::TooLong) => true,
+        Some(Reason::NegErr(text)) => text.as_str().starts_with("blocked"),
+        _ => false,
+    }
+}
+
+/// What a session came to, whose peer knows no more than that.
+fn heard_of(end: Result<&Outcome, SessionFault>, notes: &Notes) -> Heard {
+    match end {
+        Ok(outcome) => Heard::Needs(outcome.need.len()),
+        Err(fault) => {
+            let number = fault.number();
+            match fault {
+                SessionFault::NeedFull | SessionFault::LogFull => Heard::TooMuch(number),
+                SessionFault::PeerFailed if is_too_much(notes) => Heard::TooMuch(number),
+                _ => Heard::Failed(number),
+            }
+        }
+    }
+}
 
 /// A relay, whose session is told as it ends.
 #[derive(Drop)]
@@ -22,6 +60,9 @@ pub struct ToldPeer<'a, Q, R, P> {
     pub peer: Q,
     pub relay: usize,
     pub name: String,
+    /// Else nothing is told of it.
+    pub is_asked: bool,
+    pub heard: Mutex<Heard>,
     pub rt: &'a R,
     pub progress: &'a Progress<P>,
 }
@@ -68,6 +109,10 @@ impl<Q: Peer + Explains, R: Wait, P: Write> Peer for ToldPeer<'_, Q, R, P> {
 
     fn ended(&self, end: Result<&Outcome, SessionFault>) {
         self.peer.ended(end);
+        if !self.is_asked {
+            return;
+        }
+        *self.heard.lock(self.rt) = heard_of(end, self.peer.notes());
         let line = SessionLine {
             relay: self.relay,
             needed: match end {

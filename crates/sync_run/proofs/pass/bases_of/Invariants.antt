@@ -1,5 +1,5 @@
 use Rattle.sync_run.proofs.Loads.{IsBegun}
-use Rattle.sync_run.proofs.run.bases_of.Given as goal
+use Rattle.sync_run.proofs.pass.bases_of.Given as goal
 
 abbrev pub invariant-loop-relay : goal.invariant-loop-relay
 invariant-loop-relay l = IsBegun l.loads l.bases l.relay

@@ -4,7 +4,7 @@ use Rattle.sync_run.specs.Lines.{round_text}
 use Rattle.sync_run.specs.Rounds.{Stage, IsNext, begin_at}
 use Rattle.sync_run.proofs.Written.{append_nothing}
 use Rattle.sync_run.proofs.Rounds.{none_ended, next_round, all_ended, as_many, none_left, is_next}
-use Rattle.sync_run.proofs.run.fetch_rounds.Goals as goal
+use Rattle.sync_run.proofs.pass.fetch_rounds.Goals as goal
 
 pub loop-round-init : goal.loop-round-init
 loop-round-init g c = record {

@@ -1,7 +1,7 @@
 use Rattle.std.proofs.Common.{◌≤◌, max}
 use Rattle.sync_run.specs.Rounds.{begin_at}
 use Rattle.sync_run.proofs.Rounds.{IsAt}
-use Rattle.sync_run.proofs.run.fetch_rounds.Given as goal
+use Rattle.sync_run.proofs.pass.fetch_rounds.Given as goal
 
 abbrev pub invariant-loop-round : goal.invariant-loop-round
 invariant-loop-round g l = record {

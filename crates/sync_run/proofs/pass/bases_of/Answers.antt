@@ -1,6 +1,6 @@
 use Rattle.std.proofs.Common.{arith}
 use Rattle.sync_run.proofs.Loads.{begin_more, all_begun}
-use Rattle.sync_run.proofs.run.bases_of.Goals as goal
+use Rattle.sync_run.proofs.pass.bases_of.Goals as goal
 
 pub loop-relay-init : goal.loop-relay-init
 loop-relay-init c = record { begun = λ r below relay small. absurd (omega (arith, below)); rest = λ r above. c.none-bases.ensures.none r }
