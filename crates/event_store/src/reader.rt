@@ -71,12 +71,20 @@ impl<J: Naming> Reader<J> {
         ensures learnt { IsPrefix placed.now.list self.new }
         ensures one { (self.new ≡ self.old) ⊎ (self.new ≡ placed.now.list) }
     {
-        let told = placed.told();
-        if self.front.len() < told.len() {
-            self.front.compare(told);
-            self.front = told.again();
+        self.recall(placed.told());
+    }
+
+    /// Takes in what another reader has seen or learnt. The next pin has it.
+    pub fn recall(&mut self, front: &Front<J>)
+        ensures kept { IsPrefix self.old self.new }
+        ensures recalled { IsPrefix front.now self.new }
+        ensures one { (self.new ≡ self.old) ⊎ (self.new ≡ front.now) }
+    {
+        if self.front.len() < front.len() {
+            self.front.compare(front);
+            self.front = front.again();
         } else {
-            told.compare(&self.front);
+            front.compare(&self.front);
         }
     }
 

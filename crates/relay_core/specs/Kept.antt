@@ -1,5 +1,5 @@
 -- What a connection keeps between two messages.
-use Rattle.std.specs.Prelude.{◌≡◌, ℕ, ⊤, List, [], ◌∷◌, Bool, true, not, filter, if◌then◌else◌, Option, Some, None, bytes_eq}
+use Rattle.std.specs.Prelude.{◌≡◌, ℕ, ⊤, List, [], ◌∷◌, Bool, true, false, not, nat_lt, length, filter, if◌then◌else◌, Option, Some, None, bytes_eq}
 use Rattle.std.specs.List.{AllByRecursion}
 use Rattle.std.specs.Ordering.{nat_cmp, is_lt}
 use Rattle.std.specs.Cmp.Lexicographic.{slice_cmp}
@@ -54,3 +54,8 @@ without_sub name t = kept_of (other_subs name t.subs) t.sessions
 
 abbrev pub without_session : List ℕ → Kept → Kept
 without_session name t = kept_of t.subs (other_sessions name t.sessions)
+
+-- whether there is a subscription
+abbrev pub is_subscribed : Option Kept → Bool
+is_subscribed None = false
+is_subscribed (Some t) = nat_lt 0 (length t.subs)

@@ -3,7 +3,7 @@ ghost use Rattle.std.specs.Prelude.{◌≡◌, ◌≤◌, ◌⊎◌, Some, None,
 ghost use mathlib.Core.List.{IsPrefix};
 ghost use Rattle.nostr_wire.specs.Forms.{relay_form};
 ghost use Rattle.relay_core.specs.Acknowledging.{acknowledges, AcknowledgeNone};
-ghost use Rattle.relay_core.specs.Kept.{kept_of};
+ghost use Rattle.relay_core.specs.Kept.{kept_of, is_subscribed};
 ghost use Rattle.relay_core.specs.Turns.{turn_of};
 ghost use Rattle.relay_core.specs.Serving.{Serves};
 ghost use Rattle.relay_core.specs.Stored.{placed_answer, fault_answer};
@@ -51,6 +51,16 @@ impl Conn {
             alloc,
             limits,
             talk: Some(Talk::new(alloc)),
+        }
+    }
+
+    /// Whether it has a subscription.
+    pub fn has_subs(&self) -> bool
+        ensures { result ≡ is_subscribed self.now.kept }
+    {
+        match &self.talk {
+            Some(talk) => !talk.subs().is_empty(),
+            None => false,
         }
     }
 

@@ -22,6 +22,9 @@ use websocket::protocol::{
     FrameStatus, MaskKeys, Message as Words, NoMask, Role, Step, WebSocketConfig, WebSocketContext,
 };
 
+/// Room for more bytes isn't held by a connection at rest.
+const MUCH: usize = 16_384;
+
 /// A WebSocket over a stream. `K` gives a client's masking keys.
 #[derive(Drop)]
 pub struct Wire<S, K> {
@@ -116,6 +119,19 @@ impl<S, K> Wire<S, K> {
         ensures { result ≡ length self.now.output }
     {
         self.output.len()
+    }
+
+    /// Gives back what room is held that nothing stands in.
+    pub fn rest(&mut self)
+        ensures { self.new ≡ self.old }
+    {
+        if self.output.is_empty() && self.output.capacity() > MUCH {
+            self.output = Vec::new(self.alloc);
+        }
+        if self.start == self.input.len() && self.input.capacity() > MUCH {
+            self.input = Vec::new(self.alloc);
+            self.start = 0;
+        }
     }
 
     /// From now on a read asks for so many bytes.
