@@ -17,7 +17,7 @@ RECON_USAGE = MORE + "\nUsage: nostr-mirror recon [OPTIONS]\n"
 # fault of the limit stands how `recon` is used.
 REFUSED = [
     ("", "error: 'nostr-mirror' requires a subcommand but one was not provided\n"
-         "  [subcommands: recon, plan, check, serve, sync, help]", USAGE),
+         "  [subcommands: recon, plan, check, serve, sync, mirror, help]", USAGE),
     ("--help", ABOUT, ""),
     ("-h", ABOUT, ""),
     ("help", ABOUT, ""),

@@ -9,7 +9,7 @@ use Rattle.serve_run.specs.RefusalText.{refusal_text as service_text}
 use Rattle.plan_run.specs.Jobs.{IsPlanWritten, IsPlanRefusal, IsLeastWritten, IsCheckRefusal}
 use Rattle.clap.specs.Words.{Text, fault_of, subcommand_of}
 use Rattle.mirror_words.specs.declared.words.Words.{Words}
-use Rattle.mirror_words.specs.declared.words.Words.TheVariants.{Recon, Plan, Check, Serve, Sync}
+use Rattle.mirror_words.specs.declared.words.Words.TheVariants.{Recon, Plan, Check, Serve, Sync, Mirror}
 use Rattle.mirror_words.specs.declared.usage.WordsFault.{WordsFault}
 use Rattle.mirror_words.specs.declared.usage.WordsFault.TheVariants as fault
 use Rattle.mirror_app.specs.declared.jobs.End.{End}
@@ -29,6 +29,7 @@ pub record Names (words : List Text) (job : Words) : Type 0 where
 abbrev pub IsOfText : Words → Type 0
 IsOfText (Serve path) = ⊥
 IsOfText (Sync path progress strict) = ⊥
+IsOfText (Mirror path progress) = ⊥
 IsOfText job = Unit {0}
 
 -- what the job writes of its input
@@ -38,6 +39,7 @@ IsDoneBy Plan input old new = IsPlanWritten input old new
 IsDoneBy Check input old new = IsLeastWritten input old new
 IsDoneBy (Serve path) input old new = ⊥
 IsDoneBy (Sync path progress strict) input old new = ⊥
+IsDoneBy (Mirror path progress) input old new = ⊥
 
 -- why the job refuses its input
 abbrev pub IsRefusedBy : Words → List ℕ → Refusal → Type 0
@@ -46,6 +48,7 @@ IsRefusedBy Plan input e = IsPlanRefusal input e
 IsRefusedBy Check input e = IsCheckRefusal input e
 IsRefusedBy (Serve path) input e = ⊥
 IsRefusedBy (Sync path progress strict) input e = ⊥
+IsRefusedBy (Mirror path progress) input e = ⊥
 
 -- The end of the program: the job that the words name was done, or refused its input, where that is known; or the words
 -- name none.
@@ -76,11 +79,17 @@ abbrev pub ending : Result (Unit {0}) Refusal → End
 ending (Ok done) = Done
 ending (Err e) = Refused e
 
--- the end of `serve` or `sync`
+-- the end of `serve`, `sync` or `mirror`
 abbrev pub settled : Result (Unit {0}) ServiceRefusal → Bool → End
 settled (Ok done) false = Done
 settled (Ok done) true = Short
 settled (Err e) short = Stopped e
+
+-- the end of `mirror`, which tells whether a relay failed or an id is left
+abbrev pub levelled : Result Bool ServiceRefusal → End
+levelled (Ok false) = Done
+levelled (Ok true) = Short
+levelled (Err e) = Stopped e
 
 -- the exit status
 abbrev pub status_of : End → ℕ

@@ -21,9 +21,9 @@ pub enum End {
     Refused(Refusal),
     /// The words name no job: what is told then.
     Usage(String),
-    /// `serve` or `sync` wasn't done.
+    /// `serve`, `sync` or `mirror` wasn't done.
     Stopped(ServiceRefusal),
-    /// `sync` was done, and a relay failed or an id is left, where that is asked.
+    /// `sync` or `mirror` was done, and a relay failed or an id is left, where that is asked.
     Short,
 }
 
@@ -78,7 +78,7 @@ impl From<WordsFault> for End {
 pub enum Went {
     /// It has ended.
     Ended(End),
-    /// What is left to do isn't done on standard input: `serve` or `sync`.
+    /// What is left to do isn't done on standard input: `serve`, `sync` or `mirror`.
     Left(Words),
 }
 
@@ -112,5 +112,6 @@ pub fn run<R: Read, W: Write>(
         Words::Check => Went::Ended(ended(run_check(alloc, reader, writer))),
         Words::Serve(path) => Went::Left(Words::Serve(path)),
         Words::Sync(path, progress, strict) => Went::Left(Words::Sync(path, progress, strict)),
+        Words::Mirror(path, progress) => Went::Left(Words::Mirror(path, progress)),
     }
 }

@@ -6,7 +6,7 @@ mod settled;
 
 use jobs::{End, Went, run};
 use mirror_words::{Words, words_of};
-use settled::{ended, serve, sync};
+use settled::{ended, levelled, mirror, serve, sync};
 use std::fs::File;
 use std::io;
 use std::process::ExitCode;
@@ -23,6 +23,15 @@ fn taken<R: Files>(rt: &R) -> [io::Result<R::File>; 3] {
     ]
 }
 
+/// Where it is told how far the job is.
+fn progress_of<P: Drop>(errors: P, is_wanted: bool) -> Progress<P> {
+    if is_wanted {
+        Progress::to(errors)
+    } else {
+        Progress::none()
+    }
+}
+
 fn main(rt: HostRuntime) -> io::Result<ExitCode> {
     let alloc = rt.alloc();
     let _taken = taken(&rt);
@@ -37,14 +46,16 @@ fn main(rt: HostRuntime) -> io::Result<ExitCode> {
             ended(done, false)
         }
         Went::Left(Words::Sync(path, is_wanted, is_strict)) => {
-            let progress = if is_wanted {
-                Progress::to(rt.stderr())
-            } else {
-                Progress::none()
-            };
+            let progress = progress_of(rt.stderr(), is_wanted);
             let (out, errors) = (&mut rt.stdout(), rt.stderr());
             let done = sync(&rt, alloc, path.as_str(), out, &progress, errors);
             ended(done, is_strict && progress.fell_short(&rt))
+        }
+        Went::Left(Words::Mirror(path, is_wanted)) => {
+            let progress = progress_of(rt.stderr(), is_wanted);
+            let (out, errors) = (&mut rt.stdout(), rt.stderr());
+            let done = mirror(&rt, alloc, path.as_str(), out, &progress, errors);
+            levelled(done)
         }
         // The other jobs have ended.
         Went::Left(_) => End::Done,

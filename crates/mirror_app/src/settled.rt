@@ -1,9 +1,10 @@
 //! The jobs that a file of settings tells.
 
 ghost use Rattle.std.specs.Prelude.{◌≡◌};
-ghost use Rattle.mirror_app.specs.Jobs.{settled};
+ghost use Rattle.mirror_app.specs.Jobs.{settled, levelled};
 
 use crate::jobs::End;
+use level_run::run_mirror;
 use serve_run::{Refusal, run_serve};
 use std::alloc::Global;
 use std::fs::File;
@@ -78,5 +79,42 @@ pub fn sync<
     match fs::read_to_string(rt, path) {
         Ok(text) => run_sync_with(rt, alloc, text.as_str(), writer, progress, errors),
         Err(error) => Err(refusal_of(&error)),
+    }
+}
+
+/// Keeps a store level by the settings of the file at a path, and tells whether a relay failed or an id is left in the end.
+pub fn mirror<
+    R: Net<Listener = TcpListener, Stream = TcpStream>
+        + RandomSource
+        + Threads
+        + Wait
+        + Files<File = File>
+        + Clock
+        + AllocGlobal
+        + Sync,
+    W: Write,
+    P: Write + Send,
+    E: Write + Send + Drop,
+>(
+    rt: &R,
+    alloc: Global,
+    path: &str,
+    writer: &mut W,
+    progress: &Progress<P>,
+    errors: E,
+) -> Result<bool, Refusal> {
+    match fs::read_to_string(rt, path) {
+        Ok(text) => run_mirror(rt, alloc, text.as_str(), writer, progress, errors),
+        Err(error) => Err(refusal_of(&error)),
+    }
+}
+
+/// How `mirror` ended.
+pub fn levelled(done: Result<bool, Refusal>) -> End
+    ensures { result ≡ levelled done }
+{
+    match done {
+        Ok(is_short) => ended(Ok(()), is_short),
+        Err(refusal) => ended(Err(refusal), false),
     }
 }

@@ -13,7 +13,7 @@ use Rattle.clap.specs.Kinds.{Kinds, or_else}
 use Rattle.clap.specs.Faults.{check_fault, entered_fault, fault_of, level_fault, other_fault, settle_fault, turn_fault, walk_fault}
 use Rattle.clap.specs.declared.error.kind.ErrorKind.{ErrorKind}
 use Rattle.clap.specs.declared.error.kind.ErrorKind.TheVariants.{MissingSubcommand}
-use Rattle.mirror_words.specs.declared.words.Words.TheVariants.{Recon, Plan, Check, Serve, Sync}
+use Rattle.mirror_words.specs.declared.words.Words.TheVariants.{Recon, Plan, Check, Serve, Sync, Mirror}
 use Rattle.mirror_words.specs.CommandLine.{nostr_mirror, IsJob}
 
 -- the subcommand that a step names
@@ -123,20 +123,21 @@ and_true : (b : Bool) → (b && true) ≡ false → b ≡ false
 and_true true h = h
 and_true false h = refl
 
--- of six shapes, where the last doesn't pass
-pick : (test : Shape → Bool) (x y z u v w : Shape) → test w ≡ false →
-    (let name : Option Text = option_map (λ s. s.name) (find test (x ∷ y ∷ z ∷ u ∷ v ∷ w ∷ [])) in (name ≡ None) ⊎ ((name ≡ Some x.name) ⊎ ((name ≡ Some y.name) ⊎ ((name ≡ Some z.name) ⊎ ((name ≡ Some u.name) ⊎ (name ≡ Some v.name))))))
-pick test x y z u v w last = go (test x) (test y) (test z) (test u) (test v) (test w) last
+-- of seven shapes, where the last doesn't pass
+pick : (test : Shape → Bool) (x y z u v w o : Shape) → test o ≡ false →
+    (let name : Option Text = option_map (λ s. s.name) (find test (x ∷ y ∷ z ∷ u ∷ v ∷ w ∷ o ∷ [])) in (name ≡ None) ⊎ ((name ≡ Some x.name) ⊎ ((name ≡ Some y.name) ⊎ ((name ≡ Some z.name) ⊎ ((name ≡ Some u.name) ⊎ ((name ≡ Some v.name) ⊎ (name ≡ Some w.name)))))))
+pick test x y z u v w o last = go (test x) (test y) (test z) (test u) (test v) (test w) (test o) last
   where
-    go : (a b c d e f : Bool) → f ≡ false →
-        (let name : Option Text = option_map (λ (s : Shape). s.name) (cond a (Some x) (cond b (Some y) (cond c (Some z) (cond d (Some u) (cond e (Some v) (cond f (Some w) None)))))) in (name ≡ None) ⊎ ((name ≡ Some x.name) ⊎ ((name ≡ Some y.name) ⊎ ((name ≡ Some z.name) ⊎ ((name ≡ Some u.name) ⊎ (name ≡ Some v.name))))))
-    go true b c d e f h = inr (inl refl)
-    go false true c d e f h = inr (inr (inl refl))
-    go false false true d e f h = inr (inr (inr (inl refl)))
-    go false false false true e f h = inr (inr (inr (inr (inl refl))))
-    go false false false false true f h = inr (inr (inr (inr (inr refl))))
-    go false false false false false true h = absurd (false≢true (sym h))
-    go false false false false false false h = inl refl
+    go : (a b c d e f g : Bool) → g ≡ false →
+        (let name : Option Text = option_map (λ (s : Shape). s.name) (cond a (Some x) (cond b (Some y) (cond c (Some z) (cond d (Some u) (cond e (Some v) (cond f (Some w) (cond g (Some o) None))))))) in (name ≡ None) ⊎ ((name ≡ Some x.name) ⊎ ((name ≡ Some y.name) ⊎ ((name ≡ Some z.name) ⊎ ((name ≡ Some u.name) ⊎ ((name ≡ Some v.name) ⊎ (name ≡ Some w.name)))))))
+    go true b c d e f g h = inr (inl refl)
+    go false true c d e f g h = inr (inr (inl refl))
+    go false false true d e f g h = inr (inr (inr (inl refl)))
+    go false false false true e f g h = inr (inr (inr (inr (inl refl))))
+    go false false false false true f g h = inr (inr (inr (inr (inr (inl refl)))))
+    go false false false false false true g h = inr (inr (inr (inr (inr (inr refl)))))
+    go false false false false false false true h = absurd (false≢true (sym h))
+    go false false false false false false false h = inl refl
 
 -- the program as clap builds it, with its subcommand `help`
 abbrev whole : App
@@ -177,7 +178,7 @@ module _ (args : List Text) where
       let apart : bytes_eq p.0 (codes "help") ≡ false = and_true (bytes_eq p.0 (codes "help")) (no_help whole.top (names_of whole) (walk_from nothing_held) args p e a.0) in
       let found : Option Shape = find (λ s. answers_to p.0 (label_of s)) whole.subs in
       let name : option_map (λ s. s.0) (entered whole (Some p)) ≡ option_map (λ s. s.name) found = found_name p.1 found in
-      elim (pick (λ s. answers_to p.0 (label_of s)) (sub_at 0) (sub_at 1) (sub_at 2) (sub_at 3) (sub_at 4) (sub_at 5) (flipped p.0 (codes "help") apart)) [
+      elim (pick (λ s. answers_to p.0 (label_of s)) (sub_at 0) (sub_at 1) (sub_at 2) (sub_at 3) (sub_at 4) (sub_at 5) (sub_at 6) (flipped p.0 (codes "help") apart)) [
         | inl none ↦ absurd (has_one _ _ (found_none p.1 found none) f)
         | inr some ↦ elim some [
           | inl recon ↦ (Recon 60000, name ∙ recon)
@@ -185,7 +186,10 @@ module _ (args : List Text) where
             | inl plan ↦ (Plan, name ∙ plan)
             | inr others ↦ elim others [
               | inl check ↦ (Check, name ∙ check)
-              | inr others ↦ elim others [ inl serve ↦ (Serve [], name ∙ serve) | inr sync ↦ (Sync [] false false, name ∙ sync) ]
+              | inr others ↦ elim others [
+                | inl serve ↦ (Serve [], name ∙ serve)
+                | inr others ↦ elim others [ inl sync ↦ (Sync [] false false, name ∙ sync) | inr mirror ↦ (Mirror [] false, name ∙ mirror) ]
+              ]
             ]
           ]
         ]

@@ -5,7 +5,7 @@ use Rattle.clap.specs.Words.{App, IsUnsignedIn, Row, Rule, Text, new_app, new_ru
 use Rattle.clap.specs.declared.builder.action.ArgAction.TheVariants.{SetTrue}
 use Rattle.clap.specs.declared.builder.value_parser.ValueParser.TheVariants as parser
 use Rattle.mirror_words.specs.declared.words.Words.{Words}
-use Rattle.mirror_words.specs.declared.words.Words.TheVariants.{Recon, Plan, Check, Serve, Sync}
+use Rattle.mirror_words.specs.declared.words.Words.TheVariants.{Recon, Plan, Check, Serve, Sync, Mirror}
 use Rattle.mirror_words.specs.declared.usage.WordsFault.{WordsFault}
 use Rattle.mirror_words.specs.declared.usage.WordsFault.TheVariants.{Usage, Memory}
 
@@ -40,6 +40,9 @@ serve = with_rule (new_app (codes "serve")) settings_rule
 abbrev pub sync : App
 sync = with_rule (with_rule (with_rule (new_app (codes "sync")) settings_rule) progress_rule) strict_rule
 
+abbrev pub mirror : App
+mirror = with_rule (with_rule (new_app (codes "mirror")) settings_rule) progress_rule
+
 abbrev pub wants_subcommand : App → App
 wants_subcommand a = record a { top = record a.top { subcommand_required = true } }
 
@@ -52,7 +55,7 @@ program = wants_subcommand (tells_version (new_app (codes "nostr-mirror")))
 
 -- one of the subcommands has to be named, and no other word
 abbrev pub nostr_mirror : App
-nostr_mirror = with_subcommand (with_subcommand (with_subcommand (with_subcommand (with_subcommand program recon.top) plan.top) check.top) serve.top) sync.top
+nostr_mirror = with_subcommand (with_subcommand (with_subcommand (with_subcommand (with_subcommand (with_subcommand program recon.top) plan.top) check.top) serve.top) sync.top) mirror.top
 
 -- the name of the subcommand
 abbrev pub name_of : Words → Text
@@ -61,6 +64,7 @@ name_of Plan = codes "plan"
 name_of Check = codes "check"
 name_of (Serve path) = codes "serve"
 name_of (Sync path progress strict) = codes "sync"
+name_of (Mirror path progress) = codes "mirror"
 
 -- the limit of a session's messages is in its range
 abbrev pub IsWithin : Words → Type 0
@@ -99,6 +103,7 @@ abbrev pub Tells : Option (Text × List Row) → Words → Type 0
 Tells found (Recon limit) = IsLimitOf (limit_text found) limit
 Tells found (Serve path) = IsPathOf (path_text found) path
 Tells found (Sync path progress strict) = IsPathOf (path_text found) path × IsFlagOf (progress_text found) progress × IsFlagOf (strict_text found) strict
+Tells found (Mirror path progress) = IsPathOf (path_text found) path × IsFlagOf (progress_text found) progress
 Tells found job = Unit {0}
 
 -- the name of a job

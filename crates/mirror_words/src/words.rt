@@ -4,7 +4,7 @@ ghost use Rattle.std.specs.Prelude.{◌≡◌, ◌≤◌, false, map, codes, Som
 ghost use Rattle.clap.specs.Words.{app_of, rule_of, shape_of, subcommand_name_of, subcommand_of, subcommand_rows_of, found_of, first_of, one_of, rows_of};
 ghost use Rattle.clap.specs.declared.builder.command.Command.TheViews.{out-Command as fields_of};
 ghost use Rattle.clap.specs.Simple.{new_shape};
-ghost use Rattle.mirror_words.specs.CommandLine.{nostr_mirror, program as the_program, recon as the_recon, serve as the_serve, sync as the_sync, limit_rule, settings_rule, progress_rule, strict_rule, IsPathOf, Tells, name_of, IsJob, IsWithin, IsLimitOf, limit_text, IsNamed, IsAccepted, IsDue};
+ghost use Rattle.mirror_words.specs.CommandLine.{nostr_mirror, program as the_program, recon as the_recon, serve as the_serve, sync as the_sync, mirror as the_mirror, limit_rule, settings_rule, progress_rule, strict_rule, IsPathOf, Tells, name_of, IsJob, IsWithin, IsLimitOf, limit_text, IsNamed, IsAccepted, IsDue};
 
 use crate::usage::{WordsFault, fault_of};
 use crate::version::version;
@@ -28,6 +28,8 @@ pub enum Words {
     /// Synchronise with relays, by the settings of the file at this path. Whether it is told how far it is, and whether the status
     /// tells that a relay failed or an id is left.
     Sync(Text, bool, bool),
+    /// Keep a store level with relays, by the settings of the file at this path. Whether it is told how far it is.
+    Mirror(Text, bool),
 }
 
 /// A subcommand that takes no words.
@@ -105,6 +107,20 @@ fn sync<'a>(alloc: Global) -> Result<Command<'a>, AllocError>
     .arg(strict_option(alloc))
 }
 
+/// The subcommand that keeps a store level with relays.
+fn mirror<'a>(alloc: Global) -> Result<Command<'a>, AllocError>
+    ensures shape { IfOk result (λ c. shape_of c ≡ the_mirror.top) }
+    ensures local { IfOk result (λ c. (fields_of c).has_globals ≡ false) }
+{
+    bare(
+        alloc,
+        "mirror",
+        "Keeps the events file level with relays, and serves its events",
+    )
+    .arg(settings_argument(alloc))?
+    .arg(progress_option(alloc))
+}
+
 /// The subcommand that compares two lists.
 pub fn recon<'a>(alloc: Global) -> Result<Command<'a>, AllocError>
     ensures shape { IfOk result (λ c. shape_of c ≡ the_recon.top) }
@@ -147,12 +163,14 @@ pub fn command<'a>(alloc: Global) -> Result<Command<'a>, AllocError>
     );
     let serve = serve(alloc)?;
     let sync = sync(alloc)?;
+    let mirror = mirror(alloc)?;
     program(alloc)?
         .subcommand(recon)?
         .subcommand(plan)?
         .subcommand(check)?
         .subcommand(serve)?
-        .subcommand(sync)
+        .subcommand(sync)?
+        .subcommand(mirror)
 }
 
 /// The limit that the words of a subcommand name, or the default.
@@ -219,6 +237,23 @@ fn sync_of(alloc: Global, matches: &ArgMatches) -> Result<Words, AllocError>
     }
 }
 
+/// The job `mirror`.
+fn mirror_of(alloc: Global, matches: &ArgMatches) -> Result<Words, AllocError>
+    requires { subcommand_name_of matches.now ≡ Some (codes "mirror") }
+    ensures name { IfOk result (λ job. subcommand_name_of matches.now ≡ Some (name_of job)) }
+    ensures limit { IfOk result IsWithin }
+    ensures exact { IfOk result (Tells (subcommand_rows_of matches.now)) }
+{
+    match matches.subcommand_matches("mirror") {
+        Some(mirror) => {
+            let path = path_named(alloc, mirror)?;
+            let progress = mirror.get_flag("progress");
+            Ok(Words::Mirror(path, progress))
+        }
+        None => unreachable!(),
+    }
+}
+
 /// The job of the subcommand that was met.
 fn job_of(alloc: Global, matches: &ArgMatches) -> Result<Words, AllocError>
     requires { IsJob (subcommand_name_of matches.now) }
@@ -234,6 +269,8 @@ fn job_of(alloc: Global, matches: &ArgMatches) -> Result<Words, AllocError>
         serve_of(alloc, matches)
     } else if matches.subcommand_matches("sync").is_some() {
         sync_of(alloc, matches)
+    } else if matches.subcommand_matches("mirror").is_some() {
+        mirror_of(alloc, matches)
     } else {
         Ok(Words::Recon(limit_of(matches)))
     }

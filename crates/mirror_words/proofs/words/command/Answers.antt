@@ -1,6 +1,6 @@
 use Rattle.std.proofs.Common.{◌≡◌}
 use Rattle.clap.specs.Words.{App, app_of, with_subcommand}
-use Rattle.mirror_words.specs.CommandLine.{program, recon, plan, check, serve, sync}
+use Rattle.mirror_words.specs.CommandLine.{program, recon, plan, check, serve, sync, mirror}
 use Rattle.mirror_words.proofs.Commands.{added, last_added}
 use Rattle.mirror_words.proofs.words.command.Goals as goal
 
@@ -16,4 +16,7 @@ returns c =
     let all3 : App = with_subcommand all2 check.top in
     let four : app_of c.in_ok-subcommand-4.field-0 ≡ with_subcommand all3 serve.top =
     added c.in_ok-subcommand-3.field-0 c.in_ok-serve.serve c.in_ok-subcommand-4.field-0 all3 serve.top c.in_ok-subcommand-4.ensures c.in_ok-serve.ensures.local three c.in_ok-serve.ensures.shape in
-    last_added c.subcommand-5.result c.in_ok-subcommand-4.field-0 c.in_ok-sync.sync (with_subcommand all3 serve.top) sync.top c.subcommand-5.ensures c.in_ok-sync.ensures.local four c.in_ok-sync.ensures.shape
+    let all4 : App = with_subcommand all3 serve.top in
+    let five : app_of c.in_ok-subcommand-5.field-0 ≡ with_subcommand all4 sync.top =
+    added c.in_ok-subcommand-4.field-0 c.in_ok-sync.sync c.in_ok-subcommand-5.field-0 all4 sync.top c.in_ok-subcommand-5.ensures c.in_ok-sync.ensures.local four c.in_ok-sync.ensures.shape in
+    last_added c.subcommand-6.result c.in_ok-subcommand-5.field-0 c.in_ok-mirror.mirror (with_subcommand all4 sync.top) mirror.top c.subcommand-6.ensures c.in_ok-mirror.ensures.local five c.in_ok-mirror.ensures.shape

@@ -1,0 +1,4 @@
+pub mod Lines
+pub mod Passes
+pub mod Span
+pub mod Sums
