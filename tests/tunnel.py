@@ -7,7 +7,8 @@ nginx has certificates of an authority that is made here, and knows its relay by
 it serves comes through the tunnel where the settings name both. Another host, another path, and the tunnel's own address as the
 host get a status. Where the certificate is for another name or of another authority, and where nothing listens behind the tunnel,
 the connection is closed; it is refused where there is no tunnel, and gets a status where TLS itself is named. None of these
-reaches the relay. Where one of the programs isn't installed, it says so, and does nothing.
+reaches the relay. Then the same comes through `examples/nginx.conf`. Where one of the programs isn't installed, it says so, and does
+nothing.
 """
 import atexit
 import os
@@ -112,6 +113,18 @@ def stunnel_conf(folder, ways):
     return path
 
 
+def example_server(port, certificate, relay):
+    """The server of the example, at this port and with this certificate, in front of this relay."""
+    with open(os.path.join(ROOT, "examples", "nginx.conf")) as text:
+        server = text.read()
+    for old, new in (("listen 443 ssl", "listen 127.0.0.1:%d ssl" % port), ("127.0.0.1:7447;", "127.0.0.1:%d;" % relay),
+                     ("/etc/ssl/relay.example.com.pem", certificate + ".pem"),
+                     ("/etc/ssl/relay.example.com.key", certificate + ".key")):
+        same(server.count(old), 1)
+        server = server.replace(old, new)
+    return server
+
+
 def run_until_up(folder, ports, *words):
     """Starts a program, and waits until it listens at these ports."""
     with open(os.path.join(folder, os.path.basename(words[0]) + ".out"), "w") as log:
@@ -134,16 +147,19 @@ def run_until_up(folder, ports, *words):
 def through(path, folder, stunnel, nginx):
     theirs = [event(1000 + n, "theirs") for n in range(150)]
     written(os.path.join(folder, "relay.jsonl"), theirs)
-    relay, port = start(path, "serve", settings(folder, "relay", listen="127.0.0.1:0", conns=2))
+    relay, port = start(path, "serve", settings(folder, "relay", listen="127.0.0.1:0", conns=4))
     certify(folder, "authority", "right", HOST)
     certify(folder, "authority", "other", OTHER)
     certify(folder, "stranger", "strange", HOST)
-    far, near, nobody = free_ports(3), free_ports(4), free_ports(1)[0]
+    far, near, nobody = free_ports(3), free_ports(5), free_ports(1)[0]
+    by_example, of_example = free_ports(1)[0], near.pop()
     servers = zip(far, ("right", "other", "strange"))
     with open(os.path.join(folder, "nginx.conf"), "w") as text:
-        text.write(NGINX % "".join(SERVER % {"port": it, "certificate": name, "relay": port} for it, name in servers))
-    children = [run_until_up(folder, far, nginx, "-p", folder, "-e", "nginx.log", "-c", "nginx.conf"),
-                run_until_up(folder, near, stunnel, stunnel_conf(folder, list(zip(near, far + [nobody]))))]
+        text.write(NGINX % ("".join(SERVER % {"port": it, "certificate": name, "relay": port} for it, name in servers)
+                            + example_server(by_example, "right", port)))
+    ways = list(zip(near, far + [nobody])) + [(of_example, by_example)]
+    children = [run_until_up(folder, far + [by_example], nginx, "-p", folder, "-e", "nginx.log", "-c", "nginx.conf"),
+                run_until_up(folder, near + [of_example], stunnel, stunnel_conf(folder, ways))]
     tunnels = ["127.0.0.1:%d" % it for it in near]
     named = {"host": HOST, "path": "/nostr", "via": tunnels[0]}
     # Each entry, the name by which it is told, and why it fails.
@@ -162,8 +178,13 @@ def through(path, folder, stunnel, nginx):
     same([line for line in whys if line not in told.splitlines()], [])
     same(mirror.returncode, 3)
     same(by_id(read(os.path.join(folder, "mirror.jsonl"))), by_id(theirs))
-    # Its session and its fetching, and nobody else.
-    same(relay.communicate(timeout=60)[0], "served 2\nevents 150\n")
+    entry = {"host": HOST, "path": "/", "via": "127.0.0.1:%d" % of_example}
+    mirror = begin(path, "sync", settings(folder, "second", relays=[entry]), "--strict")
+    out, _errors = mirror.communicate(timeout=60)
+    same([out.splitlines()[0], mirror.returncode], ["relay 0 need 150", 0])
+    same(by_id(read(os.path.join(folder, "second.jsonl"))), by_id(theirs))
+    # Their sessions and their fetching, and nobody else.
+    same(relay.communicate(timeout=60)[0], "served 4\nevents 150\n")
     for child in children:
         child.terminate()
         child.wait(30)
