@@ -4,3 +4,4 @@ pub mod Placing
 pub mod Passing
 pub mod Pinned
 pub mod Served
+pub mod Crossing

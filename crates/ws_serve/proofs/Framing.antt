@@ -6,7 +6,7 @@ use Rattle.ws_serve.specs.Frames.{spoken, spoken_one}
 use Rattle.ws_serve.specs.Traffic.{Traffic, Says}
 use Rattle.ws_serve.proofs.Putting.{says_both}
 
-spoken_more : (ms : List FromRelay) (m : FromRelay) → spoken (map relay_form (ms ++ m ∷ [])) ≡ spoken (map relay_form ms) ++ spoken_one (relay_form m)
+pub spoken_more : (ms : List FromRelay) (m : FromRelay) → spoken (map relay_form (ms ++ m ∷ [])) ≡ spoken (map relay_form ms) ++ spoken_one (relay_form m)
 spoken_more [] m = append-nil (spoken_one (relay_form m))
 spoken_more (x ∷ ms) m =
     ap (λ bytes. spoken_one (relay_form x) ++ bytes) (spoken_more ms m) ∙ sym (append_assoc (spoken_one (relay_form x)) (spoken (map relay_form ms)) (spoken_one (relay_form m)))

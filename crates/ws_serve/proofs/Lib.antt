@@ -2,3 +2,11 @@ pub mod Putting
 pub mod Framing
 pub mod Answering
 pub mod Saying
+pub mod Crossing
+pub mod Conversing
+pub mod Going
+pub mod Storing
+pub mod Reading
+pub mod Gathering
+pub mod Beginning
+pub mod Placing

@@ -2,5 +2,10 @@ pub mod Faults
 pub mod Frames
 pub mod Traffic
 pub mod Answering
+pub mod Pieces
+pub mod Served
+pub mod Steps
+pub mod Gathered
+pub mod After
 pub mod Counts
 pub mod Talking

@@ -1,12 +1,15 @@
 //! What a client says, and what it is answered.
-ghost use Rattle.std.specs.Prelude.{◌≡◌, ◌<◌, IfErr, OnOk, codes};
+ghost use Rattle.std.specs.Prelude.{◌≡◌, ◌<◌, [], ◌∷◌, IfErr, OnOk, OnErr, MatchResult, codes};
 ghost use mathlib.Core.List.{IsPrefix};
 ghost use Rattle.relay_core.specs.Faults.{GoesOnBy};
 ghost use Rattle.relay_core.specs.Messages.{notice};
 ghost use Rattle.ws_serve.specs.Answering.{SaysAnswers};
 ghost use Rattle.ws_serve.specs.Counts.{AreFew};
 ghost use Rattle.ws_serve.specs.Frames.{spoken_one};
-ghost use Rattle.ws_serve.specs.Traffic.{Says};
+ghost use Rattle.ws_serve.specs.Pieces.{words};
+ghost use Rattle.ws_serve.specs.Served.{Serving, Served};
+ghost use Rattle.ws_serve.specs.Steps.{Awaits};
+ghost use Rattle.ws_serve.specs.Traffic.{Says, MaySay};
 ghost use Rattle.ws_socket.specs.Faults.{IsOfStream};
 
 use crate::counts::Counts;
@@ -14,7 +17,7 @@ use crate::messages::{Next, next_message};
 use crate::sending::{catch_up, say, say_all};
 use crate::socket::Socket;
 use crate::together::{answer_one, take_events};
-use crate::turns::serve_text;
+use crate::turns::{Turns, serve_text};
 use event_log::Keeper;
 use event_store::{Desk, Naming, Reader};
 use nostr_event::Text;
@@ -33,6 +36,8 @@ pub enum Went {
     More,
     /// Nothing: no further message has come whole yet.
     Nothing,
+    /// Nothing: a long text comes next, and another is read at the time.
+    Later,
     /// The client has closed.
     Closed,
 }
@@ -47,20 +52,23 @@ pub fn go_on<W: Wait, S: Write, J: Naming, D: Wait + Drop, H: Keeper<J>>(
     reader: &mut Reader<J>,
     desk: &Mutex<Desk<J, D>>,
     keeper: &H,
-    turn: &Mutex<()>,
+    turns: Turns<'_>,
     counts: &mut Counts,
 ) -> Result<Went, LinkFault>
     requires few { AreFew counts.old }
     requires room { counts.old.reads < 1000000 }
+    requires serving { Serving [] conn.old socket.old reader.old }
     ensures few { AreFew counts.new }
     ensures fault { IfErr result IsOfStream }
+    ensures limits { conn.new.limits ≡ conn.old.limits }
+    ensures served { MatchResult result (λ _. Serving [] conn.new socket.new reader.new) (λ _. Served conn.new socket.new reader.new) }
     ensures reader { IsPrefix reader.old reader.new }
 {
     let mut reply = Vec::new(alloc);
-    let heard = match next_message(socket, &mut reply)? {
+    let heard = match next_message(socket, &mut reply, turns)? {
         Next::Event(text) => {
             let behind = take_events(
-                rt, alloc, socket, conn, reader, desk, keeper, turn, counts, &mut reply, text,
+                rt, alloc, socket, conn, reader, desk, keeper, turns, counts, &mut reply, text,
             )?;
             match behind {
                 Some(heard) => heard,
@@ -68,9 +76,10 @@ pub fn go_on<W: Wait, S: Write, J: Naming, D: Wait + Drop, H: Keeper<J>>(
             }
         }
         Next::Other(heard) => heard,
+        Next::Later => return Ok(Went::Later),
     };
     heed(
-        rt, alloc, socket, conn, reader, desk, keeper, turn, counts, &reply, heard,
+        rt, alloc, socket, conn, reader, desk, keeper, turns, counts, &reply, heard,
     )
 }
 
@@ -83,19 +92,22 @@ fn heed<W: Wait, S: Write, J: Naming, D: Wait + Drop, H: Keeper<J>>(
     reader: &mut Reader<J>,
     desk: &Mutex<Desk<J, D>>,
     keeper: &H,
-    turn: &Mutex<()>,
+    turns: Turns<'_>,
     counts: &mut Counts,
     reply: &Vec<u8>,
     heard: Heard,
 ) -> Result<Went, LinkFault>
     requires few { AreFew counts.old }
     requires room { counts.old.reads < 1000000 }
+    requires awaits { Awaits heard reply.now.items conn.old socket.old reader.old }
     ensures few { AreFew counts.new }
     ensures fault { IfErr result IsOfStream }
+    ensures limits { conn.new.limits ≡ conn.old.limits }
+    ensures served { MatchResult result (λ _. Serving [] conn.new socket.new reader.new) (λ _. Served conn.new socket.new reader.new) }
     ensures reader { IsPrefix reader.old reader.new }
 {
     let went = answer_message(
-        rt, alloc, socket, conn, reader, desk, keeper, turn, counts, reply, heard,
+        rt, alloc, socket, conn, reader, desk, keeper, turns, counts, reply, heard,
     )?;
     if went != Went::More {
         return Ok(went);
@@ -113,15 +125,18 @@ fn answer_message<W: Wait, S: Write, J: Naming, D: Wait + Drop, H: Keeper<J>>(
     reader: &mut Reader<J>,
     desk: &Mutex<Desk<J, D>>,
     keeper: &H,
-    turn: &Mutex<()>,
+    turns: Turns<'_>,
     counts: &mut Counts,
     reply: &Vec<u8>,
     heard: Heard,
 ) -> Result<Went, LinkFault>
     requires few { AreFew counts.old }
     requires room { counts.old.reads < 1000000 }
+    requires awaits { Awaits heard reply.now.items conn.old socket.old reader.old }
     ensures few { AreFew counts.new }
     ensures fault { IfErr result IsOfStream }
+    ensures limits { conn.new.limits ≡ conn.old.limits }
+    ensures served { MatchResult result (λ _. Serving [] conn.new socket.new reader.new) (λ _. Served conn.new socket.new reader.new) }
     ensures reader { IsPrefix reader.old reader.new }
 {
     match heard {
@@ -136,7 +151,7 @@ fn answer_message<W: Wait, S: Write, J: Naming, D: Wait + Drop, H: Keeper<J>>(
                 reader,
                 desk,
                 keeper,
-                turn,
+                turns,
                 text.as_str(),
             )?;
             Ok(Went::More)
@@ -164,6 +179,7 @@ fn answer_message<W: Wait, S: Write, J: Naming, D: Wait + Drop, H: Keeper<J>>(
 fn refuse_bytes<S: Write>(alloc: Global, socket: &mut Socket<S>) -> Result<(), LinkFault>
     ensures fault { IfErr result IsOfStream }
     ensures says { OnOk result (Says socket.old socket.new (spoken_one (notice (codes "invalid: bad message")))) }
+    ensures failed { OnErr result (MaySay socket.old socket.new (spoken_one (notice (codes "invalid: bad message")))) }
 {
     let text = Text::new(String::from_str(alloc, "invalid: bad message")?);
     say(alloc, socket, Vec::new(alloc), &FromRelay::Notice { text })?;
@@ -179,15 +195,17 @@ fn answer<W: Wait, S: Write, J: Naming, D: Wait + Drop, H: Keeper<J>>(
     reader: &mut Reader<J>,
     desk: &Mutex<Desk<J, D>>,
     keeper: &H,
-    turn: &Mutex<()>,
+    turns: Turns<'_>,
     text: &str,
 ) -> Result<(), LinkFault>
+    requires serving { Serving (words text.now ∷ []) conn.old socket.old reader.old }
     ensures fault { IfErr result IsOfStream }
     ensures answers { OnOk result (GoesOnBy (SaysAnswers conn.old.limits reader.old reader.new text.now socket.old socket.new) conn.old.kept conn.new.kept) }
+    ensures failed { OnErr result (Served conn.new socket.new reader.new) }
     ensures limits { conn.new.limits ≡ conn.old.limits }
     ensures reader { IsPrefix reader.old reader.new }
 {
-    let Step { out, store } = serve_text(rt, conn, reader, turn, text)?;
+    let Step { out, store } = serve_text(rt, conn, reader, turns, text)?;
     say_all(alloc, socket, out)?;
     match store {
         Some(event) => answer_one(rt, alloc, socket, conn, reader, desk, keeper, event),

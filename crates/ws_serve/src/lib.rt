@@ -3,6 +3,7 @@
 
 mod counts;
 mod fault;
+mod greeting;
 mod hearing;
 mod messages;
 mod sending;
@@ -13,6 +14,8 @@ mod together;
 mod turning;
 mod turns;
 
-pub use serve::{accept, serve_conn, serve_kept};
+pub use greeting::{Greeted, Greeting};
+pub use serve::{serve_conn, serve_kept};
 pub use talk::Talk;
 pub use turning::Turned;
+pub use turns::Turns;

@@ -1,8 +1,10 @@
 //! Messages, read one by one.
-ghost use Rattle.std.specs.Prelude.{IfErr};
+ghost use Rattle.std.specs.Prelude.{IfOk, IfErr, OnErr};
+ghost use Rattle.ws_serve.specs.Steps.{Hears, HearsNext, Holds};
 ghost use Rattle.ws_socket.specs.Faults.{IsOfStream};
 
 use crate::socket::Socket;
+use crate::turns::Turns;
 use std::io::Write;
 use wire::Heard;
 use ws_socket::LinkFault;
@@ -14,18 +16,26 @@ pub enum Next {
     Event(String),
     /// Another message, or nothing.
     Other(Heard),
+    /// A long text, which isn't read while another is: it comes again.
+    Later,
 }
 
-/// Reads a message of what has come. Its reply, if it asks for one, is put behind these bytes.
+/// Reads a message of what has come. Its reply, if it asks for one, is put in place of these bytes.
 pub fn next_message<S: Write>(
     socket: &mut Socket<S>,
     reply: &mut Vec<u8>,
+    turns: Turns<'_>,
 ) -> Result<Next, LinkFault>
-    ensures { IfErr result IsOfStream }
+    ensures fault { IfErr result IsOfStream }
+    ensures hears { IfOk result (HearsNext socket.old socket.new reply.new.items) }
+    ensures failed { OnErr result (Holds socket.old socket.new) }
 {
     match hear_message(socket, reply)? {
         Heard::Text(text) => {
-            if is_event(text.as_str()) {
+            if !turns.admits(text.as_str()) {
+                socket.put_back(text);
+                Ok(Next::Later)
+            } else if is_event(text.as_str()) {
                 Ok(Next::Event(text))
             } else {
                 Ok(Next::Other(Heard::Text(text)))
@@ -37,7 +47,9 @@ pub fn next_message<S: Write>(
 
 /// Reads frames up to one that is no part of a message, or is the last one.
 fn hear_message<S: Write>(socket: &mut Socket<S>, reply: &mut Vec<u8>) -> Result<Heard, LinkFault>
-    ensures { IfErr result IsOfStream }
+    ensures fault { IfErr result IsOfStream }
+    ensures hears { IfOk result (Hears socket.old socket.new reply.new.items) }
+    ensures failed { OnErr result (Holds socket.old socket.new) }
 {
     for _frame in 0..u64::MAX {
         match socket.hear(reply)? {

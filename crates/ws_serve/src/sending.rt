@@ -7,7 +7,9 @@ ghost use Rattle.relay_core.specs.Faults.{GoesOnBy};
 ghost use Rattle.relay_core.specs.Stored.{placed_answer};
 ghost use Rattle.ws_serve.specs.Answering.{SaysDue, IfOpen};
 ghost use Rattle.ws_serve.specs.Frames.{spoken, spoken_one};
-ghost use Rattle.ws_serve.specs.Traffic.{Says, MaySay};
+ghost use Rattle.ws_serve.specs.Served.{GoesOn, Stops};
+ghost use Rattle.ws_serve.specs.Steps.{SaysSome};
+ghost use Rattle.ws_serve.specs.Traffic.{Says, MaySay, ReadsNone};
 ghost use Rattle.ws_socket.specs.Faults.{IsOfStream};
 
 use crate::fault::on_link;
@@ -33,6 +35,9 @@ pub fn catch_up<S: Write, J: Naming>(
 ) -> Result<(), LinkFault>
     ensures fault { IfErr result IsOfStream }
     ensures due { OnOk result (IfOpen (SaysDue reader.new socket.old socket.new) conn.old.kept conn.new.kept) }
+    ensures goes_on { OnOk result (GoesOn conn.old socket.old reader.old conn.new socket.new reader.new) }
+    ensures stops { OnErr result (Stops conn.old socket.old reader.old conn.new socket.new reader.new) }
+    ensures reads { OnOk result (ReadsNone socket.old socket.new) }
     ensures limits { conn.new.limits ≡ conn.old.limits }
     ensures reader { IsPrefix reader.old reader.new }
 {
@@ -61,6 +66,7 @@ pub fn say_all<S: Write>(
     requires none_acknowledged { AcknowledgeNone (map relay_form messages.items) }
     ensures fault { IfErr result IsOfStream }
     ensures says { OnOk result (Says socket.old socket.new (spoken (map relay_form messages.items))) }
+    ensures failed { OnErr result (SaysSome socket.old socket.new (spoken (map relay_form messages.items))) }
 {
     let mut room = Vec::new(alloc);
     for message in messages {
@@ -113,6 +119,7 @@ pub fn acknowledge<S: Write, J: Naming, M>(
     requires kept { length placed.now.list ≤ length kept.now }
     ensures fault { IfErr result IsOfStream }
     ensures says { OnOk result (Says socket.old socket.new (spoken_one (placed_answer placed.now.id placed.now.fresh))) }
+    ensures failed { OnErr result (MaySay socket.old socket.new (spoken_one (placed_answer placed.now.id placed.now.fresh))) }
     ensures kept_so { OnOk result (GoesOnBy (λ old new. new ≡ old) conn.old.kept conn.new.kept) }
     ensures limits { conn.new.limits ≡ conn.old.limits }
     ensures reader { IsPrefix reader.old reader.new }

@@ -3,16 +3,16 @@ ghost use Rattle.std.specs.Prelude.{◌≤◌, IfOk, IfErr};
 ghost use mathlib.Core.List.{IsPrefix};
 ghost use Rattle.ws_socket.specs.Faults.{IsOfStream};
 
+use crate::greeting::{Greeted, Greeting};
 use crate::talk::Talk;
 use crate::turning::Turned;
+use crate::turns::Turns;
 use event_log::{Keeper, Unfiled};
 use event_store::{Desk, Naming, Reader};
 use relay_core::RelayLimits;
 use std::alloc::Global;
 use std::io::{Read, Write};
 use std::sync::{Mutex, Wait};
-use tungstenite::handshake::server::start;
-use tungstenite::{HandshakeError, NoCallback};
 use ws_socket::LinkFault;
 
 /// How often a handshake goes on where the stream would block.
@@ -58,7 +58,11 @@ pub fn serve_kept<W: Wait, S: Read + Write + Drop, J: Naming, D: Wait + Drop, H:
 {
     // No more than what the stream takes at once may wait.
     let mut talk = Talk::new(alloc, accept(alloc, stream)?, limits, 0)?;
-    let served = serve(rt, alloc, &mut talk, reader, desk, keeper, turn);
+    let turns = Turns {
+        lock: turn,
+        waits: true,
+    };
+    let served = serve(rt, alloc, &mut talk, reader, desk, keeper, turns);
     // What was answered goes out, also where a fault ended the connection.
     let sent = talk.send();
     served?;
@@ -73,36 +77,36 @@ pub fn serve_kept<W: Wait, S: Read + Write + Drop, J: Naming, D: Wait + Drop, H:
 fn serve<W: Wait, S: Read + Write, J: Naming, D: Wait + Drop, H: Keeper<J>>(
     rt: &W,
     alloc: Global,
-    talk: &mut Talk<S>,
+    talk: &mut Talk<S, J>,
     reader: &mut Reader<J>,
     desk: &Mutex<Desk<J, D>>,
     keeper: &H,
-    turn: &Mutex<()>,
+    turns: Turns<'_>,
 ) -> Result<(), LinkFault>
     ensures fault { IfErr result IsOfStream }
     ensures reader { IsPrefix reader.old reader.new }
 {
     for _turn in 0..u64::MAX {
-        match talk.turn(rt, alloc, reader, desk, keeper, turn)? {
+        match talk.turn(rt, alloc, reader, desk, keeper, turns)? {
             Turned::Over => return Ok(()),
             Turned::Full => return Err(LinkFault::Link),
             Turned::Ready => {}
             Turned::Idle => {}
+            Turned::Later => {}
         }
     }
     Ok(())
 }
 
 /// Does the server's handshake, and gives the stream back, of which no byte was read behind it.
-pub fn accept<S: Read + Write + Drop>(alloc: Global, stream: S) -> Result<S, LinkFault>
+fn accept<S: Read + Write + Drop>(alloc: Global, stream: S) -> Result<S, LinkFault>
     ensures { IfErr result IsOfStream }
 {
-    let mut next = start(alloc, stream, NoCallback, None);
+    let mut greeting = Greeting::new(alloc, stream);
     for _round in 0..MOST_ROUNDS {
-        match next.handshake() {
-            Ok(socket) => return Ok(socket.into_inner()),
-            Err(HandshakeError::Interrupted(rest)) => next = rest,
-            Err(HandshakeError::Failure(error)) => return Err(error.into()),
+        match greeting.go_on()? {
+            Greeted::Done(stream) => return Ok(stream),
+            Greeted::Waits(rest) => greeting = rest,
         }
     }
     Err(LinkFault::Link)

@@ -1,6 +1,8 @@
 //! A server's WebSocket whose texts leave together.
-ghost use Rattle.std.specs.Prelude.{◌≡◌, IfErr, OnOk, OnErr};
+ghost use Rattle.std.specs.Prelude.{◌≡◌, [], ◌∷◌, string_bytes, IfOk, IfErr, OnOk, OnErr};
+ghost use mathlib.Core.List.{IsPrefix};
 ghost use Rattle.ws_serve.specs.Frames.{frame};
+ghost use Rattle.ws_serve.specs.Steps.{IsFresh, Gives, Holds, PutsClose, Hears};
 ghost use Rattle.ws_serve.specs.Traffic.{Says, Rests, MaySay};
 ghost use Rattle.ws_socket.specs.Faults.{IsOfStream};
 
@@ -44,19 +46,23 @@ pub struct Socket<S> {
     most_waiting: usize,
     // Whether a read asks for many bytes.
     reads_many: bool,
+    // A text that was heard, and is to be heard again.
+    kept: Option<String>,
 }
 
 impl<S> Model for Socket<S> {
-    ghost use Rattle.ws_serve.specs.Traffic.{Traffic, traffic_of};
+    ghost use Rattle.ws_serve.specs.Traffic.{Traffic, traffic_of, texts_of};
 
     ghost Value = { Traffic };
 
-    ghost view = { λ s. traffic_of s.wire };
+    ghost view = { λ s. traffic_of s.wire (texts_of s.kept) };
 }
 
 impl<S: Drop> Socket<S> {
     /// A WebSocket behind its handshake.
-    pub fn new(alloc: Global, stream: S, most_waiting: usize) -> Result<Socket<S>, AllocError> {
+    pub fn new(alloc: Global, stream: S, most_waiting: usize) -> Result<Socket<S>, AllocError>
+        ensures { IfOk result IsFresh }
+    {
         let wire = Wire::new(
             alloc,
             stream,
@@ -71,11 +77,19 @@ impl<S: Drop> Socket<S> {
             outlet: Outlet::Open,
             most_waiting,
             reads_many: false,
+            kept: None,
         })
     }
 }
 
 impl<S> Socket<S> {
+    /// What the stream took is the beginning of what was put.
+    pub fn always_takes(&self)
+        ensures { IsPrefix self.now.taken self.now.said }
+    {
+        let _wire = &self.wire;
+    }
+
     /// Whether bytes wait to be sent.
     pub fn has_waiting(&self) -> bool {
         self.wire.waiting() > 0
@@ -93,6 +107,20 @@ impl<S> Socket<S> {
         if self.outlet == Outlet::Full {
             self.outlet = Outlet::Open;
         }
+    }
+
+    /// Gives back what room is held that nothing stands in.
+    pub fn rest(&mut self)
+        ensures { self.new ≡ self.old }
+    {
+        self.wire.rest();
+    }
+
+    /// The text, which was heard last, is heard again.
+    pub fn put_back(&mut self, text: String)
+        ensures { self.new ≡ record self.old { back = string_bytes text ∷ [] } }
+    {
+        self.kept = Some(text);
     }
 
     /// From now on a read asks for many bytes.
@@ -151,7 +179,9 @@ impl<S: Write> Socket<S> {
 
     /// Puts a close behind what waits.
     pub fn put_close(&mut self) -> Result<(), LinkFault>
-        ensures { IfErr result IsOfStream }
+        ensures fault { IfErr result IsOfStream }
+        ensures closes { OnOk result (PutsClose self.old self.new) }
+        ensures failed { OnErr result (Rests self.old self.new) }
     {
         match self.wire.put_close() {
             Ok(()) => Ok(()),
@@ -159,10 +189,16 @@ impl<S: Write> Socket<S> {
         }
     }
 
-    /// Reads a frame of what has come. Its reply, if it asks for one, is put behind these bytes.
+    /// Reads a frame of what has come, or gives the text that was put back. Its reply, if it asks for one, is put in place of these bytes.
     pub fn hear(&mut self, reply: &mut Vec<u8>) -> Result<Heard, LinkFault>
-        ensures { IfErr result IsOfStream }
+        ensures fault { IfErr result IsOfStream }
+        ensures hears { IfOk result (Hears self.old self.new reply.new.items) }
+        ensures failed { OnErr result (Holds self.old self.new) }
     {
+        reply.clear();
+        if let Some(text) = self.kept.take() {
+            return Ok(Heard::Text(text));
+        }
         match self.wire.hear_apart(reply) {
             Ok(heard) => Ok(heard),
             Err(error) => Err(broken(Fault::Frame(error))),
@@ -183,7 +219,8 @@ impl<S: Write> Socket<S> {
 impl<S: Read> Socket<S> {
     /// Reads what the stream has, once, and tells whether that is anything: else the stream would block.
     pub fn fill(&mut self) -> Result<bool, LinkFault>
-        ensures { IfErr result IsOfStream }
+        ensures fault { IfErr result IsOfStream }
+        ensures gives { Gives self.old self.new }
     {
         if self.reads_many {
             self.wire.ask_for(MANY_BYTES)?;

@@ -1,6 +1,6 @@
 //! Events that came together.
 
-ghost use Rattle.std.specs.Prelude.{◌≡◌, ◌<◌, [], map, IfOk, IfErr, IfSome, OnOk};
+ghost use Rattle.std.specs.Prelude.{◌≡◌, ◌<◌, [], ◌∷◌, map, string_bytes, IfOk, IfErr, IfSome, OnOk, OnErr, MatchResult};
 ghost use Rattle.std.specs.Arc.{arc_value};
 ghost use Rattle.std.specs.List.{AllByRecursion};
 ghost use mathlib.Core.List.{IsPrefix};
@@ -9,6 +9,9 @@ ghost use Rattle.relay_core.specs.Acknowledging.{AcknowledgeNone};
 ghost use Rattle.relay_core.specs.Faults.{GoesOnBy};
 ghost use Rattle.ws_serve.specs.Answering.{SaysOf};
 ghost use Rattle.ws_serve.specs.Counts.{AreFew};
+ghost use Rattle.ws_serve.specs.Gathered.{ids_of, Follow, MaySayOf, SaysOfAll, SaysOfSome, Gathered, IsAwaited};
+ghost use Rattle.ws_serve.specs.Pieces.{words};
+ghost use Rattle.ws_serve.specs.Served.{Serving, Served};
 ghost use Rattle.ws_socket.specs.Faults.{IsOfStream};
 
 use crate::counts::{Counts, MOST_READS};
@@ -16,7 +19,7 @@ use crate::fault::on_link;
 use crate::messages::{Next, next_message};
 use crate::sending::{acknowledge, catch_up, say, say_all};
 use crate::socket::Socket;
-use crate::turns::serve_text;
+use crate::turns::{Turns, serve_text};
 use event_log::{Keeper, Kept};
 use event_store::{Desk, InsertFault, Naming, Placed, Reader};
 use neg_codec::Id;
@@ -65,16 +68,19 @@ pub fn take_events<W: Wait, S: Write, J: Naming, D: Wait + Drop, H: Keeper<J>>(
     reader: &mut Reader<J>,
     desk: &Mutex<Desk<J, D>>,
     keeper: &H,
-    turn: &Mutex<()>,
+    turns: Turns<'_>,
     counts: &mut Counts,
     reply: &mut Vec<u8>,
     text: String,
 ) -> Result<Option<Heard>, LinkFault>
     requires few { AreFew counts.old }
     requires room { counts.old.reads < 1000000 }
+    requires serving { Serving (words (string_bytes text) ∷ []) conn.old socket.old reader.old }
     ensures few { AreFew counts.new }
     ensures room { IfOk result (λ o. IfSome o (λ _. counts.new.reads < 1000000)) }
     ensures fault { IfErr result IsOfStream }
+    ensures limits { conn.new.limits ≡ conn.old.limits }
+    ensures awaited { IsAwaited result reply.new.items conn.new socket.new reader.new }
     ensures reader { IsPrefix reader.old reader.new }
 {
     // Those who send events send many.
@@ -86,7 +92,7 @@ pub fn take_events<W: Wait, S: Write, J: Naming, D: Wait + Drop, H: Keeper<J>>(
         socket,
         conn,
         reader,
-        turn,
+        turns,
         counts,
         reply,
         text,
@@ -122,7 +128,7 @@ fn gather<W: Wait, S: Write, J: Naming>(
     socket: &mut Socket<S>,
     conn: &mut Conn,
     reader: &mut Reader<J>,
-    turn: &Mutex<()>,
+    turns: Turns<'_>,
     counts: &mut Counts,
     reply: &mut Vec<u8>,
     mut text: String,
@@ -130,17 +136,22 @@ fn gather<W: Wait, S: Write, J: Naming>(
 ) -> Result<Behind, LinkFault>
     requires few { AreFew counts.old }
     requires room { counts.old.reads < 1000000 }
+    requires serving { Serving (words (string_bytes text) ∷ []) conn.old socket.old reader.old }
+    requires none { events.old.items ≡ [] }
     ensures few { AreFew counts.new }
     ensures room { IfOk result (λ b. IfOk b.heard (λ o. IfSome o (λ _. counts.new.reads < 1000000))) }
     ensures none_acknowledged { IfOk result (λ b. AcknowledgeNone (map relay_form b.out.items)) }
     ensures fault { IfErr result IsOfStream }
+    ensures limits { conn.new.limits ≡ conn.old.limits }
     ensures heard_fault { IfOk result (λ b. IfErr b.heard IsOfStream) }
+    ensures gathered { IfOk result (λ b. Gathered (map arc_value events.new.items) b.heard (map relay_form b.out.items) reply.new.items conn.new socket.new reader.new) }
+    ensures failed { OnErr result (Served conn.new socket.new reader.new) }
     ensures reader { IsPrefix reader.old reader.new }
 {
     for _event in 0..MOST_TOGETHER {
         counts.reads += 1;
         counts.texts += 1;
-        let Step { out, store } = serve_text(rt, conn, reader, turn, text.as_str())?;
+        let Step { out, store } = serve_text(rt, conn, reader, turns, text.as_str())?;
         let Some(event) = store else {
             return Ok(Behind {
                 heard: Ok(None),
@@ -151,9 +162,10 @@ fn gather<W: Wait, S: Write, J: Naming>(
         if counts.reads >= MOST_READS || events.len() >= MOST_TOGETHER {
             return Ok(Behind::message(alloc, Ok(None)));
         }
-        match next_message(socket, reply) {
+        match next_message(socket, reply, turns) {
             Ok(Next::Event(next)) => text = next,
             Ok(Next::Other(heard)) => return Ok(Behind::message(alloc, Ok(Some(heard)))),
+            Ok(Next::Later) => return Ok(Behind::message(alloc, Ok(None))),
             Err(fault) => return Ok(Behind::message(alloc, Err(fault))),
         }
     }
@@ -172,6 +184,10 @@ fn answer_each<W: Wait, S: Write, J: Naming, D: Wait + Drop, H: Keeper<J>>(
     events: &[Arc<Event>],
 ) -> Result<(), LinkFault>
     ensures fault { IfErr result IsOfStream }
+    ensures says { OnOk result (SaysOfAll (ids_of (map arc_value events.now)) socket.old socket.new) }
+    ensures failed { OnErr result (SaysOfSome (ids_of (map arc_value events.now)) socket.old socket.new) }
+    ensures kept { OnOk result (conn.new.kept ≡ conn.old.kept) }
+    ensures limits { conn.new.limits ≡ conn.old.limits }
     ensures reader { IsPrefix reader.old reader.new }
 {
     let all = stored_all(rt, alloc, desk, events)?;
@@ -199,20 +215,35 @@ fn stored_all<W: Wait, J: Naming, D: Wait + Drop>(
 ) -> Result<Vec<Stored<J>>, LinkFault>
     ensures fault { IfErr result IsOfStream }
     ensures placed { IfOk result (λ v. AllByRecursion (λ s. IfOk s.placed (λ p. p.id ≡ s.id)) v.items) }
+    ensures ids { IfOk result (λ v. map (λ s. s.id) v.items ≡ ids_of (map arc_value events.now)) }
 {
     let mut all = Vec::with_capacity(alloc, events.len())?;
     let mut placed = placed_together(rt, alloc, desk, events).into_iter();
     for event in events {
-        let one = match placed.next() {
-            Some(placed) => Stored {
-                id: placed.id(),
-                placed: Ok(placed),
-            },
-            None => stored_one(rt, desk, Arc::try_clone(event)?),
-        };
-        all.push(one)?;
+        all.push(stored_next(rt, desk, placed.next(), event)?)?;
     }
     Ok(all)
+}
+
+/// What became of the event, which was placed with others, or is put into the store by itself.
+fn stored_next<W: Wait, J: Naming, D: Wait + Drop>(
+    rt: &W,
+    desk: &Mutex<Desk<J, D>>,
+    placed: Option<Placed<J>>,
+    event: &Arc<Event>,
+) -> Result<Stored<J>, LinkFault>
+    requires { IfSome placed (λ p. p.id ≡ (arc_value event.now).id) }
+    ensures fault { IfErr result IsOfStream }
+    ensures id { IfOk result (λ s. s.id ≡ (arc_value event.now).id) }
+    ensures placed { IfOk result (λ s. IfOk s.placed (λ p. p.id ≡ s.id)) }
+{
+    match placed {
+        Some(placed) => Ok(Stored {
+            id: placed.id(),
+            placed: Ok(placed),
+        }),
+        None => Ok(stored_one(rt, desk, Arc::try_clone(event)?)),
+    }
 }
 
 /// Puts several events into the store at once, as many as it takes; none where no memory was found. Each that is left is put in by
@@ -222,7 +253,9 @@ fn placed_together<W: Wait, J: Naming, D: Wait + Drop>(
     alloc: Global,
     desk: &Mutex<Desk<J, D>>,
     events: &[Arc<Event>],
-) -> Vec<Placed<J>> {
+) -> Vec<Placed<J>>
+    ensures { Follow (map (λ p. p.id) result.items) (ids_of (map arc_value events.now)) }
+{
     if events.len() < 2 {
         return Vec::new(alloc);
     }
@@ -278,6 +311,7 @@ fn tell<S: Write, J: Naming, M>(
     requires { IfOk stored.placed (λ p. p.id ≡ stored.id) }
     ensures fault { IfErr result IsOfStream }
     ensures says { OnOk result (SaysOf stored.id socket.old socket.new) }
+    ensures failed { OnErr result (MaySayOf stored.id socket.old socket.new) }
     ensures kept { OnOk result (GoesOnBy (λ old new. new ≡ old) conn.old.kept conn.new.kept) }
     ensures limits { conn.new.limits ≡ conn.old.limits }
     ensures reader { IsPrefix reader.old reader.new }
@@ -301,6 +335,7 @@ fn tell_kept<S: Write, J: Naming, M>(
 ) -> Result<Vec<u8>, LinkFault>
     ensures fault { IfErr result IsOfStream }
     ensures says { OnOk result (SaysOf placed.now.id socket.old socket.new) }
+    ensures failed { OnErr result (MaySayOf placed.now.id socket.old socket.new) }
     ensures kept { OnOk result (GoesOnBy (λ old new. new ≡ old) conn.old.kept conn.new.kept) }
     ensures limits { conn.new.limits ≡ conn.old.limits }
     ensures reader { IsPrefix reader.old reader.new }
@@ -327,6 +362,7 @@ fn refuse<S: Write, J: Naming>(
 ) -> Result<Vec<u8>, LinkFault>
     ensures fault { IfErr result IsOfStream }
     ensures says { OnOk result (SaysOf id socket.old socket.new) }
+    ensures failed { OnErr result (MaySayOf id socket.old socket.new) }
     ensures kept { OnOk result (GoesOnBy (λ old new. new ≡ old) conn.old.kept conn.new.kept) }
     ensures limits { conn.new.limits ≡ conn.old.limits }
 {
@@ -347,6 +383,7 @@ pub fn answer_one<W: Wait, S: Write, J: Naming, D: Wait + Drop, H: Keeper<J>>(
 ) -> Result<(), LinkFault>
     ensures fault { IfErr result IsOfStream }
     ensures says { OnOk result (SaysOf (arc_value event).id socket.old socket.new) }
+    ensures failed { OnErr result (MaySayOf (arc_value event).id socket.old socket.new) }
     ensures kept { OnOk result (GoesOnBy (λ old new. new ≡ old) conn.old.kept conn.new.kept) }
     ensures limits { conn.new.limits ≡ conn.old.limits }
     ensures reader { IsPrefix reader.old reader.new }

@@ -1,13 +1,16 @@
 //! One turn of a connection.
-ghost use Rattle.std.specs.Prelude.{IfErr};
+ghost use Rattle.std.specs.Prelude.{◌≡◌, [], IfErr};
 ghost use mathlib.Core.List.{IsPrefix};
+ghost use Rattle.ws_serve.specs.After.{AfterTurned, AfterTurn, AfterStep, Refills};
 ghost use Rattle.ws_serve.specs.Counts.{AreFew};
+ghost use Rattle.ws_serve.specs.Served.{Serving};
 ghost use Rattle.ws_socket.specs.Faults.{IsOfStream};
 
 use crate::counts::{Counts, MOST_READS};
 use crate::hearing::{Went, go_on};
 use crate::sending::catch_up;
 use crate::socket::Socket;
+use crate::turns::Turns;
 use event_log::Keeper;
 use event_store::{Desk, Naming, Reader};
 use relay_core::Conn;
@@ -29,6 +32,8 @@ pub enum Turned {
     Idle,
     /// There may be more to read at once.
     Ready,
+    /// A long text comes next, and another is read at the time: the next turn begins with it.
+    Later,
     /// The stream would block, and more waits to be sent than may: till some of it is sent, nothing is read.
     Full,
     /// The client has closed, or 1,000,000 messages were read: nothing is read any more.
@@ -45,28 +50,53 @@ pub fn run<W: Wait, S: Read + Write, J: Naming, D: Wait + Drop, H: Keeper<J>>(
     reader: &mut Reader<J>,
     desk: &Mutex<Desk<J, D>>,
     keeper: &H,
-    turn: &Mutex<()>,
+    turns: Turns<'_>,
     counts: &mut Counts,
 ) -> Result<Turned, LinkFault>
     requires few { AreFew counts.old }
+    requires serving { Serving [] conn.old socket.old reader.old }
     ensures few { AreFew counts.new }
     ensures fault { IfErr result IsOfStream }
+    ensures limits { conn.new.limits ≡ conn.old.limits }
+    ensures served { AfterTurn result conn.new socket.new reader.new }
     ensures reader { IsPrefix reader.old reader.new }
 {
     socket.send()?;
-    let mut turned = Turned::Ready;
+    let turned = go(rt, alloc, socket, conn, reader, desk, keeper, turns, counts)?;
+    settle(alloc, socket, conn, reader, turned)
+}
+
+/// Reads and answers until the stream would block or the turn's steps are used.
+fn go<W: Wait, S: Read + Write, J: Naming, D: Wait + Drop, H: Keeper<J>>(
+    rt: &W,
+    alloc: Global,
+    socket: &mut Socket<S>,
+    conn: &mut Conn,
+    reader: &mut Reader<J>,
+    desk: &Mutex<Desk<J, D>>,
+    keeper: &H,
+    turns: Turns<'_>,
+    counts: &mut Counts,
+) -> Result<Turned, LinkFault>
+    requires few { AreFew counts.old }
+    requires serving { Serving [] conn.old socket.old reader.old }
+    ensures few { AreFew counts.new }
+    ensures fault { IfErr result IsOfStream }
+    ensures limits { conn.new.limits ≡ conn.old.limits }
+    ensures served { AfterTurn result conn.new socket.new reader.new }
+    ensures reader { IsPrefix reader.old reader.new }
+{
     let begun = counts.reads;
     for _step in 0..MOST_STEPS {
         if counts.reads.saturating_sub(begun) >= MANY_READS {
-            break;
+            return Ok(Turned::Ready);
         }
-        let stepped = step(rt, alloc, socket, conn, reader, desk, keeper, turn, counts)?;
+        let stepped = step(rt, alloc, socket, conn, reader, desk, keeper, turns, counts)?;
         if let Some(end) = stepped {
-            turned = end;
-            break;
+            return Ok(end);
         }
     }
-    settle(alloc, socket, conn, reader, turned)
+    Ok(Turned::Ready)
 }
 
 /// Reads a message and answers it, or reads more of the stream. It tells what the turn has come to, if that ends it.
@@ -78,12 +108,15 @@ fn step<W: Wait, S: Read + Write, J: Naming, D: Wait + Drop, H: Keeper<J>>(
     reader: &mut Reader<J>,
     desk: &Mutex<Desk<J, D>>,
     keeper: &H,
-    turn: &Mutex<()>,
+    turns: Turns<'_>,
     counts: &mut Counts,
 ) -> Result<Option<Turned>, LinkFault>
     requires few { AreFew counts.old }
+    requires serving { Serving [] conn.old socket.old reader.old }
     ensures few { AreFew counts.new }
     ensures fault { IfErr result IsOfStream }
+    ensures limits { conn.new.limits ≡ conn.old.limits }
+    ensures served { AfterStep result conn.new socket.new reader.new }
     ensures reader { IsPrefix reader.old reader.new }
 {
     if counts.reads >= MOST_READS {
@@ -93,16 +126,18 @@ fn step<W: Wait, S: Read + Write, J: Naming, D: Wait + Drop, H: Keeper<J>>(
     if socket.is_full() {
         return Ok(Some(Turned::Full));
     }
-    match go_on(rt, alloc, socket, conn, reader, desk, keeper, turn, counts)? {
+    match go_on(rt, alloc, socket, conn, reader, desk, keeper, turns, counts)? {
         Went::More => Ok(None),
         Went::Nothing => refill(socket),
+        Went::Later => Ok(Some(Turned::Later)),
         Went::Closed => Ok(Some(Turned::Over)),
     }
 }
 
 /// Sends what waits, and reads more of the stream.
 fn refill<S: Read + Write>(socket: &mut Socket<S>) -> Result<Option<Turned>, LinkFault>
-    ensures { IfErr result IsOfStream }
+    ensures fault { IfErr result IsOfStream }
+    ensures refills { Refills result socket.old socket.new }
 {
     socket.send()?;
     if socket.is_full() {
@@ -122,7 +157,10 @@ fn settle<S: Write, J: Naming>(
     reader: &mut Reader<J>,
     turned: Turned,
 ) -> Result<Turned, LinkFault>
+    requires after { AfterTurned turned conn.old socket.old reader.old }
     ensures fault { IfErr result IsOfStream }
+    ensures limits { conn.new.limits ≡ conn.old.limits }
+    ensures served { AfterTurn result conn.new socket.new reader.new }
     ensures reader { IsPrefix reader.old reader.new }
 {
     if turned == Turned::Over {
@@ -135,4 +173,24 @@ fn settle<S: Write, J: Naming>(
         return Ok(Turned::Full);
     }
     Ok(turned)
+}
+
+/// The same of a connection of which nothing is read, unless more waits than may.
+pub fn tell<S: Write, J: Naming>(
+    alloc: Global,
+    socket: &mut Socket<S>,
+    conn: &mut Conn,
+    reader: &mut Reader<J>,
+) -> Result<Turned, LinkFault>
+    requires serving { Serving [] conn.old socket.old reader.old }
+    ensures fault { IfErr result IsOfStream }
+    ensures limits { conn.new.limits ≡ conn.old.limits }
+    ensures served { AfterTurn result conn.new socket.new reader.new }
+    ensures reader { IsPrefix reader.old reader.new }
+{
+    socket.send()?;
+    if socket.is_full() {
+        return Ok(Turned::Full);
+    }
+    settle(alloc, socket, conn, reader, Turned::Idle)
 }

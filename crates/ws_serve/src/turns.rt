@@ -17,12 +17,37 @@ use ws_socket::LinkFault;
 /// A text of more bytes is long. What is read of it may take a hundred times as much memory meanwhile.
 const LONG_TEXT: usize = 262_144;
 
-/// Serves the text. A long one waits for its turn.
+/// How connections that share a lock read their long texts: one at a time of them all.
+#[derive(Clone, Copy)]
+pub struct Turns<'t> {
+    /// Held while a long text is read.
+    pub lock: &'t Mutex<()>,
+    /// Whether a long text waits while another is read. Else the connection's turn ends before it, and the next begins with it.
+    pub waits: bool,
+}
+
+impl<'t> Turns<'t> {
+    /// Whether the text is to be read now.
+    pub fn admits(&self, text: &str) -> bool {
+        if self.waits || text.len() <= LONG_TEXT {
+            return true;
+        }
+        match self.lock.try_lock() {
+            Some(held) => {
+                drop(held);
+                true
+            }
+            None => false,
+        }
+    }
+}
+
+/// Serves the text. A long one waits while another is read.
 pub fn serve_text<W: Wait, J: Naming>(
     rt: &W,
     conn: &mut Conn,
     reader: &mut Reader<J>,
-    turn: &Mutex<()>,
+    turns: Turns<'_>,
     text: &str,
 ) -> Result<Step, LinkFault>
     ensures served { IfOk result (λ s. GoesOnBy (λ old new. Serves conn.old.limits reader.new text.now old (turn_of s new)) conn.old.kept conn.new.kept) }
@@ -34,7 +59,7 @@ pub fn serve_text<W: Wait, J: Naming>(
     if text.len() <= LONG_TEXT {
         return on_link(conn.serve(reader, text));
     }
-    let held = turn.lock(rt);
+    let held = turns.lock.lock(rt);
     let step = on_link(conn.serve(reader, text));
     drop(held);
     step

@@ -10,7 +10,7 @@ use std::alloc::Global;
 use std::marker::Brand;
 use std::sync::{Mutex, Wait};
 use std::test::Fail;
-use ws_serve::{Talk, Turned};
+use ws_serve::{Talk, Turned, Turns};
 
 /// The frames, each with its first byte. Where that is 0 there is none.
 fn frames_of(alloc: Global, list: &[(u8, &str)], masked: bool) -> Option<Vec<u8>> {
@@ -48,10 +48,14 @@ fn served<J: Naming, R: Wait>(
         is_read_only: false,
     };
     let mut talk = Talk::new(alloc, stream, limits, most_waiting).ok()?;
-    let long = Mutex::new(());
+    let lock = Mutex::new(());
+    let turns = Turns {
+        lock: &lock,
+        waits: true,
+    };
     for _turn in 0..100_000 {
         let turned = talk
-            .turn(rt, alloc, &mut reader, &desk, &Unfiled, &long)
+            .turn(rt, alloc, &mut reader, &desk, &Unfiled, turns)
             .ok()?;
         if turned == Turned::Over && !talk.has_waiting() {
             return Some(talk.texts());
