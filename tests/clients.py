@@ -92,7 +92,7 @@ def main():
     first, second = event(1700000000, "first \u00e9 \u4e16"), event(1700000001, "second")
     events, with_node = [first, second], has_node_ws()
     with tempfile.TemporaryDirectory() as folder:
-        conf = settings(folder, "relay", listen="127.0.0.1:0", conns=5 if with_node else 3, push_ms=50)
+        conf = settings(folder, "relay", listen="127.0.0.1:0", conns=5 if with_node else 3)
         relay, port = start(program(), "serve", conf)
         try:
             by_websocket(port, first)

@@ -24,8 +24,8 @@ from wire import Client, Gone
 
 # The limits of a connection.
 SUBS, FILTERS, TEXT, SESSIONS = 32, 16, 2_200_000, 16
-# For how many milliseconds a relay that pushes reads before it sends what is new.
-PUSH_MS = 20
+# For how many seconds it is watched that nothing more comes.
+WATCHED = 0.1
 
 
 def small(number):
@@ -90,7 +90,7 @@ class Talker(Client):
     def pushed(self, count):
         """The texts that come by themselves, where there are to be so many."""
         texts = [shown(self.read()) for _text in range(count)]
-        time.sleep(PUSH_MS * 10 / 1000)
+        time.sleep(WATCHED)
         return texts + self.sent_until_pong()
 
 
@@ -98,22 +98,16 @@ def gives(number):
     return json.dumps(["EVENT", EVENTS[str(number)]])
 
 
-def other(number):
-    """A step: the other client gives the event of that number."""
-    return number, []
-
-
-# A step: nothing is said, and the relay is waited for.
-WAITS = None
+def other(number, *pushed):
+    """A step: the other client gives the event of that number, of which this one is sent so much."""
+    return number, list(pushed)
 
 
 def step(client, beside, what, count):
     """All that the client is sent for a step, which is to be so many texts."""
-    if what is WAITS:
-        return client.pushed(count)
     if isinstance(what, int):
         same(beside.answers(gives(what)), ["%d true " % what])
-        return []
+        return client.pushed(count)
     return client.answers(what)
 
 
@@ -172,7 +166,7 @@ def met(client, number, all_here):
 def a_crowd_meets(path):
     """Many clients at once: each gives an event, and gets that of each other once, by itself."""
     with tempfile.TemporaryDirectory() as folder, concurrent.futures.ThreadPoolExecutor(CROWD) as pool:
-        relay, port = start(path, "serve", settings(folder, "relay", listen="127.0.0.1:0", conns=CROWD, push_ms=PUSH_MS))
+        relay, port = start(path, "serve", settings(folder, "relay", listen="127.0.0.1:0", conns=CROWD))
         try:
             all_here, clients = threading.Barrier(CROWD), [Talker(port) for _ in range(CROWD)]
             runs = [pool.submit(met, client, number, all_here) for number, client in enumerate(clients, 1)]
@@ -259,7 +253,7 @@ def a_throng_is_served(path):
     """More clients than 64 are served side by side where `clients` says so: each gets what is published while all are there."""
     with tempfile.TemporaryDirectory() as folder:
         relay, port = start(path, "serve",
-                            settings(folder, "relay", listen="127.0.0.1:0", conns=THRONG, clients=THRONG, push_ms=PUSH_MS))
+                            settings(folder, "relay", listen="127.0.0.1:0", conns=THRONG, clients=THRONG))
         try:
             clients = [Talker(port) for _ in range(THRONG)]
             for client in clients:
@@ -319,12 +313,10 @@ def events_are_sent_once(path):
         (gives(1), ["1 true ", "a 1"]),
         (req("b"), ["b 1", eose("b")]),
         (gives(1), ["1 true duplicate: already have this event"]),
-        other(2),
-        ('["CLOSE","c"]', ["a 2", "b 2"]),
+        other(2, "a 2", "b 2"),
         ('["CLOSE","c"]', []),
-        other(3),
-        # What was there at the request comes before its end, and behind it what the other subscriptions lack.
-        (req("aa"), ["aa 3", "aa 2", "aa 1", eose("aa"), "a 3", "b 3"]),
+        other(3, "a 3", "b 3"),
+        (req("aa"), ["aa 3", "aa 2", "aa 1", eose("aa")]),
         ('["CLOSE","c"]', []),
     ])
 
@@ -373,17 +365,12 @@ def events_are_refused(path):
 def events_come_by_themselves(path):
     play(path, [
         (req("a"), [eose("a")]),
-        other(1),
-        (WAITS, ["a 1"]),
+        other(1, "a 1"),
         (req("b"), ["b 1", eose("b")]),
-        (WAITS, []),
-        other(2),
-        (WAITS, ["a 2", "b 2"]),
-        (WAITS, []),
+        other(2, "a 2", "b 2"),
         ('["CLOSE","a"]', []),
-        other(3),
-        (WAITS, ["b 3"]),
-    ], push_ms=PUSH_MS)
+        other(3, "b 3"),
+    ], push_ms=60_000)
 
 
 def names_in_byte_order(path):
@@ -392,12 +379,11 @@ def names_in_byte_order(path):
         (req("b"), [eose("b")]),
         (req("é", '{"until":9}', "{}"), [eose("é")]),
         (req("B", '{"until":9}'), [eose("B")]),
-        other(2),
-        (req("a"), ["a 2", eose("a"), "b 2", "é 2"]),
-        other(1),
-        (req("aa", '{"since":10}'), ["aa 2", eose("aa"), "B 1", "a 1", "b 1", "é 1"]),
-        other(3),
-        ('["CLOSE","c"]', ["a 3", "aa 3", "b 3", "é 3"]),
+        other(2, "b 2", "é 2"),
+        (req("a"), ["a 2", eose("a")]),
+        other(1, "B 1", "a 1", "b 1", "é 1"),
+        (req("aa", '{"since":10}'), ["aa 2", eose("aa")]),
+        other(3, "a 3", "aa 3", "b 3", "é 3"),
         ('["CLOSE","b"]', []),
         ('["CLOSE","c"]', []),
     ])
@@ -406,15 +392,14 @@ def names_in_byte_order(path):
         (req("b"), [eose("b")]),
         (req("é", '{"until":9}', "{}"), [eose("é")]),
         (req("B", '{"until":9}'), [eose("B")]),
-        other(2),
-        other(1),
-        other(3),
-        (req("a"), ["a 3", "a 2", "a 1", eose("a"), "b 2", "é 2", "B 1", "b 1", "é 1", "b 3", "é 3"]),
+        other(2, "b 2", "é 2"),
+        other(1, "B 1", "b 1", "é 1"),
+        other(3, "b 3", "é 3"),
+        (req("a"), ["a 3", "a 2", "a 1", eose("a")]),
         ('["CLOSE","b"]', []),
-        other(4),
-        (req("aa", '{"limit":0}'), [eose("aa"), "a 4", "é 4"]),
-        other(5),
-        ('["CLOSE","aa"]', ["a 5", "é 5"]),
+        other(4, "a 4", "é 4"),
+        (req("aa", '{"limit":0}'), [eose("aa")]),
+        other(5, "a 5", "aa 5", "é 5"),
     ])
 
 
@@ -424,17 +409,14 @@ def subscriptions_end(path):
     too_many = "blocked: too many subscriptions"
     play(path, [(req(name), [eose(name)]) for name in names] + [
         (req("t"), [closed("t", too_many)]),
-        other(1),
-        ('["CLOSE","t"]', [name + " 1" for name in names]),
+        other(1, *(name + " 1" for name in names)),
         (req("s00", '{"until":9}'), ["s00 1", eose("s00")]),
-        other(2),
-        ('["CLOSE","t"]', [name + " 2" for name in names[1:]]),
+        other(2, *(name + " 2" for name in names[1:])),
         (req("s00"), ["s00 2", "s00 1", eose("s00")]),
         (req("s00", *["{}"] * FILTERS), ["s00 2", "s00 1", eose("s00")]),
         (req("t", *["{}"] * (FILTERS + 1)), [closed("t", "blocked: too many filters")]),
         (req("s00", *["{}"] * (FILTERS + 1)), [closed("s00", "blocked: too many filters")]),
-        other(3),
-        ('["CLOSE","t"]', [name + " 3" for name in names[1:]]),
+        other(3, *(name + " 3" for name in names[1:])),
         (req("t", '{"limit":0}'), [eose("t")]),
         (req("s00"), [closed("s00", too_many)]),
         ('["CLOSE","t"]', []),

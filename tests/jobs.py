@@ -61,7 +61,7 @@ WRONG = [
     ("slow_bytes = 1000000001", "slow_bytes"),
     ("slow_bytes = 0\nfsync = 1", "fsync"),
     ("clients = 0", "clients"),
-    ("clients = 1001", "clients"),
+    ("clients = 100001", "clients"),
     ("ping_ms = 0", "ping_ms"),
     ("ping_ms = 3600001", "ping_ms"),
     ("ping_ms = 0\nclients = 0\nslow_bytes = 0", "slow_bytes"),

@@ -5,7 +5,7 @@
 
 A relay serves 300 events. A mirror with `listen` compares and fetches them, with `--progress`, while a client of the mirror puts
 an event in and is sent what comes. Then a mirror whose reader leaves is refused while it serves: it has to end at once, with
-the client's event in its file. A relay that is killed has kept what its clients put in. A client takes a second over its handshake with a relay whose `push_ms` is 1. Relays that say
+the client's event in its file. A relay that is killed has kept what its clients put in. A client takes a second over its handshake. Relays that say
 nothing have failed after `timeout_ms`, and a client that reads nothing is let go. Last, `--progress` tells how far a mirror of two
 relays is while the answers of one of them are held back.
 """
@@ -36,7 +36,7 @@ def serves_meanwhile(path, folder):
     written(os.path.join(folder, "relay.jsonl"), theirs)
     written(os.path.join(folder, "mirror.jsonl"), [mine])
     relay, port = run(path, folder, "serve", "relay", conns=2)
-    mirror, own = run(path, folder, "sync", "mirror", "--progress", conns=1, push_ms=5,
+    mirror, own = run(path, folder, "sync", "mirror", "--progress", conns=1,
                       relays=["127.0.0.1:%d" % port])
     client = Client(own)
     put(client, put_in)
@@ -109,7 +109,7 @@ def ends_when_refused(path, folder):
 
 
 def waits_for_handshakes(path, folder):
-    relay, port = run(path, folder, "serve", "slow", conns=1, push_ms=1)
+    relay, port = run(path, folder, "serve", "slow", conns=1)
     stream = socket.create_connection(("127.0.0.1", port))
     stream.settimeout(10)
     time.sleep(1)

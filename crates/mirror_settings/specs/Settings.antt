@@ -152,7 +152,7 @@ HasSlowBytes true t n = HoldsOr 10000 (IsWhole 1 1000000000) (at SlowBytes t) n
 HasSlowBytes false t n = n ≡ 10000
 
 abbrev pub HasClients : Members → Option ℕ → Type 0
-HasClients t v = Holds (IsWhole 1 1000) (at Clients t) v
+HasClients t v = Holds (IsWhole 1 100000) (at Clients t) v
 
 abbrev pub HasPingMs : Members → Option ℕ → Type 0
 HasPingMs t v = Holds (IsWhole 1 3600000) (at PingMs t) v

@@ -222,7 +222,7 @@ fn settings_of(
     let timeout_ms = whole_at(table, SettingsKey::TimeoutMs, 1, 3_600_000)?;
     let fsync = fsync_at(table)?;
     let slow_bytes = slow_bytes_at(table, sync)?;
-    let clients = whole_at(table, SettingsKey::Clients, 1, 1_000)?;
+    let clients = whole_at(table, SettingsKey::Clients, 1, 100_000)?;
     let ping_ms = whole_at(table, SettingsKey::PingMs, 1, 3_600_000)?;
     let read_only = flag_at(table, SettingsKey::ReadOnly, mirror)?;
     let mirroring = mirroring_of(table, mirror)?;

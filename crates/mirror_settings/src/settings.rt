@@ -52,7 +52,7 @@ pub struct Settings {
     pub bases: Loads,
     /// How many rounds of planning and fetching there are at most, 1 to 16.
     pub rounds: u64,
-    /// After how many milliseconds at most a waiting connection is looked at for new events, 1 to 60,000.
+    /// 1 to 60,000. It has no effect any more.
     pub push_ms: Option<u64>,
     /// For how many milliseconds the other side of a connection may keep this one waiting, 1 to 3,600,000.
     pub timeout_ms: Option<u64>,
@@ -60,7 +60,7 @@ pub struct Settings {
     pub fsync: Syncing,
     /// How many bytes a second a fetch that goes on for long has to bring, 1 to 1,000,000,000.
     pub slow_bytes: u64,
-    /// How many connections are served side by side, 1 to 1,000.
+    /// How many connections are served side by side, 1 to 100,000.
     pub clients: Option<u64>,
     /// After how many milliseconds in which a client brings nothing it is sent a ping, and after as many more its connection ends, 1 to
     /// 3,600,000.

@@ -1,8 +1,8 @@
--- What keeps events in a file may cross threads.
+-- What keeps events in a file, and who is served, may cross threads.
 use denote.RattleType.{RattleType}
 use denote.Struct.Field.{row_field}
-use denote.Param.Send.{IsSend, IsSync}
-use denote.Param.SendFields.{as_row_send, declared_send, declared_sync}
+use denote.Param.Send.{IsSend, IsSync, sendable}
+use denote.Param.SendFields.{as_row_send, declared_send, declared_sync, variants_send}
 use Rattle.core.proofs.option.Option.TheSendSync as option
 use Rattle.std.proofs.Crossing.{crosses}
 use Rattle.std.proofs.time.Instant.TheSendSync as instant
@@ -12,6 +12,8 @@ use Rattle.std.specs.contracts.time.Instant as Instant
 use Rattle.event_store.specs.declared.name.Naming.{Ghosts}
 use Rattle.event_store.proofs.Crossing.{reader_send}
 use Rattle.event_log.specs.contracts.kept.Kept as Kept
+use Rattle.ws_serve.proofs.Crossing.{talk_send}
+use Rattle.ws_serve.proofs.greeting.Greeting.TheSendSync as greeting
 use Rattle.event_log.proofs.log.Log.TheSendSync as log
 use Rattle.event_log.proofs.kept.Kept.TheSendSync as kept
 use Rattle.event_file.proofs.file.EventsFile.TheSendSync as file
@@ -22,6 +24,11 @@ use Rattle.serve_run.specs.contracts.keeping.Trouble as Trouble
 use Rattle.serve_run.specs.contracts.keeping.Writing as Writing
 use Rattle.serve_run.specs.contracts.keeping.Keeping as Keeping
 use Rattle.serve_run.proofs.keeping.Trouble.TheSendSync as trouble
+use Rattle.serve_run.specs.contracts.client.Line as Line
+use Rattle.serve_run.specs.contracts.guest.Stage as Stage
+use Rattle.serve_run.specs.contracts.guest.Guest as Guest
+use Rattle.serve_run.proofs.client.Client.TheSendSync as client
+use Rattle.serve_run.proofs.client.Line.TheSendSync as line
 
 locked_sync : (T : RattleType) → IsSend T → IsSync (Mutex.the_row T)
 locked_sync T s = search (crosses, s)
@@ -35,3 +42,10 @@ module _ (J : RattleType) (g : Ghosts J.Denot) (E : RattleType) where
 
   pub keeping_sync : IsSend E → IsSync (Keeping.the_row J E g)
   keeping_sync s = declared_sync (Keeping.the_type J E g) (locked_sync (Writing.the_row J E g) (writing_send s), (locked_sync (Option.the_row (Kept.the_row J EventsFile.the_row g)) kept_send, (syncing.the_sync, tt)))
+
+module _ (J : RattleType) (g : Ghosts J.Denot) where
+  stage_send : IsSend (Stage.the_row J g)
+  stage_send = variants_send (Stage.enum J g) ((greeting.the_send Line.the_row line.the_send, tt), ((talk_send Line.the_row J g line.the_send, tt), tt))
+
+  pub guest_send : IsSend (Guest.the_row J g)
+  guest_send = declared_send (Guest.the_type J g) (search (sendable, crosses, client.the_send, client.the_sync), (option.the_send (Stage.the_row J g) stage_send, tt))

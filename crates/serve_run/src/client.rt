@@ -1,20 +1,16 @@
 //! A connection that came in.
 
+use mio::net::TcpStream;
 use mirror_settings::Settings;
 use std::io;
-use std::io::{ErrorKind, Read, Write};
-use std::net::TcpStream;
+use std::io::{Read, Write};
+use std::net::Shutdown;
+use std::sync::Arc;
 use std::sync::atomic::{AtomicBool, Ordering};
 use std::time::Duration;
 
 /// After how many milliseconds a client that brings nothing is sent a ping, where the settings don't say: a minute.
 const PING_MS: u64 = 60_000;
-
-/// For how many milliseconds a read of a handshake waits.
-const HANDSHAKE_READ: u64 = 200;
-
-/// So many reads a handshake may take: 20 seconds in all, where each waits in vain.
-const MOST_HANDSHAKE_READS: u64 = 100;
 
 /// A ping without a payload, as a whole frame of a server (RFC 6455, sections 5.2 and 5.5.2).
 const PING: [u8; 2] = [0x89, 0];
@@ -26,135 +22,104 @@ const TURNED_AWAY: &str =
 /// How long clients may keep a connection waiting.
 #[derive(Clone, Copy, Debug)]
 pub struct Patience {
-    /// How long a read waits, behind the handshake.
-    read: Duration,
-    /// After so many reads one after another that bring nothing a ping is sent, and after as many more the connection ends.
-    reads: u64,
-    /// How long a write waits.
-    write: Duration,
+    /// After how long a client that brings nothing is sent a ping, and after how long it ends then.
+    pub ping: Duration,
+    /// How long it may take nothing of what it is sent.
+    pub write: Duration,
 }
 
 impl Patience {
     /// What the settings say.
     pub fn of(settings: &Settings) -> Patience {
-        let ping = settings.ping_ms.unwrap_or(PING_MS).max(1);
-        let read = settings.push_ms.unwrap_or(ping).clamp(1, ping);
         Patience {
-            read: Duration::from_millis(read),
-            reads: ping.div_ceil(read),
+            ping: Duration::from_millis(settings.ping_ms.unwrap_or(PING_MS)),
             write: settings.timeout(),
         }
     }
 }
 
-/// A connection that came in.
+/// A connection that came in, and what was heard of it since that was last looked at.
 #[derive(Drop)]
 pub struct Client {
     stream: TcpStream,
-    patience: Patience,
+    has_brought: AtomicBool,
+    has_taken: AtomicBool,
     // Whether its handshake is answered.
     is_met: AtomicBool,
 }
 
 impl Client {
     /// A client whose handshake is still to come.
-    pub fn new(stream: TcpStream, patience: Patience) -> Client {
-        let _ = stream.set_nodelay(true);
-        let _ = stream.set_write_timeout(Some(patience.write));
-        let _ = stream.set_read_timeout(Some(Duration::from_millis(HANDSHAKE_READ)));
+    pub fn new(stream: TcpStream) -> Client {
         Client {
             stream,
-            patience,
+            has_brought: AtomicBool::new(false),
+            has_taken: AtomicBool::new(false),
             is_met: AtomicBool::new(false),
         }
     }
 
-    /// What it says, and is told.
-    pub fn line(&self) -> Line<'_> {
-        Line {
-            client: self,
-            reads: 0,
-        }
+    /// Whether it has brought something since this was last asked.
+    pub fn has_brought(&self) -> bool {
+        self.has_brought.swap(false, Ordering::SeqCst)
+    }
+
+    /// Whether it has taken something since this was last asked.
+    pub fn has_taken(&self) -> bool {
+        self.has_taken.swap(false, Ordering::SeqCst)
+    }
+
+    /// Whether its handshake is answered.
+    pub fn is_met(&self) -> bool {
+        self.is_met.load(Ordering::SeqCst)
+    }
+
+    /// Sends a ping. What was sent before is whole frames.
+    pub fn ping(&self) {
+        let mut stream = &self.stream;
+        let _ = stream.write(&PING);
     }
 
     /// Tells one that asked for a document, and not for a WebSocket, what this is.
     pub fn turn_away(&self) {
-        if !self.is_met.load(Ordering::SeqCst) {
+        if !self.is_met() {
             let mut stream = &self.stream;
-            let _ = stream.write_all(TURNED_AWAY.as_bytes());
+            let _ = stream.write(TURNED_AWAY.as_bytes());
         }
+    }
+
+    /// Ends the connection: nothing more comes, and nothing more is taken.
+    pub fn end(&self) {
+        let _ = self.stream.shutdown(Shutdown::Both);
     }
 }
 
-/// What a client says, and is told. Its handshake has 20 seconds. Then one that brings nothing is sent a ping, and its connection ends
-/// where nothing comes after that either. How long its reads wait is set once the handshake is answered.
+/// What a client says, and is told. Neither waits.
 #[derive(Drop)]
-pub struct Line<'c> {
-    client: &'c Client,
-    // How many reads brought nothing, one after another; how many there were, before the handshake is answered.
-    reads: u64,
+pub struct Line {
+    pub client: Arc<Client>,
 }
 
-impl<'c> Line<'c> {
-    // One more read of the handshake.
-    fn meet(&mut self) -> io::Result<()> {
-        self.reads = self.reads.saturating_add(1);
-        if self.reads > MOST_HANDSHAKE_READS {
-            return Err(io::Error::from(ErrorKind::ConnectionAborted));
-        }
-        Ok(())
-    }
-
-    // A read brought nothing. What was sent before is whole frames, so that a ping may follow.
-    fn wait_on(&mut self) -> io::Result<()> {
-        self.reads = self.reads.saturating_add(1);
-        let most = self.client.patience.reads;
-        if self.reads == most {
-            let mut stream = &self.client.stream;
-            return stream.write_all(&PING);
-        }
-        if self.reads >= most.saturating_mul(2) {
-            return Err(io::Error::from(ErrorKind::ConnectionAborted));
-        }
-        Ok(())
-    }
-}
-
-impl<'c> Read for Line<'c> {
+impl Read for Line {
     fn read(&mut self, buf: &mut [u8]) -> io::Result<usize> {
         let mut stream = &self.client.stream;
-        if !self.client.is_met.load(Ordering::SeqCst) {
-            self.meet()?;
-            return stream.read(buf);
-        }
-        match stream.read(buf) {
-            Ok(count) => {
-                self.reads = 0;
-                Ok(count)
-            }
-            Err(error) => {
-                if matches!(error.kind(), ErrorKind::WouldBlock | ErrorKind::TimedOut) {
-                    self.wait_on()?;
-                }
-                Err(error)
-            }
-        }
+        let count = stream.read(buf)?;
+        self.client.has_brought.store(true, Ordering::SeqCst);
+        Ok(count)
     }
 }
 
-impl<'c> Write for Line<'c> {
+impl Write for Line {
     // What is written first is the answer to the handshake.
     fn write(&mut self, buf: &[u8]) -> io::Result<usize> {
         let mut stream = &self.client.stream;
-        if !self.client.is_met.swap(true, Ordering::SeqCst) {
-            self.reads = 0;
-            let _ = stream.set_read_timeout(Some(self.client.patience.read));
-        }
-        stream.write(buf)
+        let count = stream.write(buf)?;
+        self.client.is_met.store(true, Ordering::SeqCst);
+        self.client.has_taken.store(true, Ordering::SeqCst);
+        Ok(count)
     }
 
     fn flush(&mut self) -> io::Result<()> {
-        let mut stream = &self.client.stream;
-        stream.flush()
+        Ok(())
     }
 }

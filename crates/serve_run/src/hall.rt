@@ -1,41 +1,84 @@
-//! Where connections come in, and what they are served from.
+//! Where connections are served side by side, and what they are served from.
 
-use crate::client::{Client, Patience};
-use crate::crew::{Shift, run_beside};
-use crate::keeping::{Clerk, Keeping};
-use event_store::{Desk, Naming, Reader};
+use crate::client::Patience;
+use crate::door::Door;
+use crate::seat::Seat;
+use mio::Waker;
 use relay_core::RelayLimits;
-use std::alloc::Global;
-use std::io::Write;
-use std::net::{Net, TcpListener, TcpStream};
+use std::alloc::{AllocError, Global};
+use std::collections::VecDeque;
 use std::rt::Clock;
 use std::sync::atomic::{AtomicBool, AtomicU64, Ordering};
 use std::sync::{Condvar, CondvarTimeouts, Mutex, Wait};
-use std::thread::{Threads, sleep};
 use std::time::Duration;
-use ws_serve::serve_kept;
-use ws_socket::LinkFault;
+use ws_serve::Turns;
 
-/// For how many milliseconds it is tried to wake a worker that waits for a connection.
-const WAKING: u64 = 100;
+/// What is due.
+#[derive(Clone, Copy, Debug, PartialEq, Eq)]
+pub enum Errand {
+    /// A turn of the connection in this seat.
+    Turn(usize),
+    /// The same of one whose last turn took long, or was over before a long text.
+    Slow(usize),
+    /// To tell one part of all clients what was published for them.
+    News(usize),
+}
 
-/// For how many milliseconds a worker pauses where no connection can be accepted, as where no descriptor is left.
-const PAUSE: u64 = 100;
+/// In so many parts all clients are told what was published, side by side.
+const PARTS: usize = 8;
 
-/// How often it is tried to accept one connection: for at least ten hours.
-const MOST_TRIES: usize = 360_000;
-
-/// Where so many connections come in, and the desk of the store that they are served from.
+/// What is due, in its order. Slow turns are apart, and half of the workers are kept for the
+/// others.
 #[derive(Drop)]
-pub struct Hall<K> {
-    listener: TcpListener,
+struct Queue {
+    errands: VecDeque<Errand>,
+    slow: VecDeque<usize>,
+    // How many workers there are, and how many are at a slow turn.
+    workers: usize,
+    busy: usize,
+    is_over: bool,
+}
+
+impl Queue {
+    // Whether a slow turn may begin.
+    fn may_be_slow(&self) -> bool {
+        !self.slow.is_empty() && self.busy < (self.workers / 2).max(1)
+    }
+
+    // Whether there is something to do.
+    fn is_ready(&self) -> bool {
+        self.is_over || !self.errands.is_empty() || self.may_be_slow()
+    }
+
+    // What is due next, if anything is.
+    fn take(&mut self) -> Option<Errand> {
+        if self.may_be_slow() {
+            self.busy = self.busy.saturating_add(1);
+            return self.slow.pop_front().map(Errand::Slow);
+        }
+        self.errands.pop_front()
+    }
+}
+
+/// A hall with so many seats, and the desk of the store that connections are served from.
+#[derive(Drop)]
+pub struct Hall<G, K> {
+    seats: Vec<Seat<G>>,
+    queue: Mutex<Queue>,
+    has_errands: Condvar,
+    // Seats that connections have left.
+    left: Mutex<Vec<usize>>,
+    // How many events were published when it was last told, and whether each part of the clients is due to hear of them.
+    published: AtomicU64,
+    has_news: Vec<AtomicBool>,
+    // How many connections come in, at most, and whether no further ones do.
     conns: u64,
-    // How many connections workers went for.
-    begun: AtomicU64,
-    // How many workers wait for one.
-    waiting: AtomicU64,
-    // Whether no further connections are taken.
-    closed: AtomicBool,
+    is_closed: AtomicBool,
+    // Whether a worker has begun.
+    has_worker: AtomicBool,
+    // Who lets connections in, until that begins, and what wakes it.
+    door: Mutex<Option<Door>>,
+    waker: Waker,
     patience: Patience,
     limits: RelayLimits,
     desk: Mutex<K>,
@@ -46,50 +89,118 @@ pub struct Hall<K> {
     ending: Condvar,
 }
 
-impl<K> Hall<K> {
-    /// A hall for so many connections.
+impl<G: Drop, K: Drop> Hall<G, K> {
+    /// A hall for so many connections, of which as many are served side by side as there are seats.
     pub fn new(
-        listener: TcpListener,
+        alloc: Global,
         conns: u64,
+        seats: usize,
+        door: Door,
+        waker: Waker,
         patience: Patience,
         limits: RelayLimits,
         desk: K,
-    ) -> Hall<K> {
-        Hall {
-            listener,
+    ) -> Result<Hall<G, K>, AllocError> {
+        let mut all = Vec::with_capacity(alloc, seats)?;
+        for _ in 0..seats {
+            all.push(Seat::new())?;
+        }
+        let mut has_news = Vec::with_capacity(alloc, PARTS)?;
+        for _ in 0..PARTS {
+            has_news.push(AtomicBool::new(false))?;
+        }
+        Ok(Hall {
+            seats: all,
+            // Each seat stands in it once at most, and so does each part of the news.
+            queue: Mutex::new(Queue {
+                errands: VecDeque::with_capacity(alloc, seats.saturating_add(PARTS))?,
+                slow: VecDeque::with_capacity(alloc, seats)?,
+                workers: 0,
+                busy: 0,
+                is_over: false,
+            }),
+            has_errands: Condvar::new(),
+            left: Mutex::new(Vec::with_capacity(alloc, seats)?),
+            published: AtomicU64::new(0),
+            has_news,
             conns,
-            begun: AtomicU64::new(0),
-            waiting: AtomicU64::new(0),
-            closed: AtomicBool::new(false),
+            is_closed: AtomicBool::new(false),
+            has_worker: AtomicBool::new(false),
+            door: Mutex::new(Some(door)),
+            waker,
             patience,
             limits,
             desk: Mutex::new(desk),
             turn: Mutex::new(()),
             over: Mutex::new(false),
             ending: Condvar::new(),
-        }
+        })
     }
+}
 
+impl<G, K> Hall<G, K> {
     /// The desk, which others may use beside the connections.
     pub fn desk(&self) -> &Mutex<K> {
         &self.desk
     }
 
-    // Whether a connection is left for who asks.
-    fn is_next(&self) -> bool {
-        self.begun.fetch_add(1, Ordering::SeqCst) < self.conns
+    // Who lets connections in, once.
+    pub(crate) fn door<R: Wait>(&self, rt: &R) -> Option<Door> {
+        self.door.lock(rt).take()
     }
 
-    /// Whether a worker has gone for a connection.
+    pub(crate) fn seats(&self) -> &[Seat<G>] {
+        self.seats.as_slice()
+    }
+
+    pub(crate) fn conns(&self) -> u64 {
+        self.conns
+    }
+
+    pub(crate) fn patience(&self) -> Patience {
+        self.patience
+    }
+
+    pub(crate) fn limits(&self) -> RelayLimits {
+        self.limits
+    }
+
+    // How clients' long texts are read.
+    pub(crate) fn turns(&self, waits: bool) -> Turns<'_> {
+        Turns {
+            lock: &self.turn,
+            waits,
+        }
+    }
+
+    pub(crate) fn is_closed(&self) -> bool {
+        self.is_closed.load(Ordering::SeqCst)
+    }
+
+    /// Takes no further connections. Those that are here are served on.
+    pub fn close(&self) {
+        self.is_closed.store(true, Ordering::SeqCst);
+        let _ = self.waker.wake();
+    }
+
+    // A worker has begun.
+    pub(crate) fn begin<R: Wait>(&self, rt: &R) {
+        let mut queue = self.queue.lock(rt);
+        queue.workers = queue.workers.saturating_add(1);
+        drop(queue);
+        self.has_worker.store(true, Ordering::SeqCst);
+    }
+
+    /// Whether a worker has begun.
     pub fn has_begun(&self) -> bool {
-        self.begun.load(Ordering::SeqCst) > 0
+        self.has_worker.load(Ordering::SeqCst)
     }
 
     // Serving is over.
-    fn end<R: Wait>(&self, rt: &R) {
-        let mut over = self.over.lock(rt);
-        *over = true;
-        drop(over);
+    pub(crate) fn end<R: Wait>(&self, rt: &R) {
+        self.queue.lock(rt).is_over = true;
+        self.has_errands.notify_all();
+        *self.over.lock(rt) = true;
         self.ending.notify_all();
     }
 
@@ -103,157 +214,106 @@ impl<K> Hall<K> {
         !waited.timed_out()
     }
 
-    // Waits for a connection, and pauses where none can be accepted, unless no further ones are taken.
-    fn accepted<C: Clock>(&self, clock: &C) -> Option<Client> {
-        for _ in 0..MOST_TRIES {
-            if let Ok((stream, _from)) = self.listener.accept() {
-                return Some(Client::new(stream, self.patience));
-            }
-            if self.closed.load(Ordering::SeqCst) {
-                return None;
-            }
-            sleep(clock, Duration::from_millis(PAUSE));
-        }
-        None
-    }
-
-    // Waits for one connection after another, until one is accepted or none is left.
-    fn next<C: Clock>(&self, clock: &C) -> Option<Client> {
-        for _ in 0..self.conns {
-            if !self.is_next() {
-                return None;
-            }
-            let client = self.accepted(clock);
-            if client.is_some() {
-                return client;
-            }
-        }
-        None
-    }
-
-    // The next connection, unless none is left, and whether a further worker is wanted: no other waits, though a connection is
-    // left. A worker is counted before it goes for a connection, so that `close` finds each that has gone for one.
-    fn awaited<C: Clock>(&self, clock: &C) -> Option<(Client, bool)> {
-        self.waiting.fetch_add(1, Ordering::SeqCst);
-        let client = self.next(clock);
-        let is_last = self.waiting.fetch_sub(1, Ordering::SeqCst) == 1;
-        let is_wanted = is_last && self.begun.load(Ordering::SeqCst) < self.conns;
-        Some((client?, is_wanted))
-    }
-
-    /// Takes no further connections. Workers that wait for one are woken by connections that end at once.
-    pub fn close<R: Net>(&self, rt: &R) {
-        self.closed.store(true, Ordering::SeqCst);
-        self.begun.store(self.conns, Ordering::SeqCst);
-        let Ok(address) = self.listener.local_addr() else {
-            return;
+    // Puts it into the queue.
+    fn queue<R: Wait>(&self, rt: &R, errand: Errand) {
+        let mut queue = self.queue.lock(rt);
+        let _ = match errand {
+            Errand::Slow(number) => queue.slow.push_back(number).is_ok(),
+            other => queue.errands.push_back(other).is_ok(),
         };
-        let while_waking = Duration::from_millis(WAKING);
-        for _ in 0..self.waiting.load(Ordering::SeqCst) {
-            let _ = TcpStream::connect_timeout(rt, &address, while_waking);
-        }
+        drop(queue);
+        self.has_errands.notify_one();
     }
-}
 
-/// Serves a connection with a reader.
-fn serve_one<J: Naming, D: Wait + Drop, R: Wait, C: Clock, E: Write + Drop>(
-    rt: &R,
-    alloc: Global,
-    serving: &Serving<'_, '_, C, Desk<J, D>, Keeping<J, E>>,
-    client: Client,
-    reader: &mut Reader<J>,
-) {
-    let clerk = Clerk {
-        clock: serving.clock,
-        keeping: serving.keeping,
-    };
-    let hall = serving.hall;
-    let (desk, turn, limits) = (&hall.desk, &hall.turn, hall.limits);
-    let served = serve_kept(rt, alloc, client.line(), reader, desk, &clerk, turn, limits);
-    if let Err(LinkFault::Wire) = served {
-        client.turn_away();
-    }
-}
-
-/// Serves one connection after another with a reader, until none is left, or until one came in, a further worker is wanted and
-/// a reader isn't lent: then gives these two.
-fn serve_each<J: Naming, D: Wait + Drop, R: Wait, C: Clock, E: Write + Drop>(
-    rt: &R,
-    alloc: Global,
-    serving: &Serving<'_, '_, C, Desk<J, D>, Keeping<J, E>>,
-    spares: &Mutex<Vec<Reader<J>>>,
-    reader: &mut Reader<J>,
-) -> Option<(Client, Reader<J>)> {
-    for _ in 0..serving.hall.conns {
-        let (client, is_wanted) = serving.hall.awaited(serving.clock)?;
-        let spare = if is_wanted {
-            spares.lock(rt).pop()
+    // Puts a turn of the connection in a seat into the queue.
+    fn queue_turn<R: Wait>(&self, rt: &R, number: usize, seat: &Seat<G>) {
+        if seat.is_slow() {
+            self.queue(rt, Errand::Slow(number));
         } else {
-            None
-        };
-        if let Some(spare) = spare {
-            return Some((client, spare));
+            self.queue(rt, Errand::Turn(number));
         }
-        serve_one(rt, alloc, serving, client, reader);
-    }
-    None
-}
-
-/// Serves a hall's connections.
-#[derive(Clone, Copy)]
-struct Serving<'c, 'h, C, K, P> {
-    clock: &'c C,
-    hall: &'h Hall<K>,
-    keeping: &'h P,
-}
-
-impl<'c, 'h, C: Clock, J: Naming, D: Wait + Drop, E: Write + Drop> Shift<Reader<J>>
-    for Serving<'c, 'h, C, Desk<J, D>, Keeping<J, E>> {
-    fn work<R: Wait>(
-        &self,
-        rt: &R,
-        alloc: Global,
-        spares: &Mutex<Vec<Reader<J>>>,
-        reader: &mut Reader<J>,
-    ) -> Option<(Client, Reader<J>)> {
-        serve_each(rt, alloc, self, spares, reader)
     }
 
-    fn serve<R: Wait>(&self, rt: &R, alloc: Global, client: Client, reader: &mut Reader<J>) {
-        serve_one(rt, alloc, self, client, reader);
+    // The connection in a seat is due a turn.
+    pub(crate) fn call<R: Wait>(&self, rt: &R, number: usize) {
+        if let Some(seat) = self.seats.get(number) {
+            if seat.call(rt) {
+                self.queue_turn(rt, number, seat);
+            }
+        }
     }
 
-    fn end<R: Wait>(&self, rt: &R) {
-        self.hall.end(rt);
+    // A turn of the connection in a seat is over. It may be due another.
+    pub(crate) fn end_turn<R: Wait>(&self, rt: &R, number: usize, is_ready: bool) {
+        if let Some(seat) = self.seats.get(number) {
+            if seat.end(rt, is_ready) {
+                self.queue_turn(rt, number, seat);
+            }
+        }
     }
-}
 
-/// Serves the hall's connections, with a reader for each at a time: where all are lent none is accepted. A further worker begins
-/// where one has accepted a connection and none waits for the next. A connection that ends by a fault counts and touches no
-/// other. Where none can be accepted, it is tried again after a pause. That is done beside other work in this thread, and gives
-/// what the work answers once both have ended. Where no thread can be made, connections are served after the work.
-pub fn serve_beside<
-    R: Threads + Wait + Clock + Sync,
-    J: Naming + Send + Sync,
-    D: Wait + Drop + Send,
-    E: Write + Send + Drop,
-    G: FnOnce() -> B,
-    B,
->(
-    rt: &R,
-    alloc: Global,
-    hall: &Hall<Desk<J, D>>,
-    keeping: &Keeping<J, E>,
-    readers: Vec<Reader<J>>,
-    work: G,
-) -> B
-    requires { G.pre work }
-    ensures { G.post work result }
-{
-    let serving = Serving {
-        clock: rt,
-        hall,
-        keeping,
-    };
-    run_beside(rt, alloc, &serving, readers, work)
+    /// So many events are published. Where that is more than was told before, all clients are due to hear of them.
+    pub fn tell<R: Wait>(&self, rt: &R, published: u64) {
+        if self.published.load(Ordering::SeqCst) >= published {
+            return;
+        }
+        self.published.store(published, Ordering::SeqCst);
+        for (part, has_news) in self.has_news.iter().enumerate() {
+            if !has_news.swap(true, Ordering::SeqCst) {
+                self.queue(rt, Errand::News(part));
+            }
+        }
+    }
+
+    // The seats of a part of the clients, who hear of all that is published by now.
+    pub(crate) fn seats_of(&self, part: usize) -> &[Seat<G>] {
+        if let Some(has_news) = self.has_news.get(part) {
+            has_news.store(false, Ordering::SeqCst);
+        }
+        let size = self.seats.len().div_ceil(PARTS).max(1);
+        let from = part.saturating_mul(size).min(self.seats.len());
+        let to = from.saturating_add(size).min(self.seats.len());
+        &self.seats[from..to]
+    }
+
+    // The number of the first of these seats.
+    pub(crate) fn first_of(&self, part: usize) -> usize {
+        part.saturating_mul(self.seats.len().div_ceil(PARTS).max(1))
+    }
+
+    // A seat was left.
+    pub(crate) fn leave<R: Wait>(&self, rt: &R, number: usize) {
+        let _ = self.left.lock(rt).push(number);
+        let _ = self.waker.wake();
+    }
+
+    // A seat that was left, if there is one.
+    pub(crate) fn left<R: Wait>(&self, rt: &R) -> Option<usize> {
+        self.left.lock(rt).pop()
+    }
+
+    // What is due next, which is waited for until serving is over.
+    pub(crate) fn next<R: Wait>(&self, rt: &R) -> Option<Errand> {
+        let queue = self.queue.lock(rt);
+        let mut queue = self
+            .has_errands
+            .wait_while(rt, queue, |queue| !queue.is_ready());
+        if queue.is_over {
+            return None;
+        }
+        queue.take()
+    }
+
+    // A slow turn is over.
+    pub(crate) fn end_slow<R: Wait>(&self, rt: &R) {
+        let mut queue = self.queue.lock(rt);
+        queue.busy = queue.busy.saturating_sub(1);
+        drop(queue);
+        self.has_errands.notify_one();
+    }
+
+    // What is due next, if anything is.
+    pub(crate) fn next_now<R: Wait>(&self, rt: &R) -> Option<Errand> {
+        self.queue.lock(rt).take()
+    }
 }

@@ -2,11 +2,12 @@
 
 ghost use Rattle.std.specs.Thread.{IsSync};
 
+use crate::guest::Guest;
 use crate::hall::Hall;
 use crate::refusal::{Refusal, write_refusal};
 use event_file::EventsFile;
 use event_log::{Keeper, Kept, Log, Medium};
-use event_store::{Naming, Placed, Reader};
+use event_store::{Desk, Naming, Placed, Reader};
 use mirror_settings::Syncing;
 use std::alloc::Global;
 use std::io;
@@ -223,18 +224,18 @@ impl<J: Naming, E: Write + Drop> Keeping<J, E> {
         Some(kept)
     }
 
-    /// Does what nobody waits for.
-    pub fn tick<R: Wait + Clock>(&self, rt: &R) {
+    /// Does what nobody waits for, and tells how many events are published.
+    pub fn tick<R: Wait + Clock>(&self, rt: &R) -> u64 {
         let mut writing = self.writing.lock(rt);
-        if writing.is_resting(rt) {
-            return;
+        if !writing.is_resting(rt) {
+            if let Some(kept) = writing.append(rt) {
+                *self.kept.lock(rt) = Some(kept);
+            }
+            if self.fsync == Syncing::EverySecond {
+                writing.settle(rt);
+            }
         }
-        if let Some(kept) = writing.append(rt) {
-            *self.kept.lock(rt) = Some(kept);
-        }
-        if self.fsync == Syncing::EverySecond {
-            writing.settle(rt);
-        }
+        writing.reader.front().len()
     }
 
     // Does what nobody waits for, until the work is over.
@@ -243,7 +244,7 @@ impl<J: Naming, E: Write + Drop> Keeping<J, E> {
             if ending.is_over(rt, Duration::from_millis(TICK)) {
                 return;
             }
-            self.tick(rt);
+            let _ = self.tick(rt);
         }
     }
 
@@ -322,8 +323,41 @@ pub fn keep_beside<
     tend_beside(rt, keeping, work)
 }
 
+/// A hall, and where the events of its store are kept.
+#[derive(Clone, Copy)]
+struct KeptIn<'h, G, K, P> {
+    hall: &'h Hall<G, K>,
+    keeping: &'h P,
+}
+
+impl<'h, G, K, J: Naming, E: Write + Drop> Tend for KeptIn<'h, G, K, Keeping<J, E>> {
+    fn tend_on<R: Wait + Clock>(&self, rt: &R, ending: &Ending) {
+        for _ in 0..u64::MAX {
+            if ending.is_over(rt, Duration::from_millis(TICK)) {
+                return;
+            }
+            self.hall.tell(rt, self.keeping.tick(rt));
+        }
+    }
+}
+
+/// Keeps events beside the work, and tells the hall of them.
+pub fn keep_in_hall<
+    R: Threads + Wait + Clock + Sync,
+    J: Naming + Send + Sync,
+    D: Wait + Drop + Send,
+    E: Write + Send + Drop,
+    G: FnOnce() -> B,
+    B,
+>(rt: &R, hall: &Hall<Guest<J>, Desk<J, D>>, keeping: &Keeping<J, E>, work: G) -> B
+    requires { G.pre work }
+    ensures { G.post work result }
+{
+    tend_beside(rt, &KeptIn { hall, keeping }, work)
+}
+
 /// Whether a worker has begun, which is waited for, and serving isn't over.
-fn is_begun<K, R: Wait + Clock>(rt: &R, hall: &Hall<K>) -> bool {
+fn is_begun<G, K, R: Wait + Clock>(rt: &R, hall: &Hall<G, K>) -> bool {
     for _ in 0..STARTING {
         if hall.is_over(rt, Duration::from_secs(1)) {
             return false;
@@ -336,9 +370,9 @@ fn is_begun<K, R: Wait + Clock>(rt: &R, hall: &Hall<K>) -> bool {
 }
 
 /// Does what nobody waits for until serving is over.
-pub fn keep_meanwhile<J: Naming, E: Write + Drop, K, R: Wait + Clock>(
+pub fn keep_meanwhile<G, K, J: Naming, E: Write + Drop, R: Wait + Clock>(
     rt: &R,
-    hall: &Hall<K>,
+    hall: &Hall<G, K>,
     keeping: &Keeping<J, E>,
 ) {
     if !is_begun(rt, hall) {
@@ -348,7 +382,7 @@ pub fn keep_meanwhile<J: Naming, E: Write + Drop, K, R: Wait + Clock>(
         if hall.is_over(rt, Duration::from_millis(TICK)) {
             return;
         }
-        keeping.tick(rt);
+        hall.tell(rt, keeping.tick(rt));
     }
 }
 

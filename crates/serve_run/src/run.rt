@@ -4,32 +4,49 @@ ghost use Rattle.std.specs.Prelude.{◌≡◌, OnOk};
 ghost use Rattle.std.specs.Io.KnownBytes.{Appends};
 
 use crate::client::Patience;
-use crate::hall::{Hall, serve_beside};
+use crate::door::{Door, WAKER};
+use crate::guest::Guest;
+use crate::hall::Hall;
 use crate::keeping::{Keeping, keep_meanwhile, keeping_of};
 use crate::refusal::{Refusal, write_refusal};
 use crate::saving::begin;
+use crate::serving::serve_beside;
 use event_store::{Blank, Naming, open_store};
+use mio::net::TcpListener;
+use mio::{Poll, Waker};
 use mirror_settings::{Address, Job, Settings, SettingsKey, read_settings};
 use relay_core::RelayLimits;
 use std::alloc::Global;
 use std::fs::File;
+use std::io;
 use std::io::Write;
 use std::marker::Brand;
-use std::net::{Net, TcpListener, TcpStream};
+use std::net::{Net, ToSocketAddrs};
 use std::rt::{Clock, Files};
 use std::sync::Wait;
-use std::thread::Threads;
+use std::thread::{Threads, available_parallelism};
 
 /// How many connections are served at once where the settings don't say.
 const CLIENTS: u64 = 64;
 
-/// How many connections a hall without an end serves: so many that workers, who count on beyond them, don't come to the greatest
-/// number.
-const ENDLESS: u64 = u64::MAX / 2;
+/// How many workers there are where it isn't known how many processors there are.
+const WORKERS: usize = 8;
 
-/// As many readers as connections may be served at once, 1 to 1,000.
-pub fn readers_for(conns: u64, clients: Option<u64>) -> usize {
-    conns.min(clients.unwrap_or(CLIENTS)).clamp(1, 1_000) as usize
+/// How many readers a hall takes: one for each worker, of whom two share a processor since some wait for the events file, and one for who
+/// lets connections in.
+pub fn readers_for<R: Threads>(rt: &R) -> usize {
+    let workers = match available_parallelism(rt) {
+        Ok(processors) => processors.get().saturating_mul(2).clamp(4, 64),
+        Err(_) => WORKERS,
+    };
+    workers + 1
+}
+
+/// How many connections are served at once.
+fn seats_of(settings: &Settings) -> usize {
+    let conns = settings.conns.unwrap_or(u64::MAX);
+    let clients = settings.clients.unwrap_or(CLIENTS);
+    conns.min(clients).clamp(1, 100_000) as usize
 }
 
 /// Writes a text, and waits until it is written.
@@ -46,43 +63,60 @@ pub fn say<W: Write>(writer: &mut W, text: &str) -> Result<(), Refusal>
     }
 }
 
-/// Listens, and tells where: the host as it was asked for, and the port that was bound.
-fn listen<R: Net<Listener = TcpListener, Stream = TcpStream>, W: Write>(
-    rt: &R,
-    alloc: Global,
-    address: &Address,
-    writer: &mut W,
-) -> Result<TcpListener, Refusal> {
+/// Listens at the first of the address' places that can be had, with room for as many connections that wait as the system allows.
+fn listen<R: Net>(rt: &R, alloc: Global, address: &Address) -> Result<TcpListener, Refusal> {
     let text = format!(in alloc; "{address}")?;
-    let Ok(listener) = TcpListener::bind(rt, text.as_str()) else {
+    let Ok(places) = text.as_str().to_socket_addrs(rt) else {
         return Err(Refusal::Listen);
     };
-    let Ok(bound) = listener.local_addr() else {
-        return Err(Refusal::Listen);
-    };
-    let host = address.host.as_str();
-    let port = bound.port();
-    let text = format!(in alloc; "listening {host}:{port}\n")?;
-    say(writer, text.as_str())?;
-    Ok(listener)
+    for place in places {
+        if let Ok(listener) = TcpListener::bind(rt, place) {
+            return Ok(listener);
+        }
+    }
+    Err(Refusal::Listen)
 }
 
-/// Listens as the settings say, and tells where. The hall has the desk, and serves as many connections as the settings say, or
-/// without an end. Where they don't say where to listen, that is refused.
-pub fn open_hall<K: Drop, R: Net<Listener = TcpListener, Stream = TcpStream>, W: Write>(
+/// A door to so many seats, behind which connections wait at the listener, and what wakes who tends it.
+fn door_to<R: Net>(
+    rt: &R,
+    alloc: Global,
+    listener: TcpListener,
+    seats: usize,
+) -> io::Result<(Door, Waker)> {
+    let poll = Poll::new(rt)?;
+    let waker = Waker::new(poll.registry(), WAKER)?;
+    Ok((Door::new(alloc, poll, listener, seats)?, waker))
+}
+
+/// Listens as the settings say, and tells where: the host as it was asked for, and the port that was bound. The hall has the desk,
+/// and serves as many connections as the settings say, or without an end. Where they don't say where to listen, that is refused.
+pub fn open_hall<J: Naming, K: Drop, R: Net, W: Write>(
     rt: &R,
     alloc: Global,
     settings: &Settings,
     desk: K,
     writer: &mut W,
-) -> Result<Hall<K>, Refusal> {
+) -> Result<Hall<Guest<J>, K>, Refusal> {
     let Some(address) = &settings.listen else {
         return Err(Refusal::Key(SettingsKey::Listen));
     };
-    let listener = listen(rt, alloc, address, writer)?;
-    let conns = settings.conns.unwrap_or(ENDLESS);
+    let listener = listen(rt, alloc, address)?;
+    let Ok(bound) = listener.local_addr() else {
+        return Err(Refusal::Listen);
+    };
+    let seats = seats_of(settings);
+    let Ok((door, waker)) = door_to(rt, alloc, listener, seats) else {
+        return Err(Refusal::Listen);
+    };
+    let conns = settings.conns.unwrap_or(u64::MAX);
     let limits = RelayLimits::default().read_only(settings.read_only);
-    Ok(Hall::new(listener, conns, Patience::of(settings), limits, desk))
+    let patience = Patience::of(settings);
+    let hall = Hall::new(alloc, conns, seats, door, waker, patience, limits, desk)?;
+    let (host, port) = (address.host.as_str(), bound.port());
+    let text = format!(in alloc; "listening {host}:{port}\n")?;
+    say(writer, text.as_str())?;
+    Ok(hall)
 }
 
 /// Writes what is left to the events file, and tells how many connections and events there were.
@@ -102,12 +136,7 @@ fn end<J: Naming, R: Wait + Files, W: Write, E: Write + Drop>(
 fn run_named<
     J: Naming + Send + Sync,
     D: Wait + Drop + Send,
-    R: Net<Listener = TcpListener, Stream = TcpStream>
-        + Threads
-        + Wait
-        + Files<File = File>
-        + Clock
-        + Sync,
+    R: Net + Threads + Wait + Files<File = File> + Clock + Sync,
     W: Write,
     E: Write + Send + Drop,
 >(
@@ -123,8 +152,8 @@ fn run_named<
     requires most { J.most ≡ 1000000 }
 {
     let conns = settings.conns.unwrap_or(0);
-    // One reader for each connection that is served at once, and one for the file.
-    let count = readers_for(conns, settings.clients).saturating_add(1);
+    // One reader is for the file.
+    let count = readers_for(rt).saturating_add(1);
     let (mut desk, mut readers) = open_store::<J, D>(keep, alloc, blank, count)?;
     let Some(mut reader) = readers.pop() else {
         return Err(Refusal::Store);
@@ -151,12 +180,7 @@ fn run_named<
 /// Reads settings, puts the events of the file into a store, listens, and serves so many connections as the settings say. Events
 /// are kept in the file as they come in. Its faults, and what was torn off it, are told to `errors`.
 pub fn run_serve<
-    R: Net<Listener = TcpListener, Stream = TcpStream>
-        + Threads
-        + Wait
-        + Files<File = File>
-        + Clock
-        + Sync,
+    R: Net + Threads + Wait + Files<File = File> + Clock + Sync,
     W: Write,
     E: Write + Send + Drop,
 >(rt: &R, alloc: Global, text: &str, writer: &mut W, errors: E) -> Result<(), Refusal> {

@@ -16,8 +16,8 @@ use mirror_core::{SyncFault, Synced};
 use mirror_settings::{Job, Settings, SettingsKey, read_settings};
 use offer_table::RelaySet;
 use serve_run::{
-    Hall, Keeping, Refusal, begin, keep_beside, keep_meanwhile, keeping_of, open_hall, readers_for,
-    say, serve_beside,
+    Guest, Hall, Keeping, Refusal, begin, keep_beside, keep_in_hall, keep_meanwhile, keeping_of,
+    open_hall, readers_for, say, serve_beside,
 };
 use std::alloc::Global;
 use std::fs::File;
@@ -177,14 +177,15 @@ fn run_in_hall<
     rt: &R,
     alloc: Global,
     settings: &Settings,
-    hall: &Hall<Desk<J, D>>,
+    hall: &Hall<Guest<J>, Desk<J, D>>,
     reader: &mut Reader<J>,
     keeping: &Keeping<J, E>,
     writer: &mut W,
     progress: &Progress<P>,
 ) -> Result<(), Refusal> {
-    let ran = keep_beside(
+    let ran = keep_in_hall(
         rt,
+        hall,
         keeping,
         ||
             requires { IsSend J.row × IsSend D.row × IsSend P.row }
@@ -202,7 +203,7 @@ fn run_in_hall<
         },
     );
     if ran.is_err() {
-        hall.close(rt);
+        hall.close();
     }
     keep_meanwhile(rt, hall, keeping);
     ran
@@ -227,7 +228,7 @@ fn run_serving<
     rt: &R,
     alloc: Global,
     settings: &Settings,
-    hall: Hall<Desk<J, D>>,
+    hall: Hall<Guest<J>, Desk<J, D>>,
     readers: Vec<Reader<J>>,
     reader: &mut Reader<J>,
     keeping: Keeping<J, E>,
@@ -255,12 +256,11 @@ fn run_serving<
     Ok(())
 }
 
-/// How many readers the job takes: one of its own, one for the file, and where it listens one for each connection that is served
-/// at once.
-fn readers_of(settings: &Settings) -> usize {
-    match (&settings.listen, settings.conns) {
-        (Some(_), Some(conns)) => readers_for(conns, settings.clients).saturating_add(2),
-        _ => 2,
+/// How many readers the job takes: one of its own, one for the file, and those of the hall where it listens.
+fn readers_of<R: Threads>(rt: &R, settings: &Settings) -> usize {
+    match &settings.listen {
+        Some(_) => readers_for(rt).saturating_add(2),
+        None => 2,
     }
 }
 
@@ -292,7 +292,7 @@ fn run_named<
     requires most { J.most ≡ 1000000 }
     ensures { settings.now.listen ≡ None → OnOk result (PrintsOfSome BeginAt settings.now (W.contents writer.old) (W.contents writer.new)) }
 {
-    let (mut desk, mut readers) = open_store::<J, D>(keep, alloc, blank, readers_of(settings))?;
+    let (mut desk, mut readers) = open_store::<J, D>(keep, alloc, blank, readers_of(rt, settings))?;
     let (Some(mut reader), Some(mut of_file)) = (readers.pop(), readers.pop()) else {
         return Err(Refusal::Store);
     };

@@ -1,0 +1,142 @@
+// Many subscribers of one relay (NIP-01 over RFC 6455), for bench/hall.py and tests/hall.py.
+//
+//     crowd PORT SUBSCRIBERS
+//
+// Connects so many clients to 127.0.0.1, each of which sends one REQ for the events of kind 1, and prints `ready SECONDS` once all have
+// got their EOSE. Then another client sends each line of standard input as a text, and it prints `got COUNT P50 P99 LAST`: how many of
+// the clients were sent something within ten seconds, and after how many milliseconds half of these, 99 % of them and all of them
+// were. It ends with standard input.
+#include <arpa/inet.h>
+#include <errno.h>
+#include <fcntl.h>
+#include <stdio.h>
+#include <stdlib.h>
+#include <string.h>
+#include <sys/epoll.h>
+#include <sys/resource.h>
+#include <sys/socket.h>
+#include <time.h>
+#include <unistd.h>
+
+enum { MOST = 4096 };
+
+static double now(void) {
+    struct timespec t;
+    clock_gettime(CLOCK_MONOTONIC, &t);
+    return t.tv_sec + t.tv_nsec / 1e9;
+}
+
+static void stop(const char *what) {
+    perror(what);
+    exit(1);
+}
+
+// A text as a client's frame under the mask 0.
+static int framed(unsigned char *into, const char *text) {
+    int size = (int)strlen(text), head = 2;
+    into[0] = 0x81;
+    if (size < 126) {
+        into[1] = 0x80 | size;
+    } else {
+        into[1] = 0x80 | 126;
+        into[2] = size >> 8;
+        into[3] = size & 255;
+        head = 4;
+    }
+    memset(into + head, 0, 4);
+    memcpy(into + head + 4, text, size);
+    return size + head + 4;
+}
+
+static int joined(int port) {
+    struct sockaddr_in at = {.sin_family = AF_INET, .sin_port = htons(port), .sin_addr.s_addr = htonl(INADDR_LOOPBACK)};
+    int stream = socket(AF_INET, SOCK_STREAM, 0);
+    if (stream < 0 || connect(stream, (struct sockaddr *)&at, sizeof at) < 0) stop("connect");
+    const char *head = "GET / HTTP/1.1\r\nHost: a\r\nConnection: Upgrade\r\nUpgrade: websocket\r\n"
+                       "Sec-WebSocket-Version: 13\r\nSec-WebSocket-Key: dGhlIHNhbXBsZSBub25jZQ==\r\n\r\n";
+    if (send(stream, head, strlen(head), 0) < 0) stop("send");
+    return stream;
+}
+
+static int wide(const void *a, const void *b) {
+    double x = *(const double *)a, y = *(const double *)b;
+    return (x > y) - (x < y);
+}
+
+int main(int argc, char **argv) {
+    if (argc != 3) return 2;
+    int port = atoi(argv[1]), count = atoi(argv[2]);
+    struct rlimit room = {count + 64, count + 64};
+    if (setrlimit(RLIMIT_NOFILE, &room) < 0) stop("setrlimit");
+    int *streams = calloc(count, sizeof *streams);
+    double *times = calloc(count, sizeof *times);
+    char *seen = calloc(count, 1);
+    int poll = epoll_create1(0);
+    double start = now();
+    char buffer[MOST];
+    for (int i = 0; i < count; i++) streams[i] = joined(port);
+    // The head, and then the EOSE.
+    for (int i = 0; i < count; i++) {
+        int got = 0;
+        for (;;) {
+            int more = (int)recv(streams[i], buffer + got, sizeof buffer - 1 - got, 0);
+            if (more <= 0) stop("handshake");
+            got += more;
+            buffer[got] = 0;
+            if (strstr(buffer, "\r\n\r\n")) break;
+        }
+        if (strncmp(buffer, "HTTP/1.1 101", 12) != 0) return 1;
+        unsigned char frame[128];
+        int size = framed(frame, "[\"REQ\",\"a\",{\"kinds\":[1],\"limit\":1}]");
+        if (send(streams[i], frame, size, 0) != size) stop("send");
+    }
+    for (int i = 0; i < count; i++) {
+        int got = 0;
+        for (;;) {
+            int more = (int)recv(streams[i], buffer + got, sizeof buffer - 1 - got, 0);
+            if (more <= 0) stop("EOSE");
+            got += more;
+            buffer[got] = 0;
+            for (int k = 0; k < got; k++) if (!buffer[k]) buffer[k] = ' ';
+            if (strstr(buffer, "EOSE")) break;
+            if (got > 2048) memmove(buffer, buffer + got - 64, 64), got = 64;
+        }
+        struct epoll_event event = {.events = EPOLLIN, .data.u32 = i};
+        fcntl(streams[i], F_SETFL, O_NONBLOCK);
+        epoll_ctl(poll, EPOLL_CTL_ADD, streams[i], &event);
+    }
+    printf("ready %.3f\n", now() - start);
+    fflush(stdout);
+    int giver = joined(port);
+    if (recv(giver, buffer, sizeof buffer, 0) <= 0) stop("handshake");
+    static char line[60000];
+    static unsigned char frame[60016];
+    while (fgets(line, sizeof line, stdin)) {
+        line[strcspn(line, "\n")] = 0;
+        int size = framed(frame, line);
+        double from = now();
+        if (send(giver, frame, size, 0) != size) stop("send");
+        int left = count;
+        memset(seen, 0, count);
+        struct epoll_event events[1024];
+        while (left > 0 && now() - from < 10) {
+            int ready = epoll_wait(poll, events, 1024, 100);
+            double at = now();
+            for (int k = 0; k < ready; k++) {
+                int i = (int)events[k].data.u32;
+                int got = (int)recv(streams[i], buffer, sizeof buffer, 0);
+                if (got == 0) return 1;
+                if (got > 8 && !seen[i]) {
+                    seen[i] = 1;
+                    times[count - left] = (at - from) * 1e3;
+                    left--;
+                }
+            }
+        }
+        int had = count - left;
+        qsort(times, had, sizeof *times, wide);
+        printf("got %d %.2f %.2f %.2f\n", had, had ? times[had / 2] : 0, had ? times[had * 99 / 100] : 0, had ? times[had - 1] : 0);
+        fflush(stdout);
+    }
+    return 0;
+}

@@ -1,0 +1,146 @@
+//! Workers, who give connections their turns.
+
+use crate::guest::Guest;
+use crate::hall::{Errand, Hall};
+use crate::keeping::{Clerk, Keeping};
+use crate::seat::Seat;
+use crate::workers::Duty;
+use event_store::{Desk, Naming, Reader};
+use std::alloc::Global;
+use std::io::Write;
+use std::rt::Clock;
+use std::sync::Wait;
+use std::time::Instant;
+use ws_serve::Turned;
+
+/// A turn of so many milliseconds took long.
+const LONG: u128 = 100;
+
+/// Serves a hall's connections.
+#[derive(Clone, Copy)]
+pub struct Serving<'c, 'h, C, G, K, P> {
+    pub clock: &'c C,
+    pub hall: &'h Hall<G, K>,
+    pub keeping: &'h P,
+}
+
+/// Gives the connection in a seat a turn. A slow one may wait while a long text of another is read.
+fn give_turn<J: Naming, D: Wait + Drop, R: Wait, C: Clock, E: Write + Drop>(
+    rt: &R,
+    alloc: Global,
+    serving: &Serving<'_, '_, C, Guest<J>, Desk<J, D>, Keeping<J, E>>,
+    number: usize,
+    is_slow: bool,
+    reader: &mut Reader<J>,
+) {
+    let hall = serving.hall;
+    let Some(seat) = hall.seats().get(number) else {
+        return;
+    };
+    let clerk = Clerk {
+        clock: serving.clock,
+        keeping: serving.keeping,
+    };
+    let (desk, turns, limits) = (hall.desk(), hall.turns(is_slow), hall.limits());
+    seat.begin(rt);
+    let guest = seat.guest.lock(rt).take();
+    if let Some(mut guest) = guest {
+        let begun = Instant::now(serving.clock).ok();
+        let turned = guest.turn(rt, alloc, reader, desk, &clerk, turns, limits);
+        let is_long = took_long(begun, Instant::now(serving.clock).ok());
+        seat.note_slow(is_long || turned == Some(Turned::Later));
+        settle(rt, hall, seat, number, guest, turned);
+    } else {
+        hall.end_turn(rt, number, false);
+    }
+    hall.tell(rt, reader.front().len());
+}
+
+/// Whether that much time has gone by that others are not to wait for as much again.
+fn took_long(begun: Option<Instant>, ended: Option<Instant>) -> bool {
+    match (begun, ended) {
+        (Some(begun), Some(ended)) => ended.duration_since(begun).as_millis() >= LONG,
+        _ => false,
+    }
+}
+
+/// What a turn has come to is seen to.
+fn settle<R: Wait, J: Naming, K>(
+    rt: &R,
+    hall: &Hall<Guest<J>, K>,
+    seat: &Seat<Guest<J>>,
+    number: usize,
+    guest: Guest<J>,
+    turned: Option<Turned>,
+) {
+    seat.note(guest.has_subs(), guest.has_waiting());
+    match turned {
+        Some(turned) => {
+            if seat.takes_ping() {
+                guest.ping();
+            }
+            seat.put_back(rt, guest);
+            let is_ready = matches!(turned, Turned::Ready | Turned::Later);
+            hall.end_turn(rt, number, is_ready);
+        }
+        None => {
+            guest.leave();
+            hall.end_turn(rt, number, false);
+            hall.leave(rt, number);
+        }
+    }
+}
+
+/// Tells a part of the clients what was published for them.
+fn tell_part<J: Naming, R: Wait, K>(
+    rt: &R,
+    alloc: Global,
+    hall: &Hall<Guest<J>, K>,
+    part: usize,
+    reader: &mut Reader<J>,
+) {
+    let first = hall.first_of(part);
+    for (place, seat) in hall.seats_of(part).iter().enumerate() {
+        let number = first.saturating_add(place);
+        if seat.is_subscribed() && seat.is_at_hand(rt) {
+            let guest = seat.guest.lock(rt).take();
+            if let Some(mut guest) = guest {
+                let told = guest.tell(alloc, reader);
+                settle(rt, hall, seat, number, guest, told);
+            } else {
+                hall.end_turn(rt, number, false);
+            }
+        }
+    }
+}
+
+/// Does what is due.
+pub fn serve<J: Naming, D: Wait + Drop, R: Wait, C: Clock, E: Write + Drop>(
+    rt: &R,
+    alloc: Global,
+    serving: &Serving<'_, '_, C, Guest<J>, Desk<J, D>, Keeping<J, E>>,
+    errand: Errand,
+    reader: &mut Reader<J>,
+) {
+    match errand {
+        Errand::Turn(number) => give_turn(rt, alloc, serving, number, false, reader),
+        Errand::Slow(number) => {
+            give_turn(rt, alloc, serving, number, true, reader);
+            serving.hall.end_slow(rt);
+        }
+        Errand::News(part) => tell_part(rt, alloc, serving.hall, part, reader),
+    }
+}
+
+impl<'c, 'h, C: Clock, J: Naming, D: Wait + Drop, E: Write + Drop> Duty<Reader<J>>
+    for Serving<'c, 'h, C, Guest<J>, Desk<J, D>, Keeping<J, E>> {
+    fn work<R: Wait>(&self, rt: &R, alloc: Global, reader: &mut Reader<J>) {
+        self.hall.begin(rt);
+        for _ in 0..u64::MAX {
+            let Some(errand) = self.hall.next(rt) else {
+                return;
+            };
+            serve(rt, alloc, self, errand, reader);
+        }
+    }
+}

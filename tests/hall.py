@@ -1,0 +1,157 @@
+#!/usr/bin/env python3
+"""Many clients of `nostr-mirror serve` side by side, and clients that behave badly beside them.
+
+    tests/hall.py [PATH]      (PATH of the program; else the proved build)
+
+Two thousand subscribers are sent each event once. One that takes nothing of what it asked for keeps nobody waiting, costs little memory,
+and goes after `timeout_ms`. Frames may come byte by byte, in fragments, with pings between. Once the last connection has come in
+nobody gets through to a relay that won't serve him, and the job ends though a client stays that says nothing.
+"""
+import json
+import os
+import resource
+import socket
+import tempfile
+import time
+
+from conns import EVENTS, Talker, eose, gives, req, shown
+from told import program, same, settings, start, written
+from wire import Client, Gone
+
+# As many as the system gives descriptors for, on each side.
+MOST = resource.getrlimit(resource.RLIMIT_NOFILE)[1]
+SUBSCRIBERS = 2_000 if MOST == resource.RLIM_INFINITY else min(2_000, MOST - 100)
+
+
+def peak(pid):
+    """The greatest resident memory of a process so far, in MiB."""
+    with open("/proc/%d/status" % pid) as text:
+        return next(int(line.split()[1]) / 1024 for line in text if line.startswith("VmHWM"))
+
+
+def two_thousand_are_served(path, folder):
+    resource.setrlimit(resource.RLIMIT_NOFILE, (SUBSCRIBERS + 100, MOST))
+    relay, port = start(path, "serve", settings(folder, "relay", listen="127.0.0.1:0", conns=SUBSCRIBERS, clients=SUBSCRIBERS))
+    try:
+        clients = [Talker(port) for _ in range(SUBSCRIBERS)]
+        for client in clients:
+            client.send(req("s").encode())
+        for client in clients:
+            same(shown(client.read()), eose("s"))
+        giver = clients[0]
+        for number in range(1, 4):
+            giver.send(gives(number).encode())
+            same(sorted(shown(giver.read()) for _ in range(2)), ["%d true " % number, "s %d" % number])
+        for client in clients[1:]:
+            same([shown(client.read()) for _ in range(3)], ["s 1", "s 2", "s 3"])
+        # Nothing comes twice.
+        for client in clients:
+            same(client.sent_until_pong(), [])
+            client.close()
+        same(relay.communicate(timeout=60), ("served %d\nevents 3\n" % SUBSCRIBERS, ""))
+    finally:
+        relay.kill()
+        relay.communicate()
+
+
+def one_takes_nothing(path, folder):
+    """It asks for 20 MB again and again."""
+    events = [dict(EVENTS["1"])]
+    lines = os.path.join(folder, "relay.jsonl")
+    written(lines, events)
+    relay, port = start(path, "serve", settings(folder, "relay", listen="127.0.0.1:0", conns=3, timeout_ms=1_500))
+    try:
+        deaf, other = Client(port), Talker(port)
+        deaf.socket.setsockopt(socket.SOL_SOCKET, socket.SO_RCVBUF, 4_096)
+        large = json.dumps(["REQ", "a", *[{}] * 16]).encode()
+        deaf.socket.setblocking(False)
+        sent, frame = 0, Client.frame(large) * 200
+        until = time.time() + 1
+        while time.time() < until:
+            try:
+                sent += deaf.socket.send(frame)
+            except BlockingIOError:
+                time.sleep(0.01)
+                same(other.answers(req("b")), ["b 1", eose("b")])
+        same(sent > 0, True)
+        same(other.answers(gives(2)), ["2 true ", "b 2"])
+        same(peak(relay.pid) < 60, True)
+        # It has lost its place.
+        time.sleep(3)
+        deaf.socket.setblocking(True)
+        deaf.socket.settimeout(30)
+        try:
+            while deaf.socket.recv(1 << 20):
+                pass
+        except ConnectionError:
+            pass
+        same(other.answers(req("c", '{"limit":1}')), ["c 2", eose("c")])
+        other.close()
+        Client(port).socket.close()
+        same(relay.communicate(timeout=60), ("served 3\nevents 2\n", ""))
+    finally:
+        relay.kill()
+        relay.communicate()
+
+
+def frames_come_in_pieces(path, folder):
+    """Byte by byte, in fragments, with pings between, and in a message of four megabytes."""
+    relay, port = start(path, "serve", settings(folder, "relay", listen="127.0.0.1:0", conns=1))
+    try:
+        client = Talker(port)
+        for byte in Client.frame(gives(1).encode()) + Client.frame(b"", 9):
+            client.socket.sendall(bytes([byte]))
+        same([client.next(), client.next()], [(1, json.dumps(["OK", EVENTS["1"]["id"], True, ""], separators=(",", ":")).encode()), (10, b"")])
+        text = req("a").encode()
+        parts = [client.frame(text[:3], 1), client.frame(b"x", 9), client.frame(text[3:9], 0), client.frame(b"y", 9), client.frame(text[9:], 0)]
+        # All but the last are no last fragments.
+        for place in (0, 2):
+            parts[place] = bytes([parts[place][0] & 0x7F]) + parts[place][1:]
+        client.socket.sendall(b"".join(parts))
+        same(client.next(), (10, b"x"))
+        same(client.next(), (10, b"y"))
+        same([shown(client.read()) for _ in range(2)], ["a 1", eose("a")])
+        client.send(b'["' + b"a" * 4_190_000 + b'"]')
+        same(shown(client.read()), '["NOTICE","invalid: message too long"]')
+        client.close()
+        same(relay.communicate(timeout=60), ("served 1\nevents 1\n", ""))
+    finally:
+        relay.kill()
+        relay.communicate()
+
+
+def nobody_comes_to_a_deaf_relay(path, folder):
+    """Behind the last connection the relay doesn't listen any more, and it ends once that client has said nothing for `timeout_ms`."""
+    relay, port = start(path, "serve", settings(folder, "relay", listen="127.0.0.1:0", conns=2, timeout_ms=1_000))
+    try:
+        first, last = Talker(port), Talker(port)
+        same(first.answers(req("a")), [eose("a")])
+        same(last.answers(req("a")), [eose("a")])
+        time.sleep(0.5)
+        try:
+            socket.create_connection(("127.0.0.1", port), timeout=5)
+            raise AssertionError("it still listens")
+        except ConnectionRefusedError:
+            pass
+        first.close()
+        same(relay.communicate(timeout=30), ("served 2\nevents 0\n", ""))
+        try:
+            last.read()
+            raise AssertionError("it is still connected")
+        except (Gone, ConnectionError):
+            pass
+    finally:
+        relay.kill()
+        relay.communicate()
+
+
+def main():
+    path = program()
+    for part in (two_thousand_are_served, one_takes_nothing, frames_come_in_pieces, nobody_comes_to_a_deaf_relay):
+        with tempfile.TemporaryDirectory() as folder:
+            part(path, folder)
+        print(part.__name__.replace("_", " "))
+
+
+if __name__ == "__main__":
+    main()
