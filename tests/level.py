@@ -5,12 +5,15 @@
 
 A relay that is down comes back, and is level a pass later. From nothing, 250,000 events come from one relay, and 550,000 from
 three, each of them once. A relay lists 300,000 ids that don't exist, beside two honest ones, from which all comes. One refuses to
-compare more than a part of its events. A mirror is killed in the middle of a pass, and the next needs only the rest. A relay that
-is level is subscribed to. One has 256 relays. `--small` has a hundredth of the events.
+compare more than a part of its events. A mirror is killed in the middle of a pass, and the next needs only the rest. One has 256
+relays. Relays that are level are subscribed to: what they get is here at once; one that ends its subscription is subscribed to again
+behind the next pass, one that is silent is pinged, and what nobody asked for, what is no event, and what never ends does no harm.
+`--small` has a hundredth of the events.
 """
 import argparse
 import json
 import os
+import queue
 import re
 import signal
 import socket
@@ -20,12 +23,9 @@ import tempfile
 import threading
 import time
 
-from played import Connection, Played, Server, gives_of, listing, varint
-from told import begin, by_id, comes_to_have, event, line_of, program, read, same, settings, start, written
+from played import Connection, Played, Server, gives_of, holds, listing, varint
+from told import (STAMP, begin, by_id, comes_to_have, event, line_of, passes, program, read, same, settings, start, written)
 from wire import Client, Gone
-
-STAMP = r"\d{4}-\d\d-\d\dT\d\d:\d\d:\d\dZ "
-PASS = re.compile(STAMP + r"pass (\d+) relays (\d+)/(\d+) need (\d+) given (\d+) missed (\d+) left (\d+) ms \d+\n")
 
 
 def plain(line):
@@ -33,11 +33,6 @@ def plain(line):
     if not re.match(STAMP, line):
         raise SystemExit("no time stands in front of %r" % line)
     return line.split(" ", 1)[1].rstrip("\n")
-
-
-def passes(lines):
-    """The numbers of the passes that lines tell: level relays, all relays, and what became of the ids."""
-    return [tuple(map(int, found.groups()[1:])) for found in map(PASS.fullmatch, lines) if found]
 
 
 def mirrored(path, conf, *words, timeout=600):
@@ -250,32 +245,185 @@ def put(client, new):
     same(json.loads(client.read()), ["OK", new["id"], True, ""])
 
 
-def level_relays_are_subscribed_to(path, folder):
-    """A new event is here before the next pass, and a client of the mirror is sent it."""
-    theirs, now = many(10), int(time.time())
-    one, port = serving(path, folder, "one", theirs)
-    conf = settings(folder, "mirror", relays=["127.0.0.1:%d" % port], every_ms=600_000, listen="127.0.0.1:0", conns=10)
-    mirror, own = start(path, "mirror", conf)
-    lines_until(mirror, " pass 1 ")
-    client = Client(own)
+def soon(began):
+    if time.monotonic() > began + 2:
+        raise SystemExit("it took %.1f seconds" % (time.monotonic() - began))
+
+
+def follows(port):
+    """A client that is sent what is new."""
+    client = Client(port)
+    client.socket.settimeout(20)
     client.send(b'["REQ","new",{"limit":0}]')
     same(json.loads(client.read()), ["EOSE", "new"])
-    giver = Client(port)
-    fresh = [event(now + n, "fresh") for n in range(5)]
-    # A subscription is made within a second of the pass.
-    time.sleep(1)
+    return client
+
+
+def level_relays_are_subscribed_to(path, folder, entries):
+    """A new event is here at once, once, and so it is at a client of the mirror. A relay stands in so many entries."""
+    theirs = many(10)
+    one, port = serving(path, folder, "one", theirs, push_ms=100)
+    conf = settings(folder, "mirror", relays=["127.0.0.1:%d" % port] * entries, every_ms=3_600_000, listen="127.0.0.1:0", push_ms=100)
+    mirror, own = start(path, "mirror", conf)
+    lines_until(mirror, " pass 1 ")
+    client, giver = follows(own), Client(port)
+    fresh = [event(int(time.time()) + n, "fresh") for n in range(5)]
     for it in fresh:
+        began = time.monotonic()
         put(giver, it)
-    same([json.loads(client.read())[2] for _ in fresh], fresh)
+        same(json.loads(client.read()), ["EVENT", "new", it])
+        soon(began)
     comes_to_have(os.path.join(folder, "mirror.jsonl"), theirs + fresh)
+    soon(began)
     giver.close()
     client.close()
     killed(mirror, one)
 
 
+class Level(Server):
+    """A relay that holds these events, and hands the connections that subscribe to a test, with what they ask for."""
+
+    def __init__(self, events):
+        self.answer, self.live = holds(events), queue.Queue()
+        super().__init__(self.serve)
+
+    def serve(self, stream):
+        try:
+            connection = Connection(stream)
+            while True:
+                asked = json.loads(connection.read())
+                if asked[:2] == ["REQ", "live"]:
+                    self.live.put((connection, asked))
+                    return
+                self.answer(connection, asked)
+        except (Gone, OSError):
+            stream.close()
+
+    def subscriber(self):
+        return self.live.get(timeout=20)
+
+
+def frame_of(connection):
+    """The opcode and the masked payload of a short frame of a mirror."""
+    first, second = connection.take(2)
+    mask = connection.take(4)
+    return first & 15, bytes(byte ^ mask[i % 4] for i, byte in enumerate(connection.take(second & 127)))
+
+
+def a_subscription_is_made_again(path, folder):
+    """It asks for what the filter matches from the pass's begin on. Once it has ended, the next pass makes one."""
+    theirs, began = many(10), int(time.time())
+    kept = os.path.join(folder, "mirror.jsonl")
+    with Level(theirs) as relay:
+        conf = settings(folder, "mirror", relays=[relay.at], every_ms=1000, filter='{"kinds":[1],"until":%d}' % (began + 1000))
+        mirror = begin(path, "mirror", conf)
+        fresh = []
+        for turn in range(3):
+            connection, asked = relay.subscriber()
+            same([asked[2].pop("since") in range(began, int(time.time()) + 1), asked[2:]], [True, [{"kinds": [1], "until": began + 1000}]])
+            fresh.append(event(int(time.time()), "turn %d" % turn))
+            connection.say(["EVENT", "live", fresh[-1]])
+            comes_to_have(kept, theirs + fresh)
+            connection.socket.close()
+        killed(mirror)
+
+
+def live_is_left_out(path, folder):
+    with Level(many(10)) as relay:
+        status, lines, _ = mirrored(path, settings(folder, "mirror", relays=[relay.at], every_ms=500, passes=2, live=False))
+        same((status, [it[:2] for it in passes(lines)], relay.live.qsize()), (0, [(1, 1), (1, 1)], 0))
+
+
+def says(*values):
+    """Says so, and then nothing more."""
+    return lambda connection: connection.say(*values)
+
+
+def odd(wanted, now):
+    """What a relay sends that is subscribed to, and what is told of it then."""
+    others = [dict(event(now, "wrong"), id=wanted["id"]), {"id": wanted["id"]}, event(5, "old"), event(now, "a reaction", 7)]
+    unasked = [["EVENT", "live", it] for it in others] + [["EVENT", "else", wanted], ["EOSE", "else"], ["EOSE", "live"]]
+    return [(says(*unasked, ["EVENT", "live", wanted]), "1 live events, 6 messages dropped: closed"),
+            (says(*[["EVENT", "live", others[2]]] * 1500), "0 live events, 1000 messages dropped: too many other messages"),
+            (lambda connection: connection.send(b"hello"), "0 live events, 0 messages dropped: no valid message"),
+            (lambda connection: connection.socket.sendall(connection.frame(b"[]", 0x71)),
+             "0 live events, 0 messages dropped: no valid message"),
+            (lambda connection: connection.send(b" " * 10_000_000), "0 live events, 0 messages dropped: message too long"),
+            (says(["CLOSED", "live", "who are you?"]), "0 live events, 0 messages dropped: CLOSED who are you?"),
+            (lambda connection: connection.socket.close(), "0 live events, 0 messages dropped: closed"),
+            (drips_on, "0 live events, 0 messages dropped: closed")]
+
+
+def drips_on(connection):
+    """A message that never ends, a byte now and then."""
+    connection.socket.sendall(b"\x81\x7e\xff\xff")
+    while True:
+        connection.socket.sendall(b"x")
+        time.sleep(0.05)
+
+
+def sent(does, connection):
+    try:
+        does(connection)
+    except (Gone, OSError):
+        pass
+
+
+def odd_relays_do_no_harm(path, folder):
+    """What an honest relay gets comes all the same, nothing else is taken, and the mirror ends."""
+    now = int(time.time()) + 2
+    theirs, wanted, fresh = many(10), event(now, "wanted"), event(now, "fresh")
+    one, port = serving(path, folder, "one", theirs, push_ms=100)
+    oddities = odd(wanted, now)
+    relays = [Level([]) for _ in oddities]
+    at = [it.at for it in relays] + ["127.0.0.1:%d" % port]
+    conf = settings(folder, "mirror", relays=at, every_ms=4000, passes=2, filter='{"kinds":[1]}', timeout_ms=20_000)
+    mirror = begin(path, "mirror", conf, "--progress")
+    for relay, (does, _why) in zip(relays, oddities):
+        threading.Thread(target=sent, args=(does, relay.subscriber()[0]), daemon=True).start()
+    giver = Client(port)
+    put(giver, fresh)
+    giver.close()
+    comes_to_have(os.path.join(folder, "mirror.jsonl"), theirs + [wanted, fresh])
+    lines_until(mirror, " pass 2 ")
+    began = time.monotonic()
+    _, told = mirror.communicate(timeout=20)
+    soon(began)
+    told = told.splitlines()
+    same([line for line in ("relay %d %s: %s" % (n, relays[n].at, why) for n, (_, why) in enumerate(oddities)) if line not in told], [])
+    same(mirror.returncode, 0)
+    same(by_id(read(os.path.join(folder, "mirror.jsonl"))), by_id(theirs + [wanted, fresh]))
+    killed(one)
+
+
+def silence_is_no_fault(path, folder):
+    """A relay that answers pings is waited for, and its pings are answered. One that is gone is let go."""
+    kept, now = os.path.join(folder, "mirror.jsonl"), int(time.time()) + 10
+    with Level([]) as relay:
+        conf = settings(folder, "mirror", relays=[relay.at], every_ms=20_000, passes=2, timeout_ms=700)
+        mirror = begin(path, "mirror", conf, "--progress")
+        connection, _ = relay.subscriber()
+        connection.socket.settimeout(20)
+        for _ in range(3):
+            same(frame_of(connection), (9, b""))
+            connection.socket.sendall(connection.frame(b"", 10))
+        connection.socket.sendall(connection.frame(b"there?", 9))
+        same(frame_of(connection), (10, b"there?"))
+        fresh = event(now, "fresh")
+        connection.say(["EVENT", "live", fresh])
+        comes_to_have(kept, [fresh])
+        same(frame_of(connection), (9, b""))
+        began = time.monotonic()
+        try:
+            frame_of(connection)
+            raise SystemExit("it waits for a relay that is gone")
+        except (Gone, OSError):
+            soon(began)
+        killed(mirror)
+
+
 def serves_without_relays(path, folder):
-    conf = settings(folder, "mirror", listen="127.0.0.1:0", relays=[])
-    mirror, own = start(path, "mirror", conf)
+    mirror, own = start(path, "mirror", settings(folder, "mirror", listen="127.0.0.1:0"))
     client = Client(own)
     client.send(b'["REQ","all",{}]')
     same(json.loads(client.read()), ["EOSE", "all"])
@@ -307,8 +455,10 @@ def main():
     given = words.parse_args()
     path = program([given.path] if given.path else [])
     scale = 100 if given.small else 1
-    tests = [a_relay_comes_back, level_relays_need_nothing, slices_get_past_a_refusal, filters_bound_the_slices,
+    tests = [serves_without_relays, a_relay_comes_back, level_relays_need_nothing, slices_get_past_a_refusal, filters_bound_the_slices,
              lambda *at: a_liar_spoils_nothing(*at, 300_000), lambda *at: a_kill_loses_nothing(*at, 3),
+             lambda *at: level_relays_are_subscribed_to(*at, 1), lambda *at: level_relays_are_subscribed_to(*at, 256),
+             a_subscription_is_made_again, live_is_left_out, odd_relays_do_no_harm, silence_is_no_fault,
              many_relays_are_level, lambda *at: all_comes_once(*at, [many(250_000 // scale)]),
              lambda *at: all_comes_once(*at, three_of(550_000 // scale))]
     for test in tests:

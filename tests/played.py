@@ -76,6 +76,17 @@ def lists(ids, gives):
     return answer
 
 
+def holds(events):
+    """A relay that lists those of these events that a filter's times take in, and gives those that it is asked for."""
+    def answer(connection, asked):
+        found = events
+        if asked[0] == "NEG-OPEN":
+            since, until = asked[2].get("since", 0), asked[2].get("until", 1 << 64)
+            found = [it for it in events if since <= it["created_at"] <= until]
+        lists([it["id"] for it in found], gives_of(events))(connection, asked)
+    return answer
+
+
 def gives_none(connection, sub, _ids):
     connection.say(["EOSE", sub])
 

@@ -1,20 +1,21 @@
 #!/usr/bin/env python3
-"""Runs `nostr-mirror sync` over relays that do what no honest relay does, and one that is honest.
+"""Runs `nostr-mirror sync` and `nostr-mirror mirror` over relays that do what no honest relay does, and one that is honest.
 
     tests/relays.py [PATH] [--runs N]      (PATH of the program; else the proved build)
 
 One says something else for ever, one answers each question by a fingerprint that equals none, one lists ids that it never gives,
 one gives other events and events whose ids are wrong, one closes in the middle of what it gives; one sends a text of 10 MB,
 one a frame and one a message that never ends; one doesn't shake hands. The honest relay's events have to come all the same, and no
-others but those that were asked for with right ids; the mirror's file has to be whole, and its memory within a bound.
+others but those that were asked for with right ids; the mirror's file has to be whole, and its memory within a bound. That is tried
+of `sync`, and the rest of both, of `mirror` in one pass.
 
 A relay gives 60 events of 1 MB that nobody asked for.
 
 Then two relays have the same events, and one of them, the first or the second, refuses to give any, is cut after a megabyte, drips
 or says nothing: what it was to give comes from the other in the next round, and `--progress` says why it failed. An id that only
 the one that fails has stays with it. One that drips as fast as `slow_bytes` asks is waited for. Where a session fails, where all
-relays are down, and where one can't be reached, the reason is told too, and `--strict` ends with status 3. Last, a handshake names
-the host and the path that the settings name.
+relays are down, and where one can't be reached, the reason is told too, and `sync --strict` ends with status 3, as `mirror` does
+without it. Last, a handshake names the host and the path that the settings name.
 """
 import argparse
 import json
@@ -27,8 +28,8 @@ import time
 from concurrent.futures import ThreadPoolExecutor
 from functools import partial
 
-from played import (Played, Server, answered, closes, cut_after, drips, gives_none, gives_of, listing, lists, unavailable)
-from told import ROOT, begin, by_id, event, read, same, settings, start, written
+from played import (Played, Server, answered, closes, cut_after, drips, gives_none, gives_of, holds, listing, lists, unavailable)
+from told import ROOT, begin, by_id, event, passes, read, same, settings, start, written
 from wire import Gone
 
 # No run takes more MiB than this.
@@ -135,7 +136,36 @@ def meet(rng, path, folder):
     return memory
 
 
-def gives_unasked(path, folder):
+class Job:
+    """A job that a test runs over relays. It has no events before, and ends by itself."""
+
+    def __init__(self, name, *words, **values):
+        self.name, self.words, self.values = name, words, values
+
+    def begun(self, folder, relays, path, *words, **values):
+        conf = settings(folder, "mirror", relays=relays, **self.values, **values)
+        kept = os.path.join(folder, "mirror.jsonl")
+        if os.path.exists(kept):
+            os.remove(kept)
+        return begin(path, self.name, conf, *self.words, *words), kept
+
+    def counts(self, out):
+        """How many ids were given, how many missed and how many are left, by what the job tells."""
+        if self.name == "mirror":
+            return passes(out.splitlines(keepends=True))[-1][-3:]
+        return tuple(int(line.split()[1]) for line in out.splitlines()[-3:])
+
+    def ran(self, folder, relays, path, **values):
+        """What became of ids, what was told of relays, the status and the events that came."""
+        child, kept = self.begun(folder, relays, path, "--progress", **values)
+        out, told = child.communicate(timeout=120)
+        return self.counts(out), told.splitlines(), child.returncode, read(kept)
+
+
+JOBS = (Job("sync", "--strict"), Job("mirror", passes=1))
+
+
+def gives_unasked(job, path, folder):
     wanted = event(6000, "asked for")
     others = [json.dumps(event(7000 + n, "x" * 1_000_000)).encode() for n in range(60)]
 
@@ -143,12 +173,12 @@ def gives_unasked(path, folder):
         for other in others:
             connection.send(b'["EVENT","' + sub.encode() + b'",' + other + b"]")
         connection.say(["EVENT", sub, wanted], ["EOSE", sub])
-    conf = settings(folder, "mirror", relays=[Played(lists([wanted["id"]], gives)).at])
-    out, errors, status, memory = waited(begin(path, "sync", conf))
-    same([out.splitlines()[-3:], errors, status], [["given 1", "missed 0", "left 0"], "", 0])
-    same(read(os.path.join(folder, "mirror.jsonl")), [wanted])
+    child, kept = job.begun(folder, [Played(lists([wanted["id"]], gives)).at], path)
+    out, errors, status, memory = waited(child)
+    same([job.counts(out), errors, status], [(1, 0, 0), "", 0])
+    same(read(kept), [wanted])
     if memory > UNASKED:
-        raise SystemExit("sync took %.0f MiB for events that nobody asked for" % memory)
+        raise SystemExit("%s took %.0f MiB for events that nobody asked for" % (job.name, memory))
     return memory
 
 
@@ -213,30 +243,19 @@ REFUSED = [(unavailable, "status 503"), (shakes_no_hands, "no WebSocket handshak
            (lambda stream: stream.recv(1 << 16) and stream.recv(1), "timed out")]
 
 
-def synced(path, folder, relays, *words, **values):
-    """What a mirror without events of its own tells of a sync with these relays, its reasons, its status and its events."""
-    conf = settings(folder, "mirror", relays=relays, **values)
-    kept = os.path.join(folder, "mirror.jsonl")
-    if os.path.exists(kept):
-        os.remove(kept)
-    child = begin(path, "sync", conf, "--progress", *words)
-    out, told = child.communicate(timeout=120)
-    return out.splitlines(), told.splitlines(), child.returncode, read(kept)
-
-
 def twins_of(place, one, other):
     """Two relays, of which the one is at this place."""
     twins = [other, one] if place else [one, other]
     return twins, [it.at for it in twins]
 
 
-def fails_over(refuses, why, place, alone, path, folder):
+def fails_over(refuses, why, place, alone, job, path, folder):
     both = [event(3000 + n, "of both") for n in range(40)]
     ids = [it["id"] for it in both]
     refusing = Played(lists(ids + [it["id"] for it in alone], refuses), refuses is None)
     _twins, at = twins_of(place, refusing, Played(lists(ids, gives_of(both))))
-    out, told, status, kept = synced(path, folder, at, "--strict", rounds=2, timeout_ms=1000)
-    same(out[-3:], ["given 40", "missed 0", "left %d" % len(alone)])
+    counts, told, status, kept = job.ran(folder, at, path, rounds=2, timeout_ms=1000)
+    same(counts, (40, 0, len(alone)))
     same(by_id(kept), by_id(both))
     same(["relay %d %s: %s" % (place, refusing.at, why) in told, status], [True, 3])
     # In the second round it is asked for no more than what it alone has, and isn't connected to where that is nothing.
@@ -244,60 +263,64 @@ def fails_over(refuses, why, place, alone, path, folder):
     same(refusing.fetched()[1:], again if alone else [])
 
 
-def is_cut(place, path, folder):
+def is_cut(place, job, path, folder):
     both = [event(3000 + n, "of both" * 200) for n in range(2000)]
     ids = [it["id"] for it in both]
     cut = Played(lists(ids, cut_after(both, 1_000_000)))
     _twins, at = twins_of(place, cut, Played(lists(ids, gives_of(both))))
-    out, told, status, kept = synced(path, folder, at, "--strict", rounds=2)
-    same(out[-3:], ["given 2000", "missed 0", "left 0"])
+    counts, told, status, kept = job.ran(folder, at, path, rounds=2)
+    same(counts, (2000, 0, 0))
     same(by_id(kept), by_id(both))
     same(["relay %d %s: closed" % (place, cut.at) in told, status], [True, 3])
     same(len(cut.asked), 2)
 
 
-def is_too_slow(is_silent, place, path, folder):
+def is_too_slow(is_silent, place, job, path, folder):
     both = [event(3000 + n, "x" * 1000) for n in range(60)]
     ids = [it["id"] for it in both]
     slow = Played(lists(ids, says_nothing if is_silent else drips(both, 1000)))
     _twins, at = twins_of(place, slow, Played(lists(ids, gives_of(both))))
     begun = time.monotonic()
-    out, told, status, kept = synced(path, folder, at, "--strict", rounds=2)
+    counts, told, status, kept = job.ran(folder, at, path, rounds=2)
     took = time.monotonic() - begun
-    same(out[-3:], ["given 60", "missed 0", "left 0"])
+    same(counts, (60, 0, 0))
     same(by_id(kept), by_id(both))
     same(["relay %d %s: too slow" % (place, slow.at) in told, status], [True, 3])
     if not 9.5 < took < 20:
         raise SystemExit("a relay that brings too little was waited for %.1f seconds" % took)
 
 
-def is_slow_enough(path, folder):
+def is_slow_enough(job, path, folder):
     some = [event(3000 + n, "x" * 1000) for n in range(10)]
     slow = Played(lists([it["id"] for it in some], drips(some, 1000)))
     begun = time.monotonic()
-    out, _told, status, kept = synced(path, folder, [slow.at], "--strict", slow_bytes=500)
-    same([out[-3:], status, by_id(kept)], [["given 10", "missed 0", "left 0"], 0, by_id(some)])
+    counts, _told, status, kept = job.ran(folder, [slow.at], path, slow_bytes=500)
+    same([counts, status, by_id(kept)], [(10, 0, 0), 0, by_id(some)])
     if time.monotonic() - begun < 11:
         raise SystemExit("the relay that drips took too little time to show anything")
 
 
-def tells_reasons(path, folder):
+def tells_reasons(job, path, folder):
     some = [event(5000, "of one that is up")]
-    up = Played(lists([some[0]["id"]], gives_of(some)))
+    up = Played(holds(some))
     nobody = Server(None)
     nobody.__exit__()
     relays = [Server(serve) for serve, _why in REFUSED] + [Played(answer) for answer, _why in FAULTS] + [nobody]
     # No name has so many letters, and no stream goes to all.
     at = [it.at for it in relays] + ["x" * 64 + ":80", "255.255.255.255:80", up.at]
     whys = [why for _does, why in REFUSED + FAULTS] + ["connection refused", "no such host", "host unreachable"]
-    out, told, status, kept = synced(path, folder, at, "--strict", timeout_ms=2000)
+    counts, told, status, kept = job.ran(folder, at, path, timeout_ms=2000)
     wanted = ["relay %d %s: %s" % it for it in zip(range(len(whys)), at, whys)]
     same([line for line in wanted if line not in told], [])
-    same([out[-3:], status, kept], [["given 1", "missed 0", "left 0"], 3, some])
-    same(sum(": " in line for line in told), len(wanted))
+    same([counts, status, kept], [(1, 0, 0), 3, some])
+    told = [line for line in told if ": " in line]
+    if job.name == "mirror":
+        # Those that refuse too much are asked for less and less.
+        told = set(told)
+    same(len(told), len(wanted))
 
 
-def is_named(path, folder):
+def is_named(job, path, folder):
     some, named = event(5000, "of one that is named"), []
     answer = lists([some["id"]], gives_of([some]))
 
@@ -309,20 +332,27 @@ def is_named(path, folder):
     for entry, wanted in ((at, ("/", at)), ("ws://" + at, ("/", at)), ("ws://%s/a/b?c=d" % at, ("/a/b?c=d", at)),
                           ({"host": "relay.example.com", "path": "/a?b", "via": at}, ("/a?b", "relay.example.com")),
                           ({"host": "relay.example.com:8080", "via": at}, ("/", "relay.example.com:8080"))):
-        same(synced(path, folder, [entry], "--strict")[2:], (0, [some]))
+        same(job.ran(folder, [entry], path)[2:], (0, [some]))
         # Of the session and of the fetching.
         same(named, [wanted] * 2)
         named.clear()
 
 
-def all_are_down(path, folder):
+def all_are_down(job, path, folder):
     up, nobody = Played(lists([], gives_none)), Server(None)
     nobody.__exit__()
-    for relays, words, wanted in (([nobody], [], 0), ([nobody], ["--strict"], 3), ([nobody, nobody], ["--strict"], 3),
-                                  ([nobody, up], [], 0), ([nobody, up], ["--strict"], 3), ([up], ["--strict"], 0)):
-        out, _told, status, kept = synced(path, folder, [it.at for it in relays], *words, rounds=3)
-        same([out[0] == "relay 0 failed 1", out[-3:], status, kept],
-             [nobody in relays, ["given 0", "missed 0", "left 0"], wanted, []])
+    for relays, wanted in (([nobody], 3), ([nobody, nobody], 3), ([nobody, up], 3), ([up], 0)):
+        counts, told, status, kept = job.ran(folder, [it.at for it in relays], path, rounds=3)
+        same([counts, "relay 0 failed 1" in told, status, kept], [(0, 0, 0), nobody in relays, wanted, []])
+
+
+def is_not_strict(path, folder):
+    """Without that word `sync` ends with status 0, whatever relays failed."""
+    up, nobody = Played(lists([], gives_none)), Server(None)
+    nobody.__exit__()
+    for relays in ([nobody], [nobody, up]):
+        counts, told, status, _kept = Job("sync").ran(folder, [it.at for it in relays], path)
+        same([counts, "relay 0 failed 1" in told, status], [(0, 0, 0), True, 0])
 
 
 def in_folder(meets, path):
@@ -347,9 +377,10 @@ def main():
     parts = [is_slow_enough] + [partial(is_too_slow, silent, place) for silent in (0, 1) for place in (0, 1)]
     parts += [tells_reasons, all_are_down, is_named] + [partial(is_cut, place) for place in (0, 1)]
     parts += [partial(fails_over, *refusal, place, it) for refusal in REFUSALS for place in (0, 1) for it in ([], [alone])]
+    parts = [partial(part, job) for part in parts for job in JOBS] + [is_not_strict]
     for _ in range(options.runs):
         memory = in_folder(partial(meet, rng), path)
-        took = in_folder(gives_unasked, path)
+        took = max(in_folder(partial(gives_unasked, job), path) for job in JOBS)
         side_by_side(parts, path)
         print("as wanted, %.0f MiB, and %.0f MiB for what nobody asked for" % (memory, took), flush=True)
 

@@ -3,6 +3,7 @@ import atexit
 import hashlib
 import json
 import os
+import re
 import subprocess
 import sys
 import time
@@ -17,11 +18,21 @@ def program(words=None, name="mirror_app"):
     return os.path.abspath(given[0] if given else os.path.join(ROOT, "crates", name, "out", name))
 
 
-def event(time, content):
+# A line of a mirror that tells what a pass came to.
+STAMP = r"\d{4}-\d\d-\d\dT\d\d:\d\d:\d\dZ "
+PASS = re.compile(STAMP + r"pass (\d+) relays (\d+)/(\d+) need (\d+) given (\d+) missed (\d+) left (\d+) ms \d+\n")
+
+
+def passes(lines):
+    """The numbers of the passes that lines tell: level relays, all relays, and what became of the ids."""
+    return [tuple(map(int, found.groups()[1:])) for found in map(PASS.fullmatch, lines) if found]
+
+
+def event(time, content, kind=1):
     """An event with a right id. Nobody checks its signature."""
-    draft = [0, "11" * 32, time, 1, [["t", "test"]], content]
+    draft = [0, "11" * 32, time, kind, [["t", "test"]], content]
     text = json.dumps(draft, ensure_ascii=False, separators=(",", ":"))
-    return {"id": hashlib.sha256(text.encode()).hexdigest(), "pubkey": draft[1], "created_at": time, "kind": 1,
+    return {"id": hashlib.sha256(text.encode()).hexdigest(), "pubkey": draft[1], "created_at": time, "kind": kind,
             "tags": draft[4], "content": content, "sig": "22" * 64}
 
 

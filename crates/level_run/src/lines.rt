@@ -125,12 +125,7 @@ fn stamp<C: Clock>(clock: &C, alloc: Global) -> Result<String, AllocError> {
 }
 
 /// Tells a text in a line, with a time in front.
-fn say_line<W: Write>(
-    alloc: Global,
-    writer: &mut W,
-    stamp: &str,
-    text: &str,
-) -> Result<(), Refusal>
+fn say_line<W: Write>(alloc: Global, writer: &mut W, stamp: &str, text: &str) -> Result<(), Refusal>
     ensures { OnOk result (Appends (W.contents writer.old) (W.contents writer.new) (line_of stamp.now text.now)) }
 {
     let line = format!(in alloc; "{stamp} {text}\n")?;

@@ -199,6 +199,17 @@ impl Roster {
         count
     }
 
+    /// The relays that are level.
+    pub fn levels(&self) -> RelaySet {
+        let mut levels = RelaySet::empty();
+        for at in 0..self.each.len() {
+            if at < 256 && self.each[at].state == State::Level {
+                levels = levels.with(at as u16);
+            }
+        }
+        levels
+    }
+
     /// Whether a relay failed in this pass.
     pub fn has_failed(&self) -> bool {
         self.has_failed

@@ -5,12 +5,14 @@ ghost use Rattle.std.specs.Thread.{IsSend};
 ghost use Rattle.level_run.specs.Passes.{Told, TellsPass, TellsPasses};
 
 use crate::lines::{PassLine, say_pass, seconds_now};
+use crate::live::listen_beside;
 use crate::pass::run_pass;
 use crate::roster::Roster;
+use crate::wishes::Wishes;
 use event_store::{Blank, Desk, Naming, Reader, open_store};
 use mirror_settings::{Job, Settings, SettingsKey, read_settings, unknown_keys};
 use serve_run::{
-    Hall, Keeping, Refusal, begin, keep_beside, keep_meanwhile, keeping_of, open_hall,
+    Guest, Hall, Keeping, Refusal, begin, keep_in_hall, keep_meanwhile, keeping_of, open_hall,
     readers_for, serve_beside,
 };
 use std::alloc::Global;
@@ -67,6 +69,7 @@ fn one_pass<
     alloc: Global,
     settings: &Settings,
     pass: u64,
+    now: u64,
     roster: &mut Roster,
     reader: &mut Reader<J>,
     desk: &Mutex<Desk<J, D>>,
@@ -78,16 +81,7 @@ fn one_pass<
 {
     let began = Instant::now(rt).ok();
     let tally = run_pass(
-        rt,
-        alloc,
-        settings,
-        seconds_now(rt),
-        roster,
-        reader,
-        desk,
-        keeping,
-        writer,
-        progress,
+        rt, alloc, settings, now, roster, reader, desk, keeping, writer, progress,
     )?;
     let line = PassLine {
         pass,
@@ -109,20 +103,87 @@ fn wait<J: Naming, R: Wait + Clock, E: Write + Drop>(
     line: &PassLine,
     keeping: &Keeping<J, E>,
 ) {
-    keeping.tick(rt);
+    let _ = keeping.tick(rt);
     if line.tally.left > 0 && roster.has_failed() {
         return;
     }
     let rest = settings.mirroring.every_ms.saturating_sub(line.millis);
     for _ in 0..rest / TICK {
         sleep(rt, Duration::from_millis(TICK));
-        keeping.tick(rt);
+        let _ = keeping.tick(rt);
     }
     sleep(rt, Duration::from_millis(rest % TICK));
 }
 
-/// Goes on in passes, up to as many as the settings say, and tells whether the last one left something or a relay isn't level.
+/// Goes on in passes, up to as many as the settings say, and tells whether the last one left something or a relay isn't level. Behind
+/// each but the last, the relays that are level are to be subscribed to.
 fn run_passes<
+    J: Naming + Send + Sync,
+    D: Wait + Drop + Send + Sync,
+    R: Net<Listener = TcpListener, Stream = TcpStream>
+        + RandomSource
+        + Threads
+        + Wait
+        + Clock
+        + Sync,
+    W: Write,
+    P: Write + Send,
+    E: Write + Send + Drop,
+>(
+    rt: &R,
+    alloc: Global,
+    settings: &Settings,
+    reader: &mut Reader<J>,
+    desk: &Mutex<Desk<J, D>>,
+    keeping: &Keeping<J, E>,
+    wishes: &Wishes,
+    writer: &mut W,
+    progress: &Progress<P>,
+) -> Result<bool, Refusal>
+    ensures { IfOk result (TellsPasses settings.now (W.contents writer.old) (W.contents writer.new)) }
+{
+    let relays = settings.relays.as_slice().len();
+    let mut roster = Roster::new(alloc, relays, settings.mirroring.every_ms)?;
+    let started = Instant::now(rt).ok();
+    let most = settings.mirroring.passes.unwrap_or(u64::MAX);
+    let mut is_last_short = false;
+    for number in 0..most {
+        roster.begin(millis_since(rt, started));
+        let now = seconds_now(rt);
+        let pass = number.saturating_add(1);
+        let line = one_pass(
+            rt,
+            alloc,
+            settings,
+            pass,
+            now,
+            &mut roster,
+            reader,
+            desk,
+            keeping,
+            writer,
+            progress,
+        )?;
+        is_last_short = is_short(&line);
+        if pass < most {
+            wishes.wish(rt, roster.levels(), now);
+            wait(rt, settings, &roster, &line, keeping);
+        }
+    }
+    Ok(is_last_short)
+}
+
+/// How many relays may be subscribed to: all, or none where that isn't wanted or there is but one pass.
+fn listeners(settings: &Settings) -> usize {
+    if settings.mirroring.live && settings.mirroring.passes != Some(1) {
+        settings.relays.as_slice().len()
+    } else {
+        0
+    }
+}
+
+/// Goes on in passes, and subscribes to relays that are level meanwhile.
+fn run_live<
     J: Naming + Send + Sync,
     D: Wait + Drop + Send + Sync,
     R: Net<Listener = TcpListener, Stream = TcpStream>
@@ -146,32 +207,25 @@ fn run_passes<
 ) -> Result<bool, Refusal>
     ensures { IfOk result (TellsPasses settings.now (W.contents writer.old) (W.contents writer.new)) }
 {
-    let relays = settings.relays.as_slice().len();
-    let mut roster = Roster::new(alloc, relays, settings.mirroring.every_ms)?;
-    let started = Instant::now(rt).ok();
-    let most = settings.mirroring.passes.unwrap_or(u64::MAX);
-    let mut is_last_short = false;
-    for number in 0..most {
-        roster.begin(millis_since(rt, started));
-        let pass = number.saturating_add(1);
-        let line = one_pass(
-            rt,
-            alloc,
-            settings,
-            pass,
-            &mut roster,
-            reader,
-            desk,
-            keeping,
-            writer,
-            progress,
-        )?;
-        is_last_short = is_short(&line);
-        if pass < most {
-            wait(rt, settings, &roster, &line, keeping);
-        }
-    }
-    Ok(is_last_short)
+    let wishes = Wishes::new(alloc, listeners(settings))?;
+    listen_beside(
+        rt,
+        alloc,
+        settings,
+        &wishes,
+        desk,
+        progress,
+        &mut ||
+            requires { IsSend J.row × IsSend D.row × IsSend P.row }
+            ensures { IfOk result (TellsPasses settings.entry.now (W.contents writer.entry.now) (W.contents writer.exit.now)) }
+        {
+            let ran = run_passes(
+                rt, alloc, settings, reader, desk, keeping, &wishes, writer, progress,
+            );
+            wishes.end(rt);
+            ran
+        },
+    )
 }
 
 /// Does the job over a store that isn't served. The desk is there until all is written.
@@ -202,7 +256,9 @@ fn run_alone<
 {
     // What the store holds is left to the system.
     let desk = ManuallyDrop::new(Mutex::new(desk));
-    let ran = run_passes(rt, alloc, settings, reader, &desk, &keeping, writer, progress);
+    let ran = run_live(
+        rt, alloc, settings, reader, &desk, &keeping, writer, progress,
+    );
     let finished = keeping.finish(rt);
     let is_short = ran?;
     progress.tell_kept(rt, finished?);
@@ -227,7 +283,7 @@ fn run_in_hall<
     rt: &R,
     alloc: Global,
     settings: &Settings,
-    hall: &Hall<Desk<J, D>>,
+    hall: &Hall<Guest<J>, Desk<J, D>>,
     reader: &mut Reader<J>,
     keeping: &Keeping<J, E>,
     writer: &mut W,
@@ -237,13 +293,14 @@ fn run_in_hall<
         keep_meanwhile(rt, hall, keeping);
         return Ok(false);
     }
-    let ran = keep_beside(
+    let ran = keep_in_hall(
         rt,
+        hall,
         keeping,
         ||
             requires { IsSend J.row × IsSend D.row × IsSend P.row }
         {
-            run_passes(
+            run_live(
                 rt,
                 alloc,
                 settings,
@@ -255,7 +312,7 @@ fn run_in_hall<
             )
         },
     );
-    hall.close(rt);
+    hall.close();
     keep_meanwhile(rt, hall, keeping);
     ran
 }
@@ -279,7 +336,7 @@ fn run_serving<
     rt: &R,
     alloc: Global,
     settings: &Settings,
-    hall: Hall<Desk<J, D>>,
+    hall: Hall<Guest<J>, Desk<J, D>>,
     readers: Vec<Reader<J>>,
     reader: &mut Reader<J>,
     keeping: Keeping<J, E>,
@@ -294,7 +351,11 @@ fn run_serving<
         readers,
         ||
             requires { IsSend J.row × IsSend D.row × IsSend P.row × IsSend E.row }
-        { run_in_hall(rt, alloc, settings, &hall, reader, &keeping, writer, progress) },
+        {
+            run_in_hall(
+                rt, alloc, settings, &hall, reader, &keeping, writer, progress,
+            )
+        },
     );
     let finished = keeping.finish(rt);
     drop(hall);
@@ -304,9 +365,9 @@ fn run_serving<
 }
 
 /// How many readers the job takes: one of its own, one for the file, and those of the hall where it listens.
-fn readers_of(settings: &Settings) -> usize {
+fn readers_of<R: Threads>(rt: &R, settings: &Settings) -> usize {
     match &settings.listen {
-        Some(_) => readers_for(u64::MAX, settings.clients).saturating_add(2),
+        Some(_) => readers_for(rt).saturating_add(2),
         None => 2,
     }
 }
@@ -342,7 +403,7 @@ fn run_named<
     if settings.listen.is_none() && settings.relays.as_slice().is_empty() {
         return Err(Refusal::Key(SettingsKey::Relays));
     }
-    let (mut desk, mut readers) = open_store::<J, D>(keep, alloc, blank, readers_of(settings))?;
+    let (mut desk, mut readers) = open_store::<J, D>(keep, alloc, blank, readers_of(rt, settings))?;
     let (Some(mut reader), Some(mut of_file)) = (readers.pop(), readers.pop()) else {
         return Err(Refusal::Store);
     };

@@ -11,7 +11,8 @@ mod text;
 mod told;
 
 pub use fetching::Counts;
+pub use links::{connected, name_of};
 pub use pass::{Compared, compare, fetch_rounds};
-pub use progress::{Nowhere, Progress};
+pub use progress::{Nowhere, Progress, RelayLine};
 pub use run::{run_sync, run_sync_with};
 pub use told::Heard;

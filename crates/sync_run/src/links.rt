@@ -32,7 +32,7 @@ pub fn name_of(alloc: Global, settings: &Settings, relay: usize) -> Result<Strin
 }
 
 /// A connection with a relay, if it can be made in time, else why not. No later read or write of it waits longer.
-fn connected<R: Net<Listener = TcpListener, Stream = TcpStream>>(
+pub fn connected<R: Net<Listener = TcpListener, Stream = TcpStream>>(
     rt: &R,
     host: &str,
     timeout: Duration,

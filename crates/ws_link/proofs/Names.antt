@@ -28,3 +28,10 @@ fetch_is_name =
     ascii_name (102 ∷ 101 ∷ 116 ∷ 99 ∷ 104 ∷ [])
     (omega arith, (omega arith, (omega arith, (omega arith, (omega arith, tt)))))
     refl
+
+-- l, i, v, e
+pub live_is_name : is_sub (108 ∷ 105 ∷ 118 ∷ 101 ∷ []) ≡ true
+live_is_name =
+    ascii_name (108 ∷ 105 ∷ 118 ∷ 101 ∷ [])
+    (omega arith, (omega arith, (omega arith, (omega arith, tt))))
+    refl

@@ -3,3 +3,4 @@ pub mod Failing
 pub mod Spoken
 pub mod Held
 pub mod Parts
+pub mod Live

@@ -161,7 +161,7 @@ pub fn heard<S: Read + Write, K: MaskKeys>(
 
 /// What a relay says in the text. A message of another name, and an event that is refused, say nothing, and what it says of
 /// itself is noted.
-fn meant(alloc: Global, text: &str, notes: &mut Notes) -> Result<Option<FromRelay>, LinkFault>
+pub fn meant(alloc: Global, text: &str, notes: &mut Notes) -> Result<Option<FromRelay>, LinkFault>
     ensures only { IfOk result (λ o. IfSome o (λ m. IsOnly (relay_form m) text.now)) }
     ensures err { IfErr result IsOfStream }
 {

@@ -3,10 +3,12 @@
 
 mod client;
 mod head;
+mod live;
 mod notes;
 mod peer;
 mod source;
 
+pub use live::{Brought, WsSubscription};
 pub use notes::{Explains, Notes};
 pub use peer::WsPeer;
 pub use source::WsSource;

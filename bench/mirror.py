@@ -1,0 +1,119 @@
+#!/usr/bin/env python3
+"""Measures `mirror`: a pass from nothing, and passes that need nothing.
+
+    bench/mirror.py [--mirror PATH] [--relays K] [--held N] [--events M] [--workers W] [--passes P] [--fsync WORD]
+
+The inputs are M events as JSON with right ids (`inputs.py`). Each of K relays of the same program holds N of them, one behind
+another from its own place on, so that each event is held by one relay or by several. The mirror fetches all in one pass, with W
+connections to each relay. Then it is started again, and goes over these relays, each of which has a part of its events by then, in P
+passes more than one; and the same over as many that have just its events. Shown are the wall time, the processor time of the mirror
+and of all relays, and the mirror's greatest peak of resident memory; of the later passes what one of them took.
+
+As large as a store can be, it is `bench/mirror.py --held 300000 --events 1000000`: that takes some 12 GB of memory, and 3 GB on the
+disk.
+"""
+import argparse
+import itertools
+import os
+import re
+import sys
+import tempfile
+import time
+
+from inputs import events as write_events
+from inputs import made
+from measure import apart, program_of
+from relay import Serving, settings
+
+PASS = re.compile(r"\S+ pass \d+ relays (\d+)/(\d+) need (\d+) given (\d+) missed (\d+) left (\d+) ms (\d+)")
+
+
+def held_by(source, events, first, count):
+    """So many of the events, from the first one on, and behind the last from the beginning."""
+    with open(source, encoding="utf-8") as text:
+        for place, line in enumerate(itertools.islice(text, events)):
+            if (place - first) % events < count:
+                yield line
+
+
+def mirrored(program, folder, ports, options, passes):
+    """One run: the passes that it tells, its wall time, its processor time and its peak of memory in MiB."""
+    besides = {"fsync": options.fsync} if options.fsync else {}
+    conf = settings(os.path.join(folder, "mirror.toml"), events=os.path.join(folder, "mirror.jsonl"), passes=passes, every_ms=1,
+                    workers=options.workers, relays=["127.0.0.1:%d" % port for port in ports], live=False, **besides)
+    start = time.perf_counter()
+    said, seconds, peak = apart([program, "mirror", conf])
+    wall = time.perf_counter() - start
+    told = [tuple(map(int, found.groups())) for found in map(PASS.match, said.splitlines()) if found]
+    return told, wall, seconds, peak / 1024
+
+
+def same(found, wanted):
+    if found != wanted:
+        raise SystemExit("wanted %r, found %r" % (wanted, found))
+
+
+def told_row(name, wall, seconds, theirs, peak):
+    print("%-22s %9.3f s wall %9.3f s processor %9.3f s of all relays %6.0f MiB" % (name, wall, seconds, theirs, peak), flush=True)
+
+
+def cost(serving):
+    return sum(relay.cost()[0] for relay in serving)
+
+
+def from_nothing(folder, serving, count, options):
+    """The relays' events come in one pass, each once."""
+    ports = [relay.port for relay in serving]
+    told, wall, seconds, peak = mirrored(options.mirror, folder, ports, options, 1)
+    same([it[:-1] for it in told], [(len(ports), len(ports), count, count, 0, 0)])
+    with open(os.path.join(folder, "mirror.jsonl"), "rb") as text:
+        same(sum(1 for _ in text), count)
+    told_row("from nothing", wall, seconds, cost(serving), peak)
+
+
+def level(folder, name, ports, serving, options):
+    """Nothing is needed of these relays. What a first pass takes, with reading the file, is left out."""
+    _, _, once, _ = mirrored(options.mirror, folder, ports, options, 1)
+    before = cost(serving)
+    told, _, seconds, peak = mirrored(options.mirror, folder, ports, options, 1 + options.passes)
+    same({it[:-1] for it in told}, {(len(ports), len(ports), 0, 0, 0, 0)})
+    took = sorted(it[-1] for it in told[1:])
+    told_row(name, took[len(took) // 2] / 1e3, (seconds - once) / options.passes, (cost(serving) - before) / len(told), peak)
+
+
+def ended(serving):
+    for relay in serving:
+        relay.child.kill()
+        relay.child.wait()
+
+
+def main():
+    parser = argparse.ArgumentParser(description=__doc__.split("\n")[0])
+    parser.add_argument("--mirror", default=program_of("mirror_app"))
+    parser.add_argument("--relays", type=int, default=5)
+    parser.add_argument("--held", type=int, default=30000)
+    parser.add_argument("--events", type=int, default=100000)
+    parser.add_argument("--workers", type=int, default=1)
+    parser.add_argument("--passes", type=int, default=10)
+    parser.add_argument("--fsync", choices=["always", "everysec", "no"])
+    options = parser.parse_args()
+    relays, held, events = options.relays, min(options.held, options.events), options.events
+    firsts = [relay * events // relays for relay in range(relays)]
+    count = sum(any((place - first) % events < held for first in firsts) for place in range(events))
+    with tempfile.TemporaryDirectory() as folder:
+        source = os.path.join(folder, "events")
+        made(write_events, source, events)
+        serving = [Serving(options.mirror, folder, "relay%d" % relay, 1000000, held_by(source, events, first, held))
+                   for relay, first in enumerate(firsts)]
+        print("%d relays of %d events, %d in all, %.0f MB" % (relays, held, count, os.path.getsize(source) / 1e6), flush=True)
+        from_nothing(folder, serving, count, options)
+        level(folder, "nothing is needed", [relay.port for relay in serving], serving, options)
+        ended(serving)
+        with open(os.path.join(folder, "mirror.jsonl"), encoding="utf-8") as text:
+            one = [Serving(options.mirror, folder, "same", 1000000, text)]
+        level(folder, "nothing differs", [one[0].port] * relays, one, options)
+        ended(one)
+
+
+if __name__ == "__main__":
+    sys.exit(main())
