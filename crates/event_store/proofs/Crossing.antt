@@ -20,6 +20,8 @@ use Rattle.event_store.specs.contracts.state.State as State
 use Rattle.event_store.specs.contracts.state.State.TheInside as InState
 use Rattle.event_store.specs.contracts.shown.Shown as Shown
 use Rattle.event_store.specs.contracts.shown.Shown.TheInside as InShown
+use Rattle.event_store.specs.contracts.snapshot.Snapshot as Snapshot
+use Rattle.event_store.specs.contracts.snapshot.Snapshot.TheInside as InSnapshot
 use Rattle.event_store.proofs.event_list.EventList.TheSendSync as list
 use Rattle.event_store.proofs.mark.Mark.TheSendSync as mark
 use Rattle.event_store.proofs.blank.Front.TheSendSync as front
@@ -67,6 +69,9 @@ shared_send = search (sendable, crosses, state_send, state_sync)
 
 shared_sync : IsSync (Arc.the_row State.the_row Global.the_row heap.ghosts)
 shared_sync = search (sendable, crosses, state_send, state_sync)
+
+pub snapshot_send : IsSend Snapshot.the_row
+snapshot_send = view_send InSnapshot.the_row _ _ _ _ (declared_send InSnapshot.the_type (shared_send, (list.the_send, (roll_send, tt))))
 
 pub shown_send : IsSend Shown.the_row
 shown_send = view_send InShown.the_row _ _ _ _ (declared_send InShown.the_type (shared_send, (mark.the_send, tt)))
