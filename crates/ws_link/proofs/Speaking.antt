@@ -9,30 +9,28 @@ use Rattle.nostr_wire.specs.Forms.{relay_form}
 use Rattle.websocket.specs.declared.protocol.config.Role.TheVariants.{Client}
 use Rattle.websocket.specs.declared.protocol.config.WebSocketConfig.{WebSocketConfig}
 use Rattle.wire.specs.Line.{Line, Talk, fresh, talk_of}
-use Rattle.wire.specs.Talk.{Listened, HearsText}
-use Rattle.wire.proofs.Growing.{hears_later, listened_heard, prefix_self}
+use Rattle.wire.specs.Talk.{Listened}
+use Rattle.wire.proofs.Growing.{hears_later, prefix_self}
 use Rattle.ws_socket.specs.declared.fault.LinkFault.{LinkFault}
 use Rattle.ws_link.specs.declared.peer.Part.{Part}
 use Rattle.ws_link.specs.Held.{noted, given_by, taken_by, left_of, Stands}
 use Rattle.ws_link.specs.Parts.{Tells, MayAnswer}
-use Rattle.ws_link.specs.Spoken.{Exchanged, HearsMessage, IsClient, IsOnly, MayHear, Spoken, WasSpoken}
+use Rattle.ws_link.specs.Messages.{Hears, IsSaid}
+use Rattle.ws_link.specs.Spoken.{Exchanged, IsClient, Spoken, WasSpoken}
 use Rattle.ws_link.specs.Wired.{Wired}
+use Rattle.ws_link.proofs.Hearing.{heard_message, listened_hears}
 use mathlib.Core.List.{IsPrefix}
 
 -- ---- messages
 
-pub may_hear : (r : Result (Option FromRelay) LinkFault) (old new : Talk) (words : List ℕ) → HearsText old new words → IfOk r (λ o. IfSome o (λ m. IsOnly (relay_form m) words)) → IfOk r (MayHear old new)
-may_hear (Err e) old new words h k = tt
-may_hear (Ok None) old new words h k = listened_heard old new words h
-may_hear (Ok (Some m)) old new words h k = (words, h, k)
-
-pub may_answer : (r : Result (Option (Vec ℕ Global)) LinkFault) (old new : Talk) (message : FromRelay) (part : Part) → HearsMessage old new (relay_form message) → Tells message part
+pub may_answer : (r : Result (Option (Vec ℕ Global)) LinkFault) (old new : Talk) (message : FromRelay) (part : Part) → Hears (IsSaid (relay_form message)) old new → Tells message part
     → IfOk r (λ o. IfSome o (λ answer. part ≡ Part.Answer answer)) → IfOk r (MayAnswer old new)
 may_answer (Err e) old new message part h t k = tt
-may_answer (Ok None) old new message part h t k = listened_heard old new h.0 h.1
+may_answer (Ok None) old new message part h t k = listened_hears (IsSaid (relay_form message)) old new h
 may_answer (Ok (Some answer)) old new message part h t k =
     let told = rw k at t in
-    rw told at h
+    let heard = heard_message old new (relay_form message) h in
+    rw told at heard
 
 pub answers_later : (l m n : Talk) (answer : Vec ℕ Global) → Listened l m → MayAnswer m n (Some answer) → MayAnswer l n (Some answer)
 answers_later l m n answer h k = (k.0, hears_later l m n k.0 h k.1, k.2)

@@ -14,7 +14,8 @@ use Rattle.wire.specs.Talk.{Says}
 use Rattle.wire.proofs.Growing.{hears_came}
 use Rattle.ws_link.specs.declared.live.Part.{Part}
 use Rattle.ws_link.specs.Live.{Asked, MayTell, Tells, requesting}
-use Rattle.ws_link.specs.Spoken.{IsClient, IsOnly}
+use Rattle.ws_link.specs.Messages.{IsOnly}
+use Rattle.ws_link.specs.Spoken.{IsClient}
 
 pub asked_for : (filter : Filter) (first talk : Talk) (message : FromClient) → IsClient first → Says first talk (text_of (client_form message)) → client_form message ≡ requesting filter → Asked filter talk
 asked_for filter first talk message c s e = (first, c, rw e at s)

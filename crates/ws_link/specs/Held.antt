@@ -1,8 +1,10 @@
 -- What a link keeps of its stream.
 use Rattle.std.specs.Prelude.{◌≡◌, ℕ, List, [], ◌∷◌, Bool, Option, None, Some}
 use Rattle.neg_session.specs.Exchange.{Exchange}
+use Rattle.mirror_core.specs.Fetching.{Fetching}
 use Rattle.nostr_filter.specs.declared.filter.Filter.{Filter}
 use Rattle.wire.specs.Line.{Line, Talk, talk_of}
+use Rattle.ws_link.specs.Fetched.{AreFetched}
 use Rattle.ws_link.specs.Spoken.{IsClient, Spoken}
 use mathlib.Core.List.{IsPrefix}
 
@@ -32,3 +34,9 @@ module _ {S : Type 0} where
       (first : Talk) × IsClient first × Spoken opens first log (talk_of wire) × (left ≡ left_of opens log)
   Stands opens log left None given taken =
       (first : Talk) × (last : Talk) × IsClient first × Spoken opens first log last × IsPrefix last.given given × IsPrefix last.taken taken
+
+  -- The same of fetches.
+  abbrev pub StandsFetched : List Fetching → Option (Line S) → List ℕ → List ℕ → Type 0
+  StandsFetched log (Some wire) given taken = (first : Talk) × IsClient first × AreFetched first log (talk_of wire)
+  StandsFetched log None given taken =
+      (first : Talk) × (last : Talk) × IsClient first × AreFetched first log last × IsPrefix last.given given × IsPrefix last.taken taken

@@ -1,6 +1,10 @@
 pub mod Wired
 pub mod Failing
+pub mod Messages
 pub mod Spoken
+pub mod Fetched
 pub mod Held
 pub mod Parts
+pub mod Taken
+pub mod Streams
 pub mod Live

@@ -3,15 +3,14 @@ use Rattle.std.specs.Prelude.{◌≡◌, ℕ, List, [], ◌∷◌, Option, None,
 use Rattle.neg_session.specs.Exchange.{Exchange}
 use Rattle.nostr_filter.specs.declared.filter.Filter.{Filter}
 use Rattle.nostr_wire.specs.declared.messages.FromClient.TheVariants as client
-use Rattle.nostr_wire.specs.declared.messages.FromRelay.{FromRelay}
 use Rattle.nostr_wire.specs.declared.messages.FromRelay.TheVariants as relay
-use Rattle.nostr_wire.specs.Forms.{Form, client_form, relay_form, relay_table}
-use Rattle.nostr_wire.specs.Reading.{Reads}
+use Rattle.nostr_wire.specs.Forms.{Form, client_form, relay_form}
 use Rattle.nostr_wire.specs.Writing.{text_of}
 use Rattle.websocket.specs.declared.protocol.config.Role.TheVariants.{Client}
 use Rattle.websocket.specs.declared.protocol.config.WebSocketConfig.{WebSocketConfig}
 use Rattle.wire.specs.Line.{Talk, fresh}
-use Rattle.wire.specs.Talk.{Says, Listened, HearsText}
+use Rattle.wire.specs.Talk.{Says, HearsText}
+use Rattle.ws_link.specs.Messages.{IsOnly}
 use Rattle.ws_link.specs.Wired.{Wired}
 use mathlib.Core.List.{IsPrefix}
 
@@ -28,18 +27,9 @@ asking None question = client_form (client.NegMsg mirror question)
 abbrev pub answering : List ℕ → Form
 answering answer = relay_form (relay.NegMsg mirror answer)
 
--- the text is this message of a relay, and no other
-abbrev pub IsOnly : Form → List ℕ → Type 0
-IsOnly form words = Reads relay_table words form × ((other : Form) → Reads relay_table words other → other ≡ form)
-
 -- frames were read, and the last of them is or ends a text that is this message
 abbrev pub HearsMessage : Talk → Talk → Form → Type 0
 HearsMessage old new form = (words : List ℕ) × HearsText old new words × IsOnly form words
-
--- frames were read, and the last of them is or ends a text that is this message, if one is told
-abbrev pub MayHear : Talk → Talk → Option FromRelay → Type 0
-MayHear old new None = Listened old new
-MayHear old new (Some message) = HearsMessage old new (relay_form message)
 
 -- The stream took the frame of the question, and then frames were read, of which the last is or ends the answer's text.
 abbrev pub Exchanged : Option Filter → Talk → Exchange → Talk → Type 0

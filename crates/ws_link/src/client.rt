@@ -1,12 +1,13 @@
 //! The client's side of a link.
-ghost use Rattle.std.specs.Prelude.{◌≡◌, IfOk, IfErr, IfSome, OnOk, true};
+ghost use Rattle.std.specs.Prelude.{◌≡◌, IfOk, IfErr, OnOk, true};
 ghost use Rattle.nostr_wire.specs.Elements.{is_sub};
-ghost use Rattle.nostr_wire.specs.Forms.{client_form, relay_form};
+ghost use Rattle.nostr_wire.specs.Forms.{client_form};
 ghost use Rattle.nostr_wire.specs.Writing.{text_of};
 ghost use Rattle.wire.specs.Line.{talk_of};
 ghost use Rattle.wire.specs.Talk.{Says, Grows};
 ghost use Rattle.ws_socket.specs.Faults.{IsOfStream};
-ghost use Rattle.ws_link.specs.Spoken.{IsClient, IsOnly, MayHear};
+ghost use Rattle.ws_link.specs.Messages.{Means, MayHear};
+ghost use Rattle.ws_link.specs.Spoken.{IsClient};
 
 use crate::head::HeadStream;
 use crate::notes::Notes;
@@ -162,7 +163,7 @@ pub fn heard<S: Read + Write, K: MaskKeys>(
 /// What a relay says in the text. A message of another name, and an event that is refused, say nothing, and what it says of
 /// itself is noted.
 pub fn meant(alloc: Global, text: &str, notes: &mut Notes) -> Result<Option<FromRelay>, LinkFault>
-    ensures only { IfOk result (λ o. IfSome o (λ m. IsOnly (relay_form m) text.now)) }
+    ensures means { IfOk result (Means text.now) }
     ensures err { IfErr result IsOfStream }
 {
     match read_relay(alloc, text) {
@@ -171,7 +172,9 @@ pub fn meant(alloc: Global, text: &str, notes: &mut Notes) -> Result<Option<From
             Ok(None)
         }
         Ok(message) => Ok(Some(message)),
-        Err(WireFault::Kind | WireFault::Event(_, _) | WireFault::Filter) => Ok(None),
+        Err(WireFault::Kind) => Ok(None),
+        Err(WireFault::Event(_, _)) => Ok(None),
+        Err(WireFault::Filter) => Ok(None),
         Err(WireFault::Memory) => Err(LinkFault::Memory),
         Err(WireFault::Json | WireFault::Arity | WireFault::Sub | WireFault::HexText) => {
             notes.tell(Reason::NoMessage);

@@ -1,8 +1,8 @@
 //! A subscription over a WebSocket.
-ghost use Rattle.std.specs.Prelude.{◌≡◌, IfOk, IfSome, true};
-ghost use Rattle.nostr_wire.specs.Forms.{client_form, relay_form};
+ghost use Rattle.std.specs.Prelude.{◌≡◌, IfOk, true};
+ghost use Rattle.nostr_wire.specs.Forms.{client_form};
 ghost use Rattle.wire.specs.Line.{talk_of};
-ghost use Rattle.ws_link.specs.Spoken.{IsOnly};
+ghost use Rattle.ws_link.specs.Messages.{Means};
 ghost use Rattle.ws_link.specs.Live.{live, requesting, Asked, Tells, MayTell, Brings};
 
 use crate::client::{connected, copy_of, meant, named, say};
@@ -221,7 +221,7 @@ fn meant_in_turn<W: Wait>(
     text: &str,
     notes: &mut Notes,
 ) -> Result<Option<FromRelay>, LinkFault>
-    ensures { IfOk result (λ o. IfSome o (λ m. IsOnly (relay_form m) text.now)) }
+    ensures { IfOk result (Means text.now) }
 {
     if text.len() <= LONG_TEXT {
         return meant(alloc, text, notes);

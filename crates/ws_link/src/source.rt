@@ -1,12 +1,19 @@
 //! A source over a WebSocket.
-ghost use Rattle.std.specs.Prelude.{◌≡◌, ◌+◌, ◌<◌, ◌^◌, ◌-◌, [], ◌∷◌, ◌++◌, IfOk, IfErr, OnErr, true, false, Some, None, Err, Ok};
+ghost use Rattle.std.specs.Prelude.{◌≡◌, ◌≢◌, ◌+◌, ◌<◌, ◌^◌, ◌-◌, [], ◌∷◌, ◌++◌, map, bytes_eq, IfOk, IfErr, OnOk, OnErr, true, false, Some, None, Err, Ok};
+ghost use Rattle.std.specs.Arc.{arc_value};
+ghost use Rattle.std.specs.List.{list_any};
 ghost use Rattle.std.specs.Option.{option_copied};
 ghost use Rattle.mirror_core.specs.Fetching.{Fetching, fetching, ids_of};
+ghost use Rattle.nostr_event.specs.EventView.{EventView};
+ghost use Rattle.nostr_wire.specs.Forms.{client_form};
+ghost use Rattle.nostr_wire.specs.Writing.{text_of};
 ghost use Rattle.wire.specs.Line.{talk_of};
-ghost use Rattle.wire.specs.Talk.{Grows};
+ghost use Rattle.wire.specs.Talk.{Says, Grows};
 ghost use Rattle.ws_socket.specs.Faults.{IsOfStream};
 ghost use Rattle.ws_link.specs.Wired.{Wired, unused, failed_by, with_bytes_of, GoesOn};
 ghost use Rattle.ws_link.specs.Failing.{gives, MissesBy};
+ghost use Rattle.ws_link.specs.Fetched.{fetch, with_ids, requesting, closing, has_id, ids_in, is_due, Answers, IsFetched, WasFetched, Gives};
+ghost use Rattle.ws_link.specs.Taken.{Tells, MayTell, Takes};
 
 use crate::client::{close, connected, copy_of, heard, named, say};
 use crate::notes::{Explains, Notes};
@@ -15,7 +22,7 @@ use neg_codec::Id;
 use nostr_event::{Event, Text};
 use nostr_filter::{Bytes32List, Filter};
 use nostr_wire::{Filters, FromClient, FromRelay, Sub};
-use std::alloc::Global;
+use std::alloc::{AllocError, Global};
 use std::io::{Read, Write};
 use std::marker::Model;
 use std::random::RandomSource;
@@ -51,7 +58,7 @@ impl<S, K> Model for WsSource<S, K> {
     ghost use Rattle.std.specs.Option.{is_some};
     ghost use Rattle.mirror_core.specs.Fetching.{Fetching};
     ghost use Rattle.ws_link.specs.Wired.{Wired};
-    ghost use Rattle.ws_link.specs.Held.{given_by, taken_by};
+    ghost use Rattle.ws_link.specs.Held.{given_by, taken_by, StandsFetched};
 
     ghost Value = { Wired Fetching };
 
@@ -64,6 +71,8 @@ impl<S, K> Model for WsSource<S, K> {
       given = given_by s.wire s.given;
       taken = taken_by s.wire s.taken;
     } };
+
+    ghost invariant = { λ s. StandsFetched s.fetches.items s.wire s.given s.taken };
 }
 
 impl<S: Read + Write + Drop, R: RandomSource + Drop> WsSource<S, RandomKeys<R>> {
@@ -114,6 +123,14 @@ impl<S: Drop, K: Drop> WsSource<S, K> {
         self.last_fault.as_ref()
     }
 
+    /// What it gave was heard: of each fetch that is logged the request went out, the events that were given are those of messages
+    /// for it, read behind that up to the end of the stored events, in bytes that the stream took and gave.
+    pub fn always_fetched(&self)
+        ensures { WasFetched self.now }
+    {
+        let _log = &self.fetches;
+    }
+
     // Notes the fault. Want of memory is no failure of the source.
     fn fail(&mut self, fault: LinkFault) -> SourceFault
         requires few { self.old.faults < 2 ^ 64 - 1 }
@@ -138,6 +155,7 @@ impl<S: Read + Write + Drop, K: MaskKeys + Drop> WsSource<S, K> {
     fn try_fetch(&mut self, ids: &[Id]) -> Result<Vec<Arc<Event>>, LinkFault>
         ensures ok { IfOk result (λ given. (self.old.live ≡ true) × (self.new ≡ with_bytes_of self.new (record self.old { log = self.old.log ++ fetching ids.now (ids_of given.items) ∷ [] }))) }
         ensures err { OnErr result (self.new ≡ with_bytes_of self.new (record self.old { live = false })) }
+        ensures gives { IfOk result (λ given. Gives ids.now (map arc_value given.items) self.old self.new) }
         ensures grows { GoesOn self.old self.new }
         ensures dead { self.old.live ≡ false → result ≡ Err LinkFault.Link }
     {
@@ -186,34 +204,65 @@ fn fetch_over<S: Read + Write, K: MaskKeys>(
     fetches: &mut Vec<Fetch>,
     notes: &mut Notes,
 ) -> Result<Vec<Arc<Event>>, LinkFault>
+    ensures fetched { IfOk result (λ given. IsFetched ids.now (map arc_value given.items) (talk_of wire.old) (talk_of wire.new)) }
     ensures logged { IfOk result (λ given. fetches.new.items ≡ fetches.old.items ++ fetching ids.now (ids_of given.items) ∷ []) }
     ensures kept { OnErr result (fetches.new.items ≡ fetches.old.items) }
     ensures grows { Grows (talk_of wire.old) (talk_of wire.new) }
 {
     say(alloc, wire, &request(alloc, ids)?, notes)?;
     let events = read_events(alloc, wire, ids, notes)?;
-    let sub = subscription(alloc)?;
-    say(alloc, wire, &FromClient::Close { sub }, notes)?;
+    end(alloc, wire, notes)?;
     fetches.push(Fetch::of(alloc, ids, &events)?)?;
     Ok(events)
 }
 
+/// Ends the subscription.
+fn end<S: Read + Write, K: MaskKeys>(
+    alloc: Global,
+    wire: &mut Wire<S, K>,
+    notes: &mut Notes,
+) -> Result<(), LinkFault>
+    ensures said { OnOk result (Says (talk_of wire.old) (talk_of wire.new) (text_of closing)) }
+    ensures grows { Grows (talk_of wire.old) (talk_of wire.new) }
+{
+    let sub = subscription(alloc)?;
+    say(alloc, wire, &FromClient::Close { sub }, notes)
+}
+
 /// The subscription's name.
 fn subscription(alloc: Global) -> Result<Sub, LinkFault>
-    ensures { IfErr result IsOfStream }
+    ensures value { IfOk result (λ s. s ≡ fetch) }
+    ensures err { IfErr result IsOfStream }
 {
     named(alloc, NAME)
 }
 
-/// The request for the events with these ids.
-fn request(alloc: Global, ids: &[Id]) -> Result<FromClient, LinkFault> {
-    let sub = subscription(alloc)?;
-    let mut wanted = Vec::new(alloc);
+/// The bytes of these ids.
+fn bytes_of(alloc: Global, ids: &[Id]) -> Result<Vec<[u8; 32]>, AllocError>
+    ensures { IfOk result (λ v. v.items ≡ map (λ i. i.0) ids.now) }
+{
+    let mut bytes = Vec::new(alloc);
     for id in ids {
-        wanted.push(id.0)?;
+        bytes.push(id.0)?;
     }
+    Ok(bytes)
+}
+
+/// The filter that just the events with these ids match.
+fn filter_of(alloc: Global, ids: &[Id]) -> Result<Filter, AllocError>
+    ensures { IfOk result (λ f. f ≡ with_ids ids.now) }
+{
     let mut filter = Filter::all();
-    filter.ids = Some(Bytes32List::new(wanted));
+    filter.ids = Some(Bytes32List::new(bytes_of(alloc, ids)?));
+    Ok(filter)
+}
+
+/// The request for the events with these ids.
+fn request(alloc: Global, ids: &[Id]) -> Result<FromClient, LinkFault>
+    ensures { IfOk result (λ m. client_form m ≡ requesting ids.now) }
+{
+    let sub = subscription(alloc)?;
+    let filter = filter_of(alloc, ids)?;
     let mut filters = Vec::new(alloc);
     filters.push(filter)?;
     match Filters::new(filters) {
@@ -223,9 +272,38 @@ fn request(alloc: Global, ids: &[Id]) -> Result<FromClient, LinkFault> {
 }
 
 /// Whether the event was asked for, and hasn't come yet.
-fn is_due(ids: &[Id], events: &[Arc<Event>], event: &Event) -> bool {
+fn is_due(ids: &[Id], events: &[Arc<Event>], event: &Event) -> bool
+    ensures { result ≡ is_due ids.now (map arc_value events.now) event.now }
+{
     let id = event.id();
-    ids.iter().any(|asked| *asked == id) && !events.iter().any(|came| came.id() == id)
+    was_asked(ids, &id) && !has_come(events, &id)
+}
+
+/// Whether it is one of the ids.
+fn was_asked(ids: &[Id], id: &Id) -> bool
+    ensures { result ≡ has_id ids.now id.now }
+{
+    ids.iter().any(|asked| *asked == *id)
+}
+
+/// Whether it is the id of one of the events.
+fn has_come(events: &[Arc<Event>], id: &Id) -> bool
+    ensures { result ≡ has_id (ids_in (map arc_value events.now)) id.now }
+{
+    some_has(events, id)
+}
+
+fn some_has(events: &[Arc<Event>], id: &Id) -> bool
+    ensures { result ≡ list_any (λ e. bytes_eq (arc_value {X = EventView} e).id.0 id.now.0) events.now }
+{
+    events.iter().any(|event| is_of(event, id))
+}
+
+/// Whether the event has the id.
+fn is_of(event: &Event, id: &Id) -> bool
+    ensures { result ≡ bytes_eq event.now.id.0 id.now.0 }
+{
+    event.id() == *id
 }
 
 /// Reads until the end of the stored events, past at most 999 other messages. Events that weren't asked for, or came already, are
@@ -237,6 +315,7 @@ fn read_events<S: Read + Write, K: MaskKeys>(
     ids: &[Id],
     notes: &mut Notes,
 ) -> Result<Vec<Arc<Event>>, LinkFault>
+    ensures answers { IfOk result (λ events. Answers ids.now (map arc_value events.items) (talk_of wire.old) (talk_of wire.new)) }
     ensures grows { Grows (talk_of wire.old) (talk_of wire.new) }
 {
     let mut events = Vec::new(alloc);
@@ -275,6 +354,7 @@ fn read_event<S: Read + Write, K: MaskKeys>(
     events: &mut Vec<Arc<Event>>,
     notes: &mut Notes,
 ) -> Result<Came, LinkFault>
+    ensures takes { IfOk result (Takes ids.now (talk_of wire.old) (map arc_value events.old.items) (talk_of wire.new) (map arc_value events.new.items)) }
     ensures grows { Grows (talk_of wire.old) (talk_of wire.new) }
 {
     match hear(alloc, wire, notes)? {
@@ -313,6 +393,7 @@ fn hear<S: Read + Write, K: MaskKeys>(
     wire: &mut Wire<S, K>,
     notes: &mut Notes,
 ) -> Result<Part, LinkFault>
+    ensures tells { IfOk result (MayTell (talk_of wire.old) (talk_of wire.new)) }
     ensures grows { Grows (talk_of wire.old) (talk_of wire.new) }
 {
     match heard(alloc, wire, notes)? {
@@ -321,7 +402,9 @@ fn hear<S: Read + Write, K: MaskKeys>(
     }
 }
 
-fn part_in(message: FromRelay) -> Part {
+fn part_in(message: FromRelay) -> Part
+    ensures { Tells message result }
+{
     match message {
         FromRelay::Event { sub, event } => {
             if is_ours(sub.as_str()) {
@@ -344,11 +427,21 @@ fn part_in(message: FromRelay) -> Part {
                 Part::Other
             }
         }
-        _other => Part::Other,
+        FromRelay::Okay {
+            id: _,
+            taken: _,
+            text: _,
+        } => Part::Other,
+        FromRelay::Notice { text: _ } => Part::Other,
+        FromRelay::NegMsg { sub: _, message: _ } => Part::Other,
+        FromRelay::NegErr { sub: _, reason: _ } => Part::Other,
     }
 }
 
-fn is_ours(name: &str) -> bool {
+fn is_ours(name: &str) -> bool
+    ensures ours { result ≡ true → name.now ≡ fetch }
+    ensures other { result ≡ false → name.now ≢ fetch }
+{
     name == NAME
 }
 
@@ -382,6 +475,7 @@ impl<S: Read + Write + Drop, K: MaskKeys + Drop> Source for WsSource<S, K> {
         // What else it leaves.
         ensures lives { IfOk result (λ _. (self.old.live ≡ true) × (self.new.live ≡ true) × (self.new.last ≡ self.old.last)) }
         ensures goes_on { GoesOn self.old self.new }
+        ensures gives { IfOk result (λ given. Gives ids.now (map arc_value given.items) self.old self.new) }
         ensures fault { IfErr result (MissesBy self.old self.new) }
         ensures dead { self.old.live ≡ false → (result ≡ Err SourceFault.Failed) × (self.new.last ≡ Some LinkFault.Link) }
     {

@@ -1,0 +1,30 @@
+use Rattle.std.proofs.Common.{map}
+use Rattle.std.specs.Arc.{arc_value}
+use Rattle.wire.specs.Line.{talk_of}
+use Rattle.wire.proofs.Growing.{grows_chain}
+use Rattle.ws_link.proofs.Fetching.{kept_more}
+use Rattle.ws_link.proofs.source.read_events.Goals.{else-loop-read-test, then-loop-read-test+in_ok-read_event+then-others-ge-TOO_MANY, in-Due, in-Other}
+use Rattle.ws_link.proofs.source.read_events.Goals as goal
+
+pub loop-read-preserved : goal.loop-read-preserved
+loop-read-preserved g c =
+    let first = talk_of c.args.wire.now in
+    let mid = talk_of c.loop-read.wire in
+    let last = talk_of c.read_event.new.wire in
+    let before = map arc_value c.loop-read.events.items in
+    let after = map arc_value c.read_event.new.events.items in
+    let grown = grows_chain first mid last c.loop-read.invariant.grows c.read_event.ensures.grows in
+    elim c.match-branch-2.branch [
+      | in-Due w ↦ record { grows = grown; kept = kept_more c.args.ids.now first mid last before after c.loop-read.invariant.kept (rw w.in-Due.is at c.in_ok-read_event.ensures.takes) }
+      | in-Other w ↦ record { grows = grown; kept = kept_more c.args.ids.now first mid last before after c.loop-read.invariant.kept (rw w.in-Other.is at c.in_ok-read_event.ensures.takes) }
+    ]
+
+pub returns-clause-grows : goal.returns-clause-grows
+returns-clause-grows g c =
+    let first = talk_of c.args.wire.now in
+    let mid = talk_of c.loop-read.wire in
+    elim c.loop-read-test.branch [
+      | else-loop-read-test w ↦ rw w.wire-is c.loop-read.invariant.grows
+      | then-loop-read-test+in_ok-read_event+then-others-ge-TOO_MANY w ↦
+          rw w.wire-is (grows_chain first mid (talk_of w.read_event.new.wire) c.loop-read.invariant.grows w.read_event.ensures.grows)
+    ]
