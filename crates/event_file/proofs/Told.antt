@@ -20,6 +20,12 @@ told_more zero (suc n) k lines old next new is h told = absurd (omega arith)
 told_more (suc all) (suc n) k [] old next new is h told = no_lines k next new told ∙ h
 told_more (suc all) (suc n) k (line ∷ lines) old next new is h told = (h.0, h.1, told_more all n k lines h.0 next new (omega arith) h.2 told)
 
+pub told_behind : (n : ℕ) (lines rest : List (List ℕ)) (old next new : List EventView) → rest ≡ drop n lines → LinesTell (take n lines) old next → LinesTell rest next new → LinesTell lines old new
+told_behind zero lines rest old next new e h told =
+    subst (λ (from : List EventView). LinesTell lines from new) h (subst (λ (ls : List (List ℕ)). LinesTell ls next new) e told)
+told_behind (suc n) [] rest old next new e h told = subst (λ (ls : List (List ℕ)). LinesTell ls next new) e told ∙ h
+told_behind (suc n) (line ∷ lines) rest old next new e h told = (h.0, h.1, told_behind n lines rest h.0 next new e h.2 told)
+
 pub wrong_more : (most all n k : ℕ) (lines : List (List ℕ)) (old next new : List EventView) → all ≡ n + k → LinesTell (take n lines) old next → WrongBehind most k (drop n lines) next new → WrongBehind most all lines old new
 wrong_more most all zero k lines old next new is h wrong =
     let same : k ≡ all = omega (arith, is) in

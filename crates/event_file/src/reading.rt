@@ -48,7 +48,7 @@ pub fn holds_event(alloc: Global, line: &[u8]) -> Result<bool, AllocError>
 }
 
 /// The event of the first line, and the text behind it, unless the line is empty or its event can't be read.
-fn next_event(alloc: Global, text: &[u8]) -> Option<(Arc<Event>, &[u8])>
+pub fn next_event(alloc: Global, text: &[u8]) -> Option<(Arc<Event>, &[u8])>
     ensures next { IfSome result (λ n. HoldEvents (lines_of text.now) (arc_value n.0 ∷ []) (lines_of n.1.now)) }
     ensures shorter { IfSome result (λ n. length n.1.now < length text.now) }
 {
@@ -133,6 +133,7 @@ pub fn insert_lines<W: Wait, J: Naming, D: Wait + Drop>(
     ensures told { OnOk result (LinesTell (lines_of text.now) desk.old desk.new) }
     ensures wrong { (n : ℕ) → result ≡ Err (line_fault n) → (before : ℕ) × (n ≡ before + 1) × WrongBehind J.most before (lines_of text.now) desk.old desk.new }
     ensures memory { result ≡ Err memory → (before : ℕ) × LinesTell (take before (lines_of text.now)) desk.old desk.new }
+    ensures within { (n : ℕ) → result ≡ Err (line_fault n) → n ≤ length text.now + 1 }
 {
     let mut rest = text;
     let mut number = 0;
