@@ -1,5 +1,6 @@
 pub mod Putting
 pub mod Framing
+pub mod Holding
 pub mod Answering
 pub mod Saying
 pub mod Crossing

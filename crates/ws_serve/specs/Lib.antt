@@ -1,5 +1,6 @@
 pub mod Faults
 pub mod Frames
+pub mod Outbox
 pub mod Traffic
 pub mod Answering
 pub mod Pieces

@@ -36,7 +36,7 @@ pub enum Went {
     More,
     /// Nothing: no further message has come whole yet.
     Nothing,
-    /// Nothing: a long text comes next, and another is read at the time.
+    /// Nothing: a long text comes next, which this turn doesn't read.
     Later,
     /// The client has closed.
     Closed,
@@ -182,7 +182,7 @@ fn refuse_bytes<S: Write>(alloc: Global, socket: &mut Socket<S>) -> Result<(), L
     ensures failed { OnErr result (MaySay socket.old socket.new (spoken_one (notice (codes "invalid: bad message")))) }
 {
     let text = Text::new(String::from_str(alloc, "invalid: bad message")?);
-    say(alloc, socket, Vec::new(alloc), &FromRelay::Notice { text })?;
+    say(socket, Vec::new(alloc), FromRelay::Notice { text })?;
     Ok(())
 }
 

@@ -6,6 +6,7 @@ mod fault;
 mod greeting;
 mod hearing;
 mod messages;
+mod outbox;
 mod sending;
 mod serve;
 mod socket;

@@ -16,7 +16,7 @@ pub enum Next {
     Event(String),
     /// Another message, or nothing.
     Other(Heard),
-    /// A long text, which isn't read while another is: it comes again.
+    /// A long text, which this turn doesn't read: it comes again.
     Later,
 }
 

@@ -16,7 +16,7 @@ use crate::fault::on_link;
 use crate::socket::Socket;
 use event_log::Kept;
 use event_store::{Naming, Placed, Reader};
-use nostr_wire::{FromRelay, write_relay_in};
+use nostr_wire::FromRelay;
 use relay_core::Conn;
 use std::alloc::Global;
 use std::io::Write;
@@ -70,14 +70,13 @@ pub fn say_all<S: Write>(
 {
     let mut room = Vec::new(alloc);
     for message in messages {
-        room = say_last(alloc, socket, room, message)?;
+        room = say(socket, room, message)?;
     }
     Ok(())
 }
 
-/// As `say`, for a message that is dropped then.
-fn say_last<S: Write>(
-    alloc: Global,
+/// Puts the message, which is no OK with true, behind what waits to be sent. Its text is made where room is, which is given back.
+pub fn say<S: Write>(
     socket: &mut Socket<S>,
     room: Vec<u8>,
     message: FromRelay,
@@ -87,28 +86,12 @@ fn say_last<S: Write>(
     ensures says { OnOk result (Says socket.old socket.new (spoken_one (relay_form message))) }
     ensures failed { OnErr result (MaySay socket.old socket.new (spoken_one (relay_form message))) }
 {
-    say(alloc, socket, room, &message)
-}
-
-/// Puts the message, which is no OK with true, behind what waits to be sent. Its text is made where room is, which is given back.
-pub fn say<S: Write>(
-    alloc: Global,
-    socket: &mut Socket<S>,
-    room: Vec<u8>,
-    message: &FromRelay,
-) -> Result<Vec<u8>, LinkFault>
-    requires not_acknowledged { acknowledges (relay_form message.now) ≡ false }
-    ensures fault { IfErr result IsOfStream }
-    ensures says { OnOk result (Says socket.old socket.new (spoken_one (relay_form message.now))) }
-    ensures failed { OnErr result (MaySay socket.old socket.new (spoken_one (relay_form message.now))) }
-{
-    put(alloc, socket, room, message)
+    socket.put(room, message)
 }
 
 /// Puts OK with true behind what waits to be sent, for an event that is in the store and kept there. The reader learns of it. Its text
 /// is made where room is, which is given back.
 pub fn acknowledge<S: Write, J: Naming, M>(
-    alloc: Global,
     socket: &mut Socket<S>,
     room: Vec<u8>,
     conn: &mut Conn,
@@ -125,23 +108,5 @@ pub fn acknowledge<S: Write, J: Naming, M>(
     ensures reader { IsPrefix reader.old reader.new }
 {
     let message = on_link(conn.stored(reader, placed, kept))?;
-    put(alloc, socket, room, &message)
-}
-
-/// Puts the message behind what waits to be sent.
-fn put<S: Write>(
-    alloc: Global,
-    socket: &mut Socket<S>,
-    room: Vec<u8>,
-    message: &FromRelay,
-) -> Result<Vec<u8>, LinkFault>
-    ensures fault { IfErr result IsOfStream }
-    ensures says { OnOk result (Says socket.old socket.new (spoken_one (relay_form message.now))) }
-    ensures failed { OnErr result (MaySay socket.old socket.new (spoken_one (relay_form message.now))) }
-{
-    let text = write_relay_in(alloc, room, message)?;
-    match socket.put_text(text.as_bytes()) {
-        Ok(()) => Ok(text.into_bytes()),
-        Err(fault) => Err(fault),
-    }
+    socket.put(room, message)
 }

@@ -60,7 +60,7 @@ pub fn serve_kept<W: Wait, S: Read + Write + Drop, J: Naming, D: Wait + Drop, H:
     let mut talk = Talk::new(alloc, accept(alloc, stream)?, limits, 0)?;
     let turns = Turns {
         lock: turn,
-        waits: true,
+        reads_long: true,
     };
     let served = serve(rt, alloc, &mut talk, reader, desk, keeper, turns);
     // What was answered goes out, also where a fault ended the connection.

@@ -1,18 +1,20 @@
 //! A server's WebSocket whose texts leave together.
 ghost use Rattle.std.specs.Prelude.{◌≡◌, [], ◌∷◌, string_bytes, IfOk, IfErr, OnOk, OnErr};
 ghost use mathlib.Core.List.{IsPrefix};
-ghost use Rattle.ws_serve.specs.Frames.{frame};
+ghost use Rattle.nostr_wire.specs.Forms.{relay_form};
+ghost use Rattle.ws_serve.specs.Frames.{spoken_one};
 ghost use Rattle.ws_serve.specs.Steps.{IsFresh, Gives, Holds, PutsClose, Hears};
 ghost use Rattle.ws_serve.specs.Traffic.{Says, Rests, MaySay};
 ghost use Rattle.ws_socket.specs.Faults.{IsOfStream};
 
 use crate::fault::{broken, would_block};
+use crate::outbox::Outbox;
+use nostr_wire::FromRelay;
 use std::alloc::{AllocError, Global};
 use std::io;
 use std::io::{Read, Write};
 use std::marker::Model;
-use tungstenite::{NoMask, Role};
-use wire::{Fault, Heard, Wire};
+use wire::{Fault, Heard};
 use ws_socket::{LinkFault, MANY_BYTES, limits};
 
 /// How many bytes one read asks for, until the client has sent an event.
@@ -21,7 +23,7 @@ const FEW_BYTES: usize = 4_096;
 /// Once so many bytes wait, they leave.
 const MOST_GATHERED: usize = 131_072;
 
-/// A text of so many bytes doesn't wait.
+/// A message of so many bytes doesn't wait.
 const MANY: usize = 32_768;
 
 /// Whether the stream takes what waits.
@@ -35,12 +37,12 @@ enum Outlet {
     Broken,
 }
 
-/// A server's WebSocket over a stream. What is put waits for `send`, until many bytes wait or until a long text comes: so the short
-/// answers to messages that came together leave together. Where the stream would block, nothing more is sent until `retry`, and once
-/// a write has failed nothing is.
+/// A server's WebSocket over a stream. What is put waits for `send`, until many bytes wait or until a long message comes: so the short
+/// answers to messages that came together leave together. Where the stream would block, nothing more is sent until `retry`, and messages
+/// are written only once it takes more; once a write has failed nothing is sent.
 #[derive(Drop)]
 pub struct Socket<S> {
-    wire: Wire<S, NoMask>,
+    outbox: Outbox<S>,
     outlet: Outlet,
     // While the stream would block and more bytes wait, nothing is read, and nothing published is put behind them.
     most_waiting: usize,
@@ -55,7 +57,7 @@ impl<S> Model for Socket<S> {
 
     ghost Value = { Traffic };
 
-    ghost view = { λ s. traffic_of s.wire (texts_of s.kept) };
+    ghost view = { λ s. traffic_of s.outbox (texts_of s.kept) };
 }
 
 impl<S: Drop> Socket<S> {
@@ -63,17 +65,9 @@ impl<S: Drop> Socket<S> {
     pub fn new(alloc: Global, stream: S, most_waiting: usize) -> Result<Socket<S>, AllocError>
         ensures { IfOk result IsFresh }
     {
-        let wire = Wire::new(
-            alloc,
-            stream,
-            Vec::new(alloc),
-            NoMask,
-            Role::Server,
-            limits(),
-            FEW_BYTES,
-        )?;
+        let outbox = Outbox::new(alloc, stream, limits(), FEW_BYTES)?;
         Ok(Socket {
-            wire,
+            outbox,
             outlet: Outlet::Open,
             most_waiting,
             reads_many: false,
@@ -87,17 +81,18 @@ impl<S> Socket<S> {
     pub fn always_takes(&self)
         ensures { IsPrefix self.now.taken self.now.said }
     {
-        let _wire = &self.wire;
+        let _outbox = &self.outbox;
     }
 
-    /// Whether bytes wait to be sent.
+    /// Whether something waits to be sent.
     pub fn has_waiting(&self) -> bool {
-        self.wire.waiting() > 0
+        self.outbox.has_unwritten() || self.outbox.waiting() > 0
     }
 
     /// Whether the stream would block while more waits than may.
     pub fn is_full(&self) -> bool {
-        self.outlet != Outlet::Open && self.wire.waiting() > self.most_waiting
+        self.outbox.has_unwritten()
+            || (self.outlet != Outlet::Open && self.outbox.waiting() > self.most_waiting)
     }
 
     /// The stream may take something again.
@@ -113,7 +108,7 @@ impl<S> Socket<S> {
     pub fn rest(&mut self)
         ensures { self.new ≡ self.old }
     {
-        self.wire.rest();
+        self.outbox.rest();
     }
 
     /// The text, which was heard last, is heard again.
@@ -137,7 +132,7 @@ impl<S: Write> Socket<S> {
         ensures fault { IfErr result IsOfStream }
         ensures rests { Rests self.old self.new }
     {
-        if self.wire.waiting() == 0 {
+        if !self.has_waiting() {
             return Ok(());
         }
         match self.outlet {
@@ -145,7 +140,7 @@ impl<S: Write> Socket<S> {
             Outlet::Full => return Ok(()),
             Outlet::Broken => return Err(LinkFault::Link),
         }
-        match self.wire.send() {
+        match self.outbox.send() {
             Ok(()) => Ok(()),
             Err(error) => self.unsent(error),
         }
@@ -164,17 +159,22 @@ impl<S: Write> Socket<S> {
         Err(broken(Fault::Stream(error)))
     }
 
-    /// Puts a text, as one frame (RFC 6455, section 5.2), behind what waits.
-    pub fn put_text(&mut self, text: &[u8]) -> Result<(), LinkFault>
+    /// Puts a message behind what waits. It is written, as one frame (RFC 6455, section 5.2), unless the stream would block while more
+    /// waits than may. Its text is made where room is, which is given back.
+    pub fn put(&mut self, room: Vec<u8>, message: FromRelay) -> Result<Vec<u8>, LinkFault>
         ensures fault { IfErr result IsOfStream }
-        ensures whole { OnOk result (Says self.old self.new (frame text.now)) }
-        ensures failed { OnErr result (MaySay self.old self.new (frame text.now)) }
+        ensures whole { OnOk result (Says self.old self.new (spoken_one (relay_form message))) }
+        ensures failed { OnErr result (MaySay self.old self.new (spoken_one (relay_form message))) }
     {
-        self.wire.put_unmasked(text)?;
-        if text.len() >= MANY || self.wire.waiting() >= MOST_GATHERED {
+        if self.is_full() {
+            self.outbox.put_later(message)?;
+            return Ok(room);
+        }
+        let text = self.outbox.put(room, message)?;
+        if text.len() >= MANY || self.outbox.waiting() >= MOST_GATHERED {
             self.send()?;
         }
-        Ok(())
+        Ok(text)
     }
 
     /// Puts a close behind what waits.
@@ -183,7 +183,7 @@ impl<S: Write> Socket<S> {
         ensures closes { OnOk result (PutsClose self.old self.new) }
         ensures failed { OnErr result (Rests self.old self.new) }
     {
-        match self.wire.put_close() {
+        match self.outbox.put_close() {
             Ok(()) => Ok(()),
             Err(error) => Err(broken(Fault::Frame(error))),
         }
@@ -199,7 +199,7 @@ impl<S: Write> Socket<S> {
         if let Some(text) = self.kept.take() {
             return Ok(Heard::Text(text));
         }
-        match self.wire.hear_apart(reply) {
+        match self.outbox.hear_apart(reply) {
             Ok(heard) => Ok(heard),
             Err(error) => Err(broken(Fault::Frame(error))),
         }
@@ -211,7 +211,7 @@ impl<S: Write> Socket<S> {
         ensures whole { OnOk result (Says self.old self.new reply.now) }
         ensures failed { OnErr result (Rests self.old self.new) }
     {
-        self.wire.put_frames(reply)?;
+        self.outbox.put_frames(reply)?;
         Ok(())
     }
 }
@@ -223,9 +223,9 @@ impl<S: Read> Socket<S> {
         ensures gives { Gives self.old self.new }
     {
         if self.reads_many {
-            self.wire.ask_for(MANY_BYTES)?;
+            self.outbox.ask_for(MANY_BYTES)?;
         }
-        match self.wire.fill() {
+        match self.outbox.fill() {
             Ok(()) => Ok(true),
             Err(error) => {
                 if would_block(&error) {

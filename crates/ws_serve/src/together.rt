@@ -194,7 +194,7 @@ fn answer_each<W: Wait, S: Write, J: Naming, D: Wait + Drop, H: Keeper<J>>(
     let kept = kept_of(rt, keeper, all.as_slice());
     let mut room = Vec::new(alloc);
     for one in all {
-        room = tell(alloc, socket, room, conn, reader, one, kept.as_ref())?;
+        room = tell(socket, room, conn, reader, one, kept.as_ref())?;
     }
     Ok(())
 }
@@ -300,7 +300,6 @@ fn kept_of<W: Wait, J: Naming, H: Keeper<J>>(
 /// Puts behind what waits to be sent whether the event is in the store, and kept there. The text is made where room is, which is given
 /// back.
 fn tell<S: Write, J: Naming, M>(
-    alloc: Global,
     socket: &mut Socket<S>,
     room: Vec<u8>,
     conn: &mut Conn,
@@ -318,14 +317,13 @@ fn tell<S: Write, J: Naming, M>(
 {
     let Stored { id, placed } = stored;
     match placed {
-        Ok(placed) => tell_kept(alloc, socket, room, conn, reader, &placed, kept),
-        Err(fault) => refuse(alloc, socket, room, conn, id, &StoringFault::Refused(fault)),
+        Ok(placed) => tell_kept(socket, room, conn, reader, &placed, kept),
+        Err(fault) => refuse(socket, room, conn, id, &StoringFault::Refused(fault)),
     }
 }
 
 /// The same for an event that is in the store.
 fn tell_kept<S: Write, J: Naming, M>(
-    alloc: Global,
     socket: &mut Socket<S>,
     room: Vec<u8>,
     conn: &mut Conn,
@@ -342,18 +340,17 @@ fn tell_kept<S: Write, J: Naming, M>(
 {
     match kept {
         Some(kept) if placed.front() <= kept.len() => {
-            acknowledge(alloc, socket, room, conn, reader, placed, kept)
+            acknowledge(socket, room, conn, reader, placed, kept)
         }
         _ => {
             let fault: StoringFault<J> = StoringFault::Unkept;
-            refuse(alloc, socket, room, conn, placed.id(), &fault)
+            refuse(socket, room, conn, placed.id(), &fault)
         }
     }
 }
 
 /// Puts behind what waits to be sent why the event isn't in the store, or isn't kept there.
 fn refuse<S: Write, J: Naming>(
-    alloc: Global,
     socket: &mut Socket<S>,
     room: Vec<u8>,
     conn: &mut Conn,
@@ -367,7 +364,7 @@ fn refuse<S: Write, J: Naming>(
     ensures limits { conn.new.limits ≡ conn.old.limits }
 {
     let message = on_link(conn.unstored(id, fault))?;
-    say(alloc, socket, room, &message)
+    say(socket, room, message)
 }
 
 /// Puts the event into the store, sees to it that it is kept, and puts whether it is behind what waits to be sent.
@@ -393,14 +390,6 @@ pub fn answer_one<W: Wait, S: Write, J: Naming, D: Wait + Drop, H: Keeper<J>>(
         Ok(placed) => keeper.kept(rt, placed),
         Err(_) => None,
     };
-    tell(
-        alloc,
-        socket,
-        Vec::new(alloc),
-        conn,
-        reader,
-        one,
-        kept.as_ref(),
-    )?;
+    tell(socket, Vec::new(alloc), conn, reader, one, kept.as_ref())?;
     Ok(())
 }

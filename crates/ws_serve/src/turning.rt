@@ -25,6 +25,9 @@ const MANY_READS: u64 = 256;
 /// How often a turn reads at most: messages, or more of the stream.
 const MOST_STEPS: u32 = 1_024;
 
+/// Where more of the stream was read so often, and no message came, that is of a long one.
+const LONG_READS: u32 = 16;
+
 /// What a turn has come to.
 #[derive(Clone, Copy, Debug, PartialEq, Eq)]
 pub enum Turned {
@@ -32,7 +35,7 @@ pub enum Turned {
     Idle,
     /// There may be more to read at once.
     Ready,
-    /// A long text comes next, and another is read at the time: the next turn begins with it.
+    /// A long text comes, which this turn doesn't read: the next turn goes on with it.
     Later,
     /// The stream would block, and more waits to be sent than may: till some of it is sent, nothing is read.
     Full,
@@ -87,14 +90,24 @@ fn go<W: Wait, S: Read + Write, J: Naming, D: Wait + Drop, H: Keeper<J>>(
     ensures reader { IsPrefix reader.old reader.new }
 {
     let begun = counts.reads;
+    let mut more = 0_u32;
     for _step in 0..MOST_STEPS {
         if counts.reads.saturating_sub(begun) >= MANY_READS {
             return Ok(Turned::Ready);
         }
+        if more >= LONG_READS && !turns.reads_long {
+            return Ok(Turned::Later);
+        }
+        let before = counts.reads;
         let stepped = step(rt, alloc, socket, conn, reader, desk, keeper, turns, counts)?;
         if let Some(end) = stepped {
             return Ok(end);
         }
+        more = if counts.reads == before {
+            more.saturating_add(1)
+        } else {
+            0
+        };
     }
     Ok(Turned::Ready)
 }
@@ -119,12 +132,12 @@ fn step<W: Wait, S: Read + Write, J: Naming, D: Wait + Drop, H: Keeper<J>>(
     ensures served { AfterStep result conn.new socket.new reader.new }
     ensures reader { IsPrefix reader.old reader.new }
 {
+    if socket.is_full() {
+        return Ok(Some(Turned::Full));
+    }
     if counts.reads >= MOST_READS {
         socket.put_close()?;
         return Ok(Some(Turned::Over));
-    }
-    if socket.is_full() {
-        return Ok(Some(Turned::Full));
     }
     match go_on(rt, alloc, socket, conn, reader, desk, keeper, turns, counts)? {
         Went::More => Ok(None),

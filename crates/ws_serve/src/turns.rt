@@ -17,28 +17,19 @@ use ws_socket::LinkFault;
 /// A text of more bytes is long. What is read of it may take a hundred times as much memory meanwhile.
 const LONG_TEXT: usize = 262_144;
 
-/// How connections that share a lock read their long texts: one at a time of them all.
+/// How a turn reads long texts.
 #[derive(Clone, Copy)]
 pub struct Turns<'t> {
-    /// Held while a long text is read.
+    /// Held while a long text is read: of connections that share it one is read at a time.
     pub lock: &'t Mutex<()>,
-    /// Whether a long text waits while another is read. Else the connection's turn ends before it, and the next begins with it.
-    pub waits: bool,
+    /// Whether this turn reads long texts. Else it ends before one, and the next begins with it.
+    pub reads_long: bool,
 }
 
 impl<'t> Turns<'t> {
-    /// Whether the text is to be read now.
+    /// Whether the text is read in this turn.
     pub fn admits(&self, text: &str) -> bool {
-        if self.waits || text.len() <= LONG_TEXT {
-            return true;
-        }
-        match self.lock.try_lock() {
-            Some(held) => {
-                drop(held);
-                true
-            }
-            None => false,
-        }
+        self.reads_long || text.len() <= LONG_TEXT
     }
 }
 

@@ -9,6 +9,6 @@ returns-clause-hears g c =
     elim c.match-hear_apart.branch [
       | in-Ok w ↦
           rw (w.result-is, ← c.self.view_is, none, c.take.ensures.after)
-          (hears_apart c.self.inside.wire c.hear_apart.new.self c.hear_apart.new.reply.items w.in-Ok.heard (rw c.clear.ensures.items at w.in-Ok.ensures.hears))
+          (hears_apart c.self.inside.outbox c.hear_apart.new.self c.hear_apart.new.reply.items w.in-Ok.heard (rw c.clear.ensures.items at w.in-Ok.ensures.hears))
       | in-Err w ↦ rw w.result-is tt
     ]

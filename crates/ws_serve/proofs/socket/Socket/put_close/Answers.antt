@@ -9,6 +9,6 @@ returns-clause-closes g c =
     elim c.match-put_close.branch [
       | in-Ok w ↦
           rw (w.result-is, ← c.self.view_is)
-          (puts_close c.self.inside.wire c.put_close.new.self (texts_of c.self.inside.kept) _ refl w.in-Ok.ensures.put c.put_close.ensures.rests)
+          (puts_close c.self.inside.outbox c.put_close.new.self (texts_of c.self.inside.kept) _ refl w.in-Ok.ensures.put c.put_close.ensures.rests)
       | in-Err w ↦ rw w.result-is tt
     ]
