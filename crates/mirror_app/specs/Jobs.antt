@@ -4,8 +4,8 @@ use Rattle.mirror_run.specs.declared.refusal.Refusal.{Refusal}
 use Rattle.mirror_run.specs.declared.refusal.Refusal.TheVariants.{Write, Memory as NoMemory}
 use Rattle.mirror_run.specs.Reconciled.{IsPrinted, IsReconRefusal}
 use Rattle.mirror_run.specs.RefusalText.{refusal_text}
-use Rattle.serve_run.specs.declared.refusal.Refusal.{Refusal as ServiceRefusal}
-use Rattle.serve_run.specs.RefusalText.{refusal_text as service_text}
+use Rattle.store_run.specs.declared.refusal.Refusal.{Refusal as ServiceRefusal}
+use Rattle.store_run.specs.RefusalText.{refusal_text as service_text}
 use Rattle.plan_run.specs.Jobs.{IsPlanWritten, IsPlanRefusal, IsLeastWritten, IsCheckRefusal}
 use Rattle.clap.specs.Words.{Text, fault_of, subcommand_of}
 use Rattle.mirror_words.specs.declared.words.Words.{Words}

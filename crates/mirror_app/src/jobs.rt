@@ -7,10 +7,10 @@ ghost use Rattle.mirror_app.specs.Jobs.{RunsAs, MayHaveWritten, ending, status_o
 use mirror_run::{Refusal, run_recon};
 use mirror_words::{Words, WordsFault, read_words};
 use plan_run::{run_check, run_plan};
-use serve_run::Refusal as ServiceRefusal;
 use std::alloc::Global;
 use std::fmt;
 use std::io::{Read, Write};
+use store_run::Refusal as ServiceRefusal;
 
 /// How the program ends. Its text goes to standard error.
 #[derive(Debug, Drop)]

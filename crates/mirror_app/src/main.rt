@@ -6,12 +6,12 @@ mod settled;
 
 use jobs::{End, Went, run};
 use mirror_words::{Words, words_of};
+use session_run::Progress;
 use settled::{ended, levelled, mirror, serve, sync};
 use std::fs::File;
 use std::io;
 use std::process::ExitCode;
 use std::rt::Files;
-use sync_run::Progress;
 
 /// Takes the numbers of standard streams that are closed: else files that are opened later would get them, and what is meant for
 /// a stream. What is written there fails, as it does where the stream is closed.

@@ -5,7 +5,8 @@ ghost use Rattle.mirror_app.specs.Jobs.{settled, levelled};
 
 use crate::jobs::End;
 use level_run::run_mirror;
-use serve_run::{Refusal, run_serve};
+use serve_run::run_serve;
+use session_run::Progress;
 use std::alloc::Global;
 use std::fs::File;
 use std::io::{ErrorKind, Write};
@@ -15,7 +16,8 @@ use std::rt::{Clock, Files};
 use std::sync::Wait;
 use std::thread::Threads;
 use std::{fs, io};
-use sync_run::{Progress, run_sync_with};
+use store_run::Refusal;
+use sync_run::run_sync_with;
 
 /// What an error of reading the settings comes to.
 fn refusal_of(error: &io::Error) -> Refusal {

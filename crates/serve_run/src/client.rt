@@ -6,7 +6,7 @@ use std::io;
 use std::io::{Read, Write};
 use std::net::Shutdown;
 use std::sync::Arc;
-use std::sync::atomic::{AtomicBool, Ordering};
+use std::sync::atomic::{AtomicBool, AtomicUsize, Ordering};
 use std::time::Duration;
 
 /// After how many milliseconds a client that brings nothing is sent a ping, where the settings don't say: a minute.
@@ -44,6 +44,8 @@ pub struct Client {
     stream: TcpStream,
     has_brought: AtomicBool,
     has_taken: AtomicBool,
+    // How many bytes it has brought.
+    brought: AtomicUsize,
     // Whether its handshake is answered.
     is_met: AtomicBool,
 }
@@ -55,6 +57,7 @@ impl Client {
             stream,
             has_brought: AtomicBool::new(false),
             has_taken: AtomicBool::new(false),
+            brought: AtomicUsize::new(0),
             is_met: AtomicBool::new(false),
         }
     }
@@ -62,6 +65,11 @@ impl Client {
     /// Whether it has brought something since this was last asked.
     pub fn has_brought(&self) -> bool {
         self.has_brought.swap(false, Ordering::SeqCst)
+    }
+
+    /// How many bytes it has brought since this was last asked.
+    pub fn brought(&self) -> usize {
+        self.brought.swap(0, Ordering::SeqCst)
     }
 
     /// Whether it has taken something since this was last asked.
@@ -105,6 +113,7 @@ impl Read for Line {
         let mut stream = &self.client.stream;
         let count = stream.read(buf)?;
         self.client.has_brought.store(true, Ordering::SeqCst);
+        self.client.brought.fetch_add(count, Ordering::SeqCst);
         Ok(count)
     }
 }

@@ -12,6 +12,9 @@ use ws_socket::LinkFault;
 /// While more bytes than these wait for a client, nothing further of it is read, and nothing published is put behind them.
 const MOST_WAITING: usize = 65_536;
 
+/// A message of which more bytes than these have come is long.
+const LONG: usize = 262_144;
+
 /// Who is given a seat.
 pub trait Enter: Drop {
     /// A connection whose handshake is still to come.
@@ -31,6 +34,8 @@ pub struct Guest<J: Naming> {
     client: Arc<Client>,
     // None once it has ended.
     stage: Option<Stage<J>>,
+    // How many bytes have come behind its last text.
+    behind: usize,
 }
 
 impl<J: Naming> Enter for Guest<J> {
@@ -38,6 +43,7 @@ impl<J: Naming> Enter for Guest<J> {
         Guest {
             client,
             stage: Some(Stage::Greeting(Greeting::new(alloc, line))),
+            behind: 0,
         }
     }
 }
@@ -57,6 +63,11 @@ impl<J: Naming> Guest<J> {
             Some(Stage::Talking(talk)) => talk.has_waiting(),
             _ => false,
         }
+    }
+
+    /// Whether much of a message has come, and not all.
+    pub fn is_in_long(&self) -> bool {
+        self.behind > LONG
     }
 
     /// Sends a ping, unless something waits.
@@ -80,8 +91,16 @@ impl<J: Naming> Guest<J> {
         match self.stage.take()? {
             Stage::Greeting(greeting) => self.greet(alloc, greeting, limits),
             Stage::Talking(mut talk) => {
+                let texts = talk.texts();
                 let turned = talk.turn(rt, alloc, reader, desk, keeper, turns);
-                self.behind(talk, turned)
+                let brought = self.client.brought();
+                let is_same = talk.texts() == texts;
+                self.behind = if is_same {
+                    self.behind.saturating_add(brought)
+                } else {
+                    0
+                };
+                self.go_on(talk, turned)
             }
         }
     }
@@ -95,13 +114,13 @@ impl<J: Naming> Guest<J> {
             }
             Stage::Talking(mut talk) => {
                 let told = talk.tell(alloc, reader);
-                self.behind(talk, told)
+                self.go_on(talk, told)
             }
         }
     }
 
     // What a turn has come to.
-    fn behind(
+    fn go_on(
         &mut self,
         mut talk: Talk<Line, J>,
         turned: Result<Turned, LinkFault>,

@@ -8,7 +8,7 @@ use relay_core::RelayLimits;
 use std::alloc::{AllocError, Global};
 use std::collections::VecDeque;
 use std::rt::Clock;
-use std::sync::atomic::{AtomicBool, AtomicU64, Ordering};
+use std::sync::atomic::{AtomicBool, AtomicU64, AtomicUsize, Ordering};
 use std::sync::{Condvar, CondvarTimeouts, Mutex, Wait};
 use std::time::Duration;
 use ws_serve::Turns;
@@ -18,8 +18,10 @@ use ws_serve::Turns;
 pub enum Errand {
     /// A turn of the connection in this seat.
     Turn(usize),
-    /// The same of one whose last turn took long, or was over before a long text.
+    /// The same of one whose last turn took long.
     Slow(usize),
+    /// The same of one whose last turn ended before a long text or within one.
+    Long(usize),
     /// To tell one part of all clients what was published for them.
     News(usize),
 }
@@ -27,12 +29,13 @@ pub enum Errand {
 /// In so many parts all clients are told what was published, side by side.
 const PARTS: usize = 8;
 
-/// What is due, in its order. Slow turns are apart, and half of the workers are kept for the
-/// others.
+/// What is due, in its order. Slow turns are apart, and half of the workers are kept for the others. Turns with a long text are
+/// apart too: one worker alone reads those, so that its thread alone has the memory for them.
 #[derive(Drop)]
 struct Queue {
     errands: VecDeque<Errand>,
     slow: VecDeque<usize>,
+    long: VecDeque<usize>,
     // How many workers there are, and how many are at a slow turn.
     workers: usize,
     busy: usize,
@@ -45,13 +48,19 @@ impl Queue {
         !self.slow.is_empty() && self.busy < (self.workers / 2).max(1)
     }
 
-    // Whether there is something to do.
-    fn is_ready(&self) -> bool {
-        self.is_over || !self.errands.is_empty() || self.may_be_slow()
+    // Whether there is something to do, for one who reads long texts or doesn't.
+    fn is_ready(&self, reads_long: bool) -> bool {
+        self.is_over
+            || !self.errands.is_empty()
+            || self.may_be_slow()
+            || (reads_long && !self.long.is_empty())
     }
 
     // What is due next, if anything is.
-    fn take(&mut self) -> Option<Errand> {
+    fn take(&mut self, reads_long: bool) -> Option<Errand> {
+        if reads_long && !self.long.is_empty() {
+            return self.long.pop_front().map(Errand::Long);
+        }
         if self.may_be_slow() {
             self.busy = self.busy.saturating_add(1);
             return self.slow.pop_front().map(Errand::Slow);
@@ -71,6 +80,8 @@ pub struct Hall<G, K> {
     // How many events were published when it was last told, and whether each part of the clients is due to hear of them.
     published: AtomicU64,
     has_news: Vec<AtomicBool>,
+    // How many seats of each part have connections that something may be published for.
+    subscribed: Vec<AtomicUsize>,
     // How many connections come in, at most, and whether no further ones do.
     conns: u64,
     is_closed: AtomicBool,
@@ -106,8 +117,10 @@ impl<G: Drop, K: Drop> Hall<G, K> {
             all.push(Seat::new())?;
         }
         let mut has_news = Vec::with_capacity(alloc, PARTS)?;
+        let mut subscribed = Vec::with_capacity(alloc, PARTS)?;
         for _ in 0..PARTS {
             has_news.push(AtomicBool::new(false))?;
+            subscribed.push(AtomicUsize::new(0))?;
         }
         Ok(Hall {
             seats: all,
@@ -115,6 +128,7 @@ impl<G: Drop, K: Drop> Hall<G, K> {
             queue: Mutex::new(Queue {
                 errands: VecDeque::with_capacity(alloc, seats.saturating_add(PARTS))?,
                 slow: VecDeque::with_capacity(alloc, seats)?,
+                long: VecDeque::with_capacity(alloc, seats)?,
                 workers: 0,
                 busy: 0,
                 is_over: false,
@@ -123,6 +137,7 @@ impl<G: Drop, K: Drop> Hall<G, K> {
             left: Mutex::new(Vec::with_capacity(alloc, seats)?),
             published: AtomicU64::new(0),
             has_news,
+            subscribed,
             conns,
             is_closed: AtomicBool::new(false),
             has_worker: AtomicBool::new(false),
@@ -165,11 +180,11 @@ impl<G, K> Hall<G, K> {
         self.limits
     }
 
-    // How clients' long texts are read.
-    pub(crate) fn turns(&self, waits: bool) -> Turns<'_> {
+    // How a turn reads long texts.
+    pub(crate) fn turns(&self, reads_long: bool) -> Turns<'_> {
         Turns {
             lock: &self.turn,
-            waits,
+            reads_long,
         }
     }
 
@@ -183,12 +198,14 @@ impl<G, K> Hall<G, K> {
         let _ = self.waker.wake();
     }
 
-    // A worker has begun.
-    pub(crate) fn begin<R: Wait>(&self, rt: &R) {
+    // A worker has begun. It tells whether that is the first, who reads long texts.
+    pub(crate) fn begin<R: Wait>(&self, rt: &R) -> bool {
         let mut queue = self.queue.lock(rt);
+        let is_first = queue.workers == 0;
         queue.workers = queue.workers.saturating_add(1);
         drop(queue);
         self.has_worker.store(true, Ordering::SeqCst);
+        is_first
     }
 
     /// Whether a worker has begun.
@@ -219,15 +236,23 @@ impl<G, K> Hall<G, K> {
         let mut queue = self.queue.lock(rt);
         let _ = match errand {
             Errand::Slow(number) => queue.slow.push_back(number).is_ok(),
+            Errand::Long(number) => queue.long.push_back(number).is_ok(),
             other => queue.errands.push_back(other).is_ok(),
         };
         drop(queue);
-        self.has_errands.notify_one();
+        if matches!(errand, Errand::Long(_)) {
+            // One worker alone takes it.
+            self.has_errands.notify_all();
+        } else {
+            self.has_errands.notify_one();
+        }
     }
 
     // Puts a turn of the connection in a seat into the queue.
     fn queue_turn<R: Wait>(&self, rt: &R, number: usize, seat: &Seat<G>) {
-        if seat.is_slow() {
+        if seat.is_long() {
+            self.queue(rt, Errand::Long(number));
+        } else if seat.is_slow() {
             self.queue(rt, Errand::Slow(number));
         } else {
             self.queue(rt, Errand::Turn(number));
@@ -254,15 +279,47 @@ impl<G, K> Hall<G, K> {
 
     /// So many events are published. Where that is more than was told before, all clients are due to hear of them.
     pub fn tell<R: Wait>(&self, rt: &R, published: u64) {
-        if self.published.load(Ordering::SeqCst) >= published {
+        if self.published.fetch_max(published, Ordering::SeqCst) >= published {
             return;
         }
-        self.published.store(published, Ordering::SeqCst);
-        for (part, has_news) in self.has_news.iter().enumerate() {
-            if !has_news.swap(true, Ordering::SeqCst) {
+        for (part, subscribed) in self.subscribed.iter().enumerate() {
+            if subscribed.load(Ordering::SeqCst) > 0 && self.is_news(part) {
                 self.queue(rt, Errand::News(part));
             }
         }
+    }
+
+    // Whether it is news for a part of the clients that it is due to hear of what is published.
+    fn is_news(&self, part: usize) -> bool {
+        match self.has_news.get(part) {
+            Some(has_news) => !has_news.swap(true, Ordering::SeqCst),
+            None => false,
+        }
+    }
+
+    // Whether more is published than so many events, as far as was told.
+    pub(crate) fn has_more(&self, seen: u64) -> bool {
+        self.published.load(Ordering::SeqCst) > seen
+    }
+
+    // Notes what is known of the connection in a seat behind a turn: whether something may be published for it, and whether bytes wait
+    // until its client takes them.
+    pub(crate) fn note(&self, number: usize, is_subscribed: bool, is_blocked: bool) {
+        let part = number.checked_div(self.part_size()).unwrap_or(0);
+        let (Some(seat), Some(count)) = (self.seats.get(number), self.subscribed.get(part)) else {
+            return;
+        };
+        let was_subscribed = seat.note(is_subscribed, is_blocked);
+        if is_subscribed && !was_subscribed {
+            count.fetch_add(1, Ordering::SeqCst);
+        } else if was_subscribed && !is_subscribed {
+            count.fetch_sub(1, Ordering::SeqCst);
+        }
+    }
+
+    // How many seats a part of the clients has.
+    fn part_size(&self) -> usize {
+        self.seats.len().div_ceil(PARTS).max(1)
     }
 
     // The seats of a part of the clients, who hear of all that is published by now.
@@ -270,7 +327,7 @@ impl<G, K> Hall<G, K> {
         if let Some(has_news) = self.has_news.get(part) {
             has_news.store(false, Ordering::SeqCst);
         }
-        let size = self.seats.len().div_ceil(PARTS).max(1);
+        let size = self.part_size();
         let from = part.saturating_mul(size).min(self.seats.len());
         let to = from.saturating_add(size).min(self.seats.len());
         &self.seats[from..to]
@@ -278,7 +335,7 @@ impl<G, K> Hall<G, K> {
 
     // The number of the first of these seats.
     pub(crate) fn first_of(&self, part: usize) -> usize {
-        part.saturating_mul(self.seats.len().div_ceil(PARTS).max(1))
+        part.saturating_mul(self.part_size())
     }
 
     // A seat was left.
@@ -292,16 +349,16 @@ impl<G, K> Hall<G, K> {
         self.left.lock(rt).pop()
     }
 
-    // What is due next, which is waited for until serving is over.
-    pub(crate) fn next<R: Wait>(&self, rt: &R) -> Option<Errand> {
+    // What is due next for one who reads long texts or doesn't. That is waited for until serving is over.
+    pub(crate) fn next<R: Wait>(&self, rt: &R, reads_long: bool) -> Option<Errand> {
         let queue = self.queue.lock(rt);
         let mut queue = self
             .has_errands
-            .wait_while(rt, queue, |queue| !queue.is_ready());
+            .wait_while(rt, queue, |queue| !queue.is_ready(reads_long));
         if queue.is_over {
             return None;
         }
-        queue.take()
+        queue.take(reads_long)
     }
 
     // A slow turn is over.
@@ -314,6 +371,6 @@ impl<G, K> Hall<G, K> {
 
     // What is due next, if anything is.
     pub(crate) fn next_now<R: Wait>(&self, rt: &R) -> Option<Errand> {
-        self.queue.lock(rt).take()
+        self.queue.lock(rt).take(true)
     }
 }

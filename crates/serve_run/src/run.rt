@@ -1,16 +1,13 @@
 //! The job `serve`.
 
-ghost use Rattle.std.specs.Prelude.{◌≡◌, OnOk};
-ghost use Rattle.std.specs.Io.KnownBytes.{Appends};
+ghost use Rattle.std.specs.Prelude.{◌≡◌};
 
 use crate::client::Patience;
 use crate::door::{Door, WAKER};
 use crate::guest::Guest;
 use crate::hall::Hall;
-use crate::keeping::{Keeping, keep_meanwhile, keeping_of};
-use crate::refusal::{Refusal, write_refusal};
-use crate::saving::begin;
 use crate::serving::serve_beside;
+use crate::tending::keep_meanwhile;
 use event_store::{Blank, Naming, open_store};
 use mio::net::TcpListener;
 use mio::{Poll, Waker};
@@ -25,6 +22,7 @@ use std::net::{Net, ToSocketAddrs};
 use std::rt::{Clock, Files};
 use std::sync::Wait;
 use std::thread::{Threads, available_parallelism};
+use store_run::{Keeping, Refusal, begin, keeping_of, say};
 
 /// How many connections are served at once where the settings don't say.
 const CLIENTS: u64 = 64;
@@ -47,20 +45,6 @@ fn seats_of(settings: &Settings) -> usize {
     let conns = settings.conns.unwrap_or(u64::MAX);
     let clients = settings.clients.unwrap_or(CLIENTS);
     conns.min(clients).clamp(1, 100_000) as usize
-}
-
-/// Writes a text, and waits until it is written.
-pub fn say<W: Write>(writer: &mut W, text: &str) -> Result<(), Refusal>
-    ensures { OnOk result (Appends (W.contents writer.old) (W.contents writer.new) text.now) }
-{
-    match writer.write_all(text.as_bytes()) {
-        Ok(()) => {}
-        Err(error) => return Err(write_refusal(&error)),
-    }
-    match writer.flush() {
-        Ok(()) => Ok(()),
-        Err(error) => Err(write_refusal(&error)),
-    }
 }
 
 /// Listens at the first of the address' places that can be had, with room for as many connections that wait as the system allows.

@@ -24,6 +24,7 @@ pub struct Seat<G> {
     is_blocked: AtomicBool,
     is_pinged: AtomicBool,
     is_slow: AtomicBool,
+    is_long: AtomicBool,
     pub guest: Mutex<Option<G>>,
 }
 
@@ -36,6 +37,7 @@ impl<G> Seat<G> {
             is_blocked: AtomicBool::new(false),
             is_pinged: AtomicBool::new(false),
             is_slow: AtomicBool::new(false),
+            is_long: AtomicBool::new(false),
             guest: Mutex::new(None),
         }
     }
@@ -79,10 +81,10 @@ impl<G> Seat<G> {
         is_due
     }
 
-    /// Notes what is known of its connection behind a turn.
-    pub fn note(&self, is_subscribed: bool, is_blocked: bool) {
-        self.is_subscribed.store(is_subscribed, Ordering::SeqCst);
+    /// Notes what is known of its connection behind a turn. Tells whether something might be published for it before.
+    pub fn note(&self, is_subscribed: bool, is_blocked: bool) -> bool {
         self.is_blocked.store(is_blocked, Ordering::SeqCst);
+        self.is_subscribed.swap(is_subscribed, Ordering::SeqCst)
     }
 
     /// Whether something may be published for its connection.
@@ -95,14 +97,20 @@ impl<G> Seat<G> {
         self.is_blocked.load(Ordering::SeqCst)
     }
 
-    /// Notes whether its last turn took long, or was over before a long text.
-    pub fn note_slow(&self, is_slow: bool) {
+    /// Notes whether its last turn took long, and whether it ended before a long text or within one.
+    pub fn note_pace(&self, is_slow: bool, is_long: bool) {
         self.is_slow.store(is_slow, Ordering::SeqCst);
+        self.is_long.store(is_long, Ordering::SeqCst);
     }
 
-    /// Whether its last turn took long, or was over before a long text.
+    /// Whether its last turn took long.
     pub fn is_slow(&self) -> bool {
         self.is_slow.load(Ordering::SeqCst)
+    }
+
+    /// Whether its last turn ended before a long text or within one.
+    pub fn is_long(&self) -> bool {
+        self.is_long.load(Ordering::SeqCst)
     }
 
     /// A ping is wanted.
@@ -120,8 +128,8 @@ impl<G: Drop> Seat<G> {
     /// A connection has it from now on.
     pub fn give<R: Wait>(&self, rt: &R, guest: G) {
         self.put_back(rt, guest);
-        self.note(false, false);
-        self.note_slow(false);
+        let _ = self.note(false, false);
+        self.note_pace(false, false);
     }
 
     /// The connection has it again.

@@ -5,8 +5,6 @@ ghost use Rattle.std.specs.Thread.{IsSend, IsSync};
 use crate::door::Door;
 use crate::guest::Guest;
 use crate::hall::Hall;
-use crate::keeping::Keeping;
-use crate::workers::{Duty, run_workers};
 use crate::working::{Serving, serve};
 use event_store::{Desk, Naming, Reader};
 use std::alloc::Global;
@@ -14,6 +12,7 @@ use std::io::Write;
 use std::rt::Clock;
 use std::sync::Wait;
 use std::thread::{Threads, join};
+use store_run::{Duty, Keeping, run_workers};
 
 /// Who lets connections in that workers give their turns.
 trait Host<T> {

@@ -2,15 +2,14 @@
 
 use crate::guest::Guest;
 use crate::hall::{Errand, Hall};
-use crate::keeping::{Clerk, Keeping};
 use crate::seat::Seat;
-use crate::workers::Duty;
 use event_store::{Desk, Naming, Reader};
 use std::alloc::Global;
 use std::io::Write;
 use std::rt::Clock;
 use std::sync::Wait;
 use std::time::Instant;
+use store_run::{Clerk, Duty, Keeping};
 use ws_serve::Turned;
 
 /// A turn of so many milliseconds took long.
@@ -24,13 +23,13 @@ pub struct Serving<'c, 'h, C, G, K, P> {
     pub keeping: &'h P,
 }
 
-/// Gives the connection in a seat a turn. A slow one may wait while a long text of another is read.
+/// Gives the connection in a seat a turn, which reads long texts or doesn't.
 fn give_turn<J: Naming, D: Wait + Drop, R: Wait, C: Clock, E: Write + Drop>(
     rt: &R,
     alloc: Global,
     serving: &Serving<'_, '_, C, Guest<J>, Desk<J, D>, Keeping<J, E>>,
     number: usize,
-    is_slow: bool,
+    reads_long: bool,
     reader: &mut Reader<J>,
 ) {
     let hall = serving.hall;
@@ -41,15 +40,16 @@ fn give_turn<J: Naming, D: Wait + Drop, R: Wait, C: Clock, E: Write + Drop>(
         clock: serving.clock,
         keeping: serving.keeping,
     };
-    let (desk, turns, limits) = (hall.desk(), hall.turns(is_slow), hall.limits());
+    let (desk, turns, limits) = (hall.desk(), hall.turns(reads_long), hall.limits());
     seat.begin(rt);
     let guest = seat.guest.lock(rt).take();
     if let Some(mut guest) = guest {
         let begun = Instant::now(serving.clock).ok();
         let turned = guest.turn(rt, alloc, reader, desk, &clerk, turns, limits);
-        let is_long = took_long(begun, Instant::now(serving.clock).ok());
-        seat.note_slow(is_long || turned == Some(Turned::Later));
-        settle(rt, hall, seat, number, guest, turned);
+        let is_slow = took_long(begun, Instant::now(serving.clock).ok());
+        let is_long = turned == Some(Turned::Later) || guest.is_in_long();
+        seat.note_pace(is_slow, is_long);
+        settle(rt, hall, seat, number, guest, turned, reader.front().len());
     } else {
         hall.end_turn(rt, number, false);
     }
@@ -64,7 +64,7 @@ fn took_long(begun: Option<Instant>, ended: Option<Instant>) -> bool {
     }
 }
 
-/// What a turn has come to is seen to.
+/// What a turn has come to is seen to, of which its reader saw so many events.
 fn settle<R: Wait, J: Naming, K>(
     rt: &R,
     hall: &Hall<Guest<J>, K>,
@@ -72,15 +72,22 @@ fn settle<R: Wait, J: Naming, K>(
     number: usize,
     guest: Guest<J>,
     turned: Option<Turned>,
+    seen: u64,
 ) {
-    seat.note(guest.has_subs(), guest.has_waiting());
+    let has_subs = guest.has_subs();
+    hall.note(number, has_subs, guest.has_waiting());
     match turned {
         Some(turned) => {
             if seat.takes_ping() {
                 guest.ping();
             }
             seat.put_back(rt, guest);
-            let is_ready = matches!(turned, Turned::Ready | Turned::Later);
+            let is_ready = match turned {
+                Turned::Ready | Turned::Later => true,
+                // Others may have been told of it before this one was known to hear of what is published.
+                Turned::Idle => has_subs && hall.has_more(seen),
+                Turned::Full | Turned::Over => false,
+            };
             hall.end_turn(rt, number, is_ready);
         }
         None => {
@@ -106,7 +113,7 @@ fn tell_part<J: Naming, R: Wait, K>(
             let guest = seat.guest.lock(rt).take();
             if let Some(mut guest) = guest {
                 let told = guest.tell(alloc, reader);
-                settle(rt, hall, seat, number, guest, told);
+                settle(rt, hall, seat, number, guest, told, reader.front().len());
             } else {
                 hall.end_turn(rt, number, false);
             }
@@ -125,9 +132,10 @@ pub fn serve<J: Naming, D: Wait + Drop, R: Wait, C: Clock, E: Write + Drop>(
     match errand {
         Errand::Turn(number) => give_turn(rt, alloc, serving, number, false, reader),
         Errand::Slow(number) => {
-            give_turn(rt, alloc, serving, number, true, reader);
+            give_turn(rt, alloc, serving, number, false, reader);
             serving.hall.end_slow(rt);
         }
+        Errand::Long(number) => give_turn(rt, alloc, serving, number, true, reader),
         Errand::News(part) => tell_part(rt, alloc, serving.hall, part, reader),
     }
 }
@@ -135,9 +143,9 @@ pub fn serve<J: Naming, D: Wait + Drop, R: Wait, C: Clock, E: Write + Drop>(
 impl<'c, 'h, C: Clock, J: Naming, D: Wait + Drop, E: Write + Drop> Duty<Reader<J>>
     for Serving<'c, 'h, C, Guest<J>, Desk<J, D>, Keeping<J, E>> {
     fn work<R: Wait>(&self, rt: &R, alloc: Global, reader: &mut Reader<J>) {
-        self.hall.begin(rt);
+        let reads_long = self.hall.begin(rt);
         for _ in 0..u64::MAX {
-            let Some(errand) = self.hall.next(rt) else {
+            let Some(errand) = self.hall.next(rt, reads_long) else {
                 return;
             };
             serve(rt, alloc, self, errand, reader);

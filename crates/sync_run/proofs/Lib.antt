@@ -1,6 +1,2 @@
-pub mod Ends
-pub mod Headlines
 pub mod Loads
-pub mod Numbers
-pub mod Rounds
-pub mod Written
+pub mod Results

@@ -3,21 +3,18 @@
 ghost use Rattle.std.specs.Prelude.{◌≡◌, ◌++◌, ℕ, List, None, IfOk, OnOk};
 ghost use Rattle.std.specs.Io.KnownBytes.{Appends};
 ghost use Rattle.std.specs.Thread.{IsSend};
-ghost use Rattle.sync_run.specs.Lines.{ends_text, plan_text, counts_text};
-ghost use Rattle.sync_run.specs.Rounds.{BeginAt};
-ghost use Rattle.sync_run.specs.Printed.{IsSynced, IsSyncDone, PrintsOver, PrintsOfSome};
+ghost use Rattle.session_run.specs.Lines.{ends_text, plan_text, counts_text};
+ghost use Rattle.session_run.specs.Rounds.{BeginAt};
+ghost use Rattle.session_run.specs.Synced.{IsSynced};
+ghost use Rattle.sync_run.specs.Printed.{IsSyncDone, PrintsOver, PrintsOfSome};
 
-use crate::fetching::Counts;
-use crate::pass::{Compared, compare, fetch_rounds};
-use crate::progress::{Nowhere, Progress};
-use crate::text::{put_counts, put_ends, put_plan};
 use event_store::{Blank, Desk, Naming, Reader, open_store};
 use mirror_core::{SyncFault, Synced};
 use mirror_settings::{Job, Settings, SettingsKey, read_settings};
 use offer_table::RelaySet;
-use serve_run::{
-    Guest, Hall, Keeping, Refusal, begin, keep_beside, keep_in_hall, keep_meanwhile, keeping_of,
-    open_hall, readers_for, say, serve_beside,
+use serve_run::{Guest, Hall, keep_in_hall, keep_meanwhile, open_hall, readers_for, serve_beside};
+use session_run::{
+    Compared, Counts, Nowhere, Progress, compare, fetch_rounds, put_counts, put_ends, put_plan,
 };
 use std::alloc::Global;
 use std::fs::File;
@@ -29,6 +26,7 @@ use std::random::RandomSource;
 use std::rt::{Clock, Files};
 use std::sync::{Mutex, Wait};
 use std::thread::Threads;
+use store_run::{Keeping, Refusal, begin, keeping_of, say};
 
 /// What a fault of the sessions comes to.
 fn refusal_of(fault: SyncFault) -> Refusal {

@@ -2,7 +2,8 @@ use denote.Exit.{no}
 use denote.Param.{param}
 use denote.Param.Send.{param_send, param_sync, arg_send, arg_sync}
 use Rattle.event_store.proofs.Crossing.{desk_send, reader_send}
-use Rattle.serve_run.proofs.Crossing.{guest_send, keeping_sync}
+use Rattle.store_run.proofs.Crossing.{keeping_sync}
+use Rattle.serve_run.proofs.Crossing.{guest_send}
 use Rattle.serve_run.proofs.working.Serving.TheSendSync as serving
 use Rattle.serve_run.proofs.serving.serve_beside.Goals as goal
 

@@ -1,5 +1,5 @@
 use Rattle.std.proofs.lemmas.Result.{on_ok_weaker}
-use Rattle.sync_run.proofs.Written.{append_both}
+use Rattle.session_run.proofs.Written.{append_both}
 use Rattle.sync_run.proofs.run.run_all.Goals as goal
 
 pub returns : goal.returns

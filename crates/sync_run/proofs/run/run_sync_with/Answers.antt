@@ -1,6 +1,6 @@
 use Rattle.std.proofs.lemmas.Result.{on_ok_weaker}
 use Rattle.sync_run.proofs.Loads.{begin_with}
-use Rattle.sync_run.proofs.Written.{on_ok_given}
+use Rattle.sync_run.proofs.Results.{on_ok_given}
 use Rattle.sync_run.proofs.run.run_sync_with.Goals as goal
 
 pub returns : goal.returns

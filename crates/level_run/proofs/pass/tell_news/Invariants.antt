@@ -1,5 +1,0 @@
-use Rattle.level_run.proofs.Telling.{IsTold}
-use Rattle.level_run.proofs.pass.tell_news.Given as goal
-
-abbrev pub invariant-loop-at : goal.invariant-loop-at
-invariant-loop-at g l = IsTold (g.W.Write.contents l.initial.writer) (g.W.Write.contents l.writer)

@@ -1,0 +1,6 @@
+pub mod Ends
+pub mod Headlines
+pub mod Loads
+pub mod Numbers
+pub mod Rounds
+pub mod Written

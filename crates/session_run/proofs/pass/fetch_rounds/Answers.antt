@@ -1,0 +1,47 @@
+use Rattle.std.proofs.Common.{◌≡◌, ◌+◌, ◌∙◌, ap, subst, length, arith}
+use Rattle.std.specs.Io.KnownBytes.{Appends}
+use Rattle.session_run.specs.Lines.{round_text}
+use Rattle.session_run.specs.Rounds.{Stage, IsNext, begin_at}
+use Rattle.session_run.proofs.Written.{append_nothing}
+use Rattle.session_run.proofs.Rounds.{none_ended, next_round, all_ended, as_many, none_left, is_next}
+use Rattle.session_run.proofs.pass.fetch_rounds.Goals as goal
+
+pub loop-round-init : goal.loop-round-init
+loop-round-init g c = record {
+  at = none_ended _ _ c.none-all.result c.none-all.ensures.given c.none-all.ensures.missed (append_nothing _);
+  few = omega arith;
+}
+
+pub loop-round-preserved : goal.loop-round-preserved
+loop-round-preserved g c =
+    let cells = c.as_slice-cells.result.now in
+    let next : Stage = begin_at c.failover_plan.new.table c.in_ok-plan.plan in
+    let is : IsNext (begin_at c.loop-round.table c.loop-round.plan) cells next =
+    is_next c.loop-round.table.offers c.failover_plan.new.table.offers c.loop-round.plan c.in_ok-plan.plan cells c.bases.result c.grown-bases.result c.union-stopped.result
+    (ap length c.as_slice-cells.ensures.value ∙ c.in_ok-ended.ensures) c.planned-given.ensures.plan c.bases.ensures c.grown-bases.ensures c.in_ok-plan.ensures.left c.in_ok-plan.ensures.planned in
+    let number : c.saturating_add.result ≡ c.loop-round.round + 1 = omega (arith, c.saturating_add.ensures) in
+    record {
+      at = next_round _ _ c.loop-round.round _ _ _ c.loop-round.all c.counts_of.result c.with-all.result cells next c.loop-round.invariant.at c.counts_of.ensures
+          (record { given = c.with-all.ensures.given; missed = c.with-all.ensures.missed; left = c.with-all.ensures.left }) is (omega (arith, c.len.ensures.value))
+          (subst (λ n. Appends (g.W.Write.contents c.loop-round.writer) (g.W.Write.contents c.say_round.new.writer) (round_text n c.in_ok-plan.plan)) number c.in_ok-say_round.ensures);
+      few = omega arith;
+    }
+
+pub returns-then-len-eq0 : goal.returns-then-len-eq0
+returns-then-len-eq0 g c =
+    let cells = c.as_slice-cells.result.now in
+    let next : Stage = begin_at c.failover_plan.new.table c.in_ok-plan.plan in
+    let is : IsNext (begin_at c.loop-round.table c.loop-round.plan) cells next =
+    is_next c.loop-round.table.offers c.failover_plan.new.table.offers c.loop-round.plan c.in_ok-plan.plan cells c.bases.result c.grown-bases.result c.union-stopped.result
+    (ap length c.as_slice-cells.ensures.value ∙ c.in_ok-ended.ensures) c.planned-given.ensures.plan c.bases.ensures c.grown-bases.ensures c.in_ok-plan.ensures.left c.in_ok-plan.ensures.planned in
+    all_ended c.args.settings.now.rounds _ _ c.loop-round.round _ _ c.loop-round.all c.counts_of.result c.with-all.result cells c.loop-round.invariant.at c.counts_of.ensures
+    (record { given = c.with-all.ensures.given; missed = c.with-all.ensures.missed; left = c.with-all.ensures.left }) is.whole
+    (none_left c.args.settings.now.rounds _ _ c.loop-round.round _ _ c.loop-round.all cells next c.loop-round.invariant.at (omega arith) is (omega (arith, c.len.ensures.value)))
+
+pub returns : goal.returns
+returns g c =
+    let cells = c.as_slice-4.result.now in
+    all_ended c.args.settings.now.rounds _ _ c.loop-round.round _ _ c.loop-round.all c.counts_of-2.result c.with.result cells c.loop-round.invariant.at c.counts_of-2.ensures
+    (record { given = c.with.ensures.given; missed = c.with.ensures.missed; left = c.with.ensures.left })
+    (ap length c.as_slice-4.ensures.value ∙ c.in_ok-ended-2.ensures)
+    (as_many c.args.settings.now.rounds _ _ c.loop-round.round _ _ c.loop-round.all cells c.loop-round.invariant.at (omega arith) c.loop-round.invariant.few)

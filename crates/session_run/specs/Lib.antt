@@ -1,0 +1,4 @@
+pub mod Fetched
+pub mod Lines
+pub mod Rounds
+pub mod Synced

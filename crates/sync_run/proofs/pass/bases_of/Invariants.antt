@@ -1,5 +1,0 @@
-use Rattle.sync_run.proofs.Loads.{IsBegun}
-use Rattle.sync_run.proofs.pass.bases_of.Given as goal
-
-abbrev pub invariant-loop-relay : goal.invariant-loop-relay
-invariant-loop-relay l = IsBegun l.loads l.bases l.relay
