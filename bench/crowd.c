@@ -58,6 +58,20 @@ static int joined(int port) {
     return stream;
 }
 
+// Receives until these words have come; of what came before them only the last is kept.
+static void receive(int stream, char *buffer, const char *words) {
+    int got = 0;
+    for (;;) {
+        int more = (int)recv(stream, buffer + got, MOST - 1 - got, 0);
+        if (more <= 0) stop(words);
+        got += more;
+        buffer[got] = 0;
+        for (int k = 0; k < got; k++) if (!buffer[k]) buffer[k] = ' ';
+        if (strstr(buffer, words)) return;
+        if (got > 2048) memmove(buffer, buffer + got - 64, 64), got = 64;
+    }
+}
+
 static int wide(const void *a, const void *b) {
     double x = *(const double *)a, y = *(const double *)b;
     return (x > y) - (x < y);
@@ -77,30 +91,14 @@ int main(int argc, char **argv) {
     for (int i = 0; i < count; i++) streams[i] = joined(port);
     // The head, and then the EOSE.
     for (int i = 0; i < count; i++) {
-        int got = 0;
-        for (;;) {
-            int more = (int)recv(streams[i], buffer + got, sizeof buffer - 1 - got, 0);
-            if (more <= 0) stop("handshake");
-            got += more;
-            buffer[got] = 0;
-            if (strstr(buffer, "\r\n\r\n")) break;
-        }
+        receive(streams[i], buffer, "\r\n\r\n");
         if (strncmp(buffer, "HTTP/1.1 101", 12) != 0) return 1;
         unsigned char frame[128];
         int size = framed(frame, "[\"REQ\",\"a\",{\"kinds\":[1],\"limit\":1}]");
         if (send(streams[i], frame, size, 0) != size) stop("send");
     }
     for (int i = 0; i < count; i++) {
-        int got = 0;
-        for (;;) {
-            int more = (int)recv(streams[i], buffer + got, sizeof buffer - 1 - got, 0);
-            if (more <= 0) stop("EOSE");
-            got += more;
-            buffer[got] = 0;
-            for (int k = 0; k < got; k++) if (!buffer[k]) buffer[k] = ' ';
-            if (strstr(buffer, "EOSE")) break;
-            if (got > 2048) memmove(buffer, buffer + got - 64, 64), got = 64;
-        }
+        receive(streams[i], buffer, "EOSE");
         struct epoll_event event = {.events = EPOLLIN, .data.u32 = i};
         fcntl(streams[i], F_SETFL, O_NONBLOCK);
         epoll_ctl(poll, EPOLL_CTL_ADD, streams[i], &event);

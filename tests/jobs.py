@@ -6,6 +6,7 @@
 import contextlib
 import json
 import os
+import random
 import resource
 import select
 import socket
@@ -346,6 +347,21 @@ def long_files_are_read_piece_by_piece(path, folder):
     same(done(path, "serve", conf), (1, "", "refused: file line 44\n"))
 
 
+def the_first_wrong_line_is_told(path, folder):
+    """Lines are read side by side in parts: whichever lines are wrong, the first of them is told, and an empty one is none."""
+    lines = [json.dumps(event(1700000000 + n, "%d " % n * 30)) for n in range(40_000)]
+    conf = settings(folder, "it", listen="127.0.0.1:0", conns=1)
+    rng = random.Random(1)
+    for wrong in [[0, 39_999], [39_998, 39_999]] + [sorted(rng.sample(range(40_000), 3)) for _ in range(8)]:
+        put = list(lines)
+        put[rng.randrange(40_000)] = ""
+        for place in wrong:
+            put[place] = lines[place][:-1]
+        with open(os.path.join(folder, "it.jsonl"), "w") as file:
+            file.writelines(line + "\n" for line in put)
+        same(done(path, "serve", conf), (1, "", "refused: file line %d\n" % (wrong[0] + 1)))
+
+
 def one_run_has_an_events_file(path, folder):
     """A second run is refused and leaves no trace; the first is kept from nothing, also where the file is a link."""
     kept = os.path.join(folder, "kept.jsonl")
@@ -407,8 +423,8 @@ def main():
                  a_filter_and_bases_are_kept, what_was_missed_is_planned_anew, what_was_left_is_asked_for_again,
                  two_workers_fetch_side_by_side, what_is_no_event_asked_for_is_missed, a_client_learns_what_it_lacks,
                  connections_wait_for_descriptors, hosts_have_names, refusals_say_what_and_where,
-                 long_files_are_read_piece_by_piece, one_run_has_an_events_file, no_other_file_is_written, a_missing_folder_is_told_first,
-                 wrong_settings_are_told):
+                 long_files_are_read_piece_by_piece, the_first_wrong_line_is_told, one_run_has_an_events_file,
+                 no_other_file_is_written, a_missing_folder_is_told_first, wrong_settings_are_told):
         with tempfile.TemporaryDirectory() as folder:
             part(path, folder)
         print(part.__name__.replace("_", " "))

@@ -331,6 +331,19 @@ const ID_2: Id = Id([
     0xa8, 0xb8, 0xe3, 0xf8, 0x24, 0x08, 0x00, 0x64, 0x65, 0xae, 0xb8, 0xdd, 0xe0, 0x11, 0x9e, 0x79,
 ]);
 
+/// Limits that few messages reach.
+pub fn small_limits() -> RelayLimits {
+    RelayLimits {
+        subs: 4,
+        filters: 2,
+        text: 400,
+        sessions: 1,
+        records: 100,
+        limit: 4_096,
+        is_read_only: false,
+    }
+}
+
 /// Serves a client over an empty store, and gives the number of texts, or of the fault.
 fn served<J: Naming, D: Wait + Drop, R: Wait>(
     rt: &R,
@@ -345,17 +358,8 @@ fn served<J: Naming, D: Wait + Drop, R: Wait>(
     let (desk, mut readers) = open_store::<J, D>(keep, alloc, blank, 1).ok()?;
     let mut reader = readers.pop()?;
     let desk = Mutex::new(desk);
-    let limits = RelayLimits {
-        subs: 4,
-        filters: 2,
-        text: 400,
-        sessions: 1,
-        records: 100,
-        limit: 4_096,
-        is_read_only: false,
-    };
     Some(
-        match serve_conn(rt, alloc, stream, &mut reader, &desk, limits) {
+        match serve_conn(rt, alloc, stream, &mut reader, &desk, small_limits()) {
             Ok(texts) => Ok(texts),
             Err(fault) => Err(fault.number()),
         },
