@@ -44,8 +44,8 @@ returns-in-Err-Line-clause-wrong g c n is =
       c.in-Ok.taken + here.0,
       omega (arith, number, here.1),
       rw (← c.ahead.view_is)
-      (wrong_more most (c.in-Ok.taken + here.0) c.in-Ok.taken here.0 lines c.args.desk.now c.insert_all.new.self c.insert_lines.new.desk refl both.0
-      (subst (λ ls. WrongBehind most here.0 ls c.insert_all.new.self c.insert_lines.new.desk) both.1 here.2)),
+          (wrong_more most (c.in-Ok.taken + here.0) c.in-Ok.taken here.0 lines c.args.desk.now c.insert_all.new.self c.insert_lines.new.desk refl both.0
+          (subst (λ ls. WrongBehind most here.0 ls c.insert_all.new.self c.insert_lines.new.desk) both.1 here.2)),
     )
 
 pub returns-in-Err-Memory-clause-memory : goal.returns-in-Err-Memory-clause-memory
@@ -58,6 +58,6 @@ returns-in-Err-Memory-clause-memory g c is =
     let lines = lines_of c.ahead.inside.text.now in (
       c.in-Ok.taken + here.0,
       rw (← c.ahead.view_is)
-      (told_more (c.in-Ok.taken + here.0) c.in-Ok.taken here.0 lines c.args.desk.now c.insert_all.new.self c.insert_lines.new.desk refl both.0
-      (subst (λ ls. LinesTell (take here.0 ls) c.insert_all.new.self c.insert_lines.new.desk) both.1 here.1)),
+          (told_more (c.in-Ok.taken + here.0) c.in-Ok.taken here.0 lines c.args.desk.now c.insert_all.new.self c.insert_lines.new.desk refl both.0
+          (subst (λ ls. LinesTell (take here.0 ls) c.insert_all.new.self c.insert_lines.new.desk) both.1 here.1)),
     )
