@@ -274,7 +274,7 @@ def filters_asked(port):
 
 
 ROWS = [
-    ("values", "32 subscriptions of 545,000 values of a tag each", tag_values, 100, None),
+    ("values", "32 subscriptions of 545,000 values of a tag each", tag_values, 80, None),
     ("held", "32 subscriptions of 2,190 values of a tag each", held_values, 20, None),
     ("empty", "32 subscriptions of 730,000 empty values each", no_values, 80, None),
     ("ids", "32 subscriptions of 32,000 ids each", listed_ids, 80, None),
