@@ -3,7 +3,7 @@
 use mio::net::TcpStream;
 use mirror_settings::Settings;
 use std::io;
-use std::io::{Read, Write};
+use std::io::{ErrorKind, Read, Write};
 use std::net::Shutdown;
 use std::sync::Arc;
 use std::sync::atomic::{AtomicBool, AtomicUsize, Ordering};
@@ -48,6 +48,9 @@ pub struct Client {
     brought: AtomicUsize,
     // Whether its handshake is answered.
     is_met: AtomicBool,
+    // Whether it may have brought something that isn't read, and whether nothing more comes behind that.
+    has_more: AtomicBool,
+    is_ending: AtomicBool,
 }
 
 impl Client {
@@ -59,7 +62,22 @@ impl Client {
             has_taken: AtomicBool::new(false),
             brought: AtomicUsize::new(0),
             is_met: AtomicBool::new(false),
+            has_more: AtomicBool::new(true),
+            is_ending: AtomicBool::new(false),
         }
+    }
+
+    /// Something was heard of it, which may be that nothing more comes.
+    pub fn hear(&self, is_ending: bool) {
+        if is_ending {
+            self.is_ending.store(true, Ordering::SeqCst);
+        }
+        self.has_more.store(true, Ordering::SeqCst);
+    }
+
+    // Whether there may be something to read.
+    fn may_have_more(&self) -> bool {
+        self.has_more.load(Ordering::SeqCst) || self.is_ending.load(Ordering::SeqCst)
     }
 
     /// Whether it has brought something since this was last asked.
@@ -109,9 +127,22 @@ pub struct Line {
 }
 
 impl Read for Line {
+    // Where less was read than there was room for, the stream had nothing more, until more is heard of it.
     fn read(&mut self, buf: &mut [u8]) -> io::Result<usize> {
+        if !self.client.may_have_more() {
+            return Err(io::Error::from(ErrorKind::WouldBlock));
+        }
+        self.client.has_more.store(false, Ordering::SeqCst);
         let mut stream = &self.client.stream;
-        let count = stream.read(buf)?;
+        let read = stream.read(buf);
+        let has_more = match &read {
+            Ok(count) => *count == buf.len(),
+            Err(error) => error.kind() != ErrorKind::WouldBlock,
+        };
+        if has_more {
+            self.client.has_more.store(true, Ordering::SeqCst);
+        }
+        let count = read?;
         self.client.has_brought.store(true, Ordering::SeqCst);
         self.client.brought.fetch_add(count, Ordering::SeqCst);
         Ok(count)

@@ -139,16 +139,19 @@ impl Door {
         })
     }
 
-    /// Waits until something has happened, does what is to be done about it, and tells whether connections may still come or are
-    /// here.
+    /// Waits until something has happened, unless that is urgent elsewhere, does what is to be done about it, and tells whether
+    /// connections may still come or are here.
     pub fn tend<R: Wait, C: Clock, G: Enter, K>(
         &mut self,
         rt: &R,
         clock: &C,
         alloc: Global,
         hall: &Hall<G, K>,
+        is_urgent: bool,
     ) -> bool {
-        let patience = if self.may_wait && !self.free.is_empty() {
+        let patience = if is_urgent {
+            Duration::ZERO
+        } else if self.may_wait && !self.free.is_empty() {
             Duration::from_millis(PAUSE)
         } else {
             round_of(hall.patience())
@@ -174,6 +177,11 @@ impl Door {
             if token == LISTENER {
                 self.may_wait = true;
             } else if token != WAKER {
+                if let Some(Some(known)) = self.known.get(token.0) {
+                    known
+                        .client
+                        .hear(event.is_read_closed() || event.is_error());
+                }
                 hall.call(rt, token.0);
             }
         }

@@ -2,79 +2,31 @@
 
 use crate::client::Patience;
 use crate::door::Door;
+use crate::queue::{Errand, Idle, Next, Queue};
 use crate::seat::Seat;
 use mio::Waker;
 use relay_core::RelayLimits;
 use std::alloc::{AllocError, Global};
-use std::collections::VecDeque;
 use std::rt::Clock;
 use std::sync::atomic::{AtomicBool, AtomicU64, AtomicUsize, Ordering};
-use std::sync::{Condvar, CondvarTimeouts, Mutex, Wait};
+use std::sync::{Condvar, CondvarTimeouts, Mutex, MutexGuard, Wait};
 use std::time::Duration;
 use ws_serve::Turns;
-
-/// What is due.
-#[derive(Clone, Copy, Debug, PartialEq, Eq)]
-pub enum Errand {
-    /// A turn of the connection in this seat.
-    Turn(usize),
-    /// The same of one whose last turn took long.
-    Slow(usize),
-    /// The same of one whose last turn ended before a long text or within one.
-    Long(usize),
-    /// To tell one part of all clients what was published for them.
-    News(usize),
-}
 
 /// In so many parts all clients are told what was published, side by side.
 const PARTS: usize = 8;
 
-/// What is due, in its order. Slow turns are apart, and half of the workers are kept for the others. Turns with a long text are
-/// apart too: one worker alone reads those, so that its thread alone has the memory for them.
-#[derive(Drop)]
-struct Queue {
-    errands: VecDeque<Errand>,
-    slow: VecDeque<usize>,
-    long: VecDeque<usize>,
-    // How many workers there are, and how many are at a slow turn.
-    workers: usize,
-    busy: usize,
-    is_over: bool,
-}
-
-impl Queue {
-    // Whether a slow turn may begin.
-    fn may_be_slow(&self) -> bool {
-        !self.slow.is_empty() && self.busy < (self.workers / 2).max(1)
-    }
-
-    // Whether there is something to do, for one who reads long texts or doesn't.
-    fn is_ready(&self, reads_long: bool) -> bool {
-        self.is_over
-            || !self.errands.is_empty()
-            || self.may_be_slow()
-            || (reads_long && !self.long.is_empty())
-    }
-
-    // What is due next, if anything is.
-    fn take(&mut self, reads_long: bool) -> Option<Errand> {
-        if reads_long && !self.long.is_empty() {
-            return self.long.pop_front().map(Errand::Long);
-        }
-        if self.may_be_slow() {
-            self.busy = self.busy.saturating_add(1);
-            return self.slow.pop_front().map(Errand::Slow);
-        }
-        self.errands.pop_front()
-    }
-}
+/// After how many milliseconds a worker that watches looks whether nobody is at the door.
+const WATCH: u64 = 5;
 
 /// A hall with so many seats, and the desk of the store that connections are served from.
 #[derive(Drop)]
 pub struct Hall<G, K> {
     seats: Vec<Seat<G>>,
     queue: Mutex<Queue>,
+    // Where workers wait, and where the one who reads long texts does.
     has_errands: Condvar,
+    has_long: Condvar,
     // Seats that connections have left.
     left: Mutex<Vec<usize>>,
     // How many events were published when it was last told, and whether each part of the clients is due to hear of them.
@@ -87,11 +39,12 @@ pub struct Hall<G, K> {
     is_closed: AtomicBool,
     // Whether a worker has begun.
     has_worker: AtomicBool,
-    // Who lets connections in, until that begins, and what wakes it.
-    door: Mutex<Option<Door>>,
+    // What wakes who is at the door.
     waker: Waker,
     patience: Patience,
     limits: RelayLimits,
+    // Whether events are kept once they are synced, which may take long.
+    syncs: bool,
     desk: Mutex<K>,
     // Held while a long text is read.
     turn: Mutex<()>,
@@ -110,6 +63,7 @@ impl<G: Drop, K: Drop> Hall<G, K> {
         waker: Waker,
         patience: Patience,
         limits: RelayLimits,
+        syncs: bool,
         desk: K,
     ) -> Result<Hall<G, K>, AllocError> {
         let mut all = Vec::with_capacity(alloc, seats)?;
@@ -124,16 +78,9 @@ impl<G: Drop, K: Drop> Hall<G, K> {
         }
         Ok(Hall {
             seats: all,
-            // Each seat stands in it once at most, and so does each part of the news.
-            queue: Mutex::new(Queue {
-                errands: VecDeque::with_capacity(alloc, seats.saturating_add(PARTS))?,
-                slow: VecDeque::with_capacity(alloc, seats)?,
-                long: VecDeque::with_capacity(alloc, seats)?,
-                workers: 0,
-                busy: 0,
-                is_over: false,
-            }),
+            queue: Mutex::new(Queue::new(alloc, seats, PARTS, door)?),
             has_errands: Condvar::new(),
+            has_long: Condvar::new(),
             left: Mutex::new(Vec::with_capacity(alloc, seats)?),
             published: AtomicU64::new(0),
             has_news,
@@ -141,10 +88,10 @@ impl<G: Drop, K: Drop> Hall<G, K> {
             conns,
             is_closed: AtomicBool::new(false),
             has_worker: AtomicBool::new(false),
-            door: Mutex::new(Some(door)),
             waker,
             patience,
             limits,
+            syncs,
             desk: Mutex::new(desk),
             turn: Mutex::new(()),
             over: Mutex::new(false),
@@ -157,11 +104,6 @@ impl<G, K> Hall<G, K> {
     /// The desk, which others may use beside the connections.
     pub fn desk(&self) -> &Mutex<K> {
         &self.desk
-    }
-
-    // Who lets connections in, once.
-    pub(crate) fn door<R: Wait>(&self, rt: &R) -> Option<Door> {
-        self.door.lock(rt).take()
     }
 
     pub(crate) fn seats(&self) -> &[Seat<G>] {
@@ -200,10 +142,7 @@ impl<G, K> Hall<G, K> {
 
     // A worker has begun. It tells whether that is the first, who reads long texts.
     pub(crate) fn begin<R: Wait>(&self, rt: &R) -> bool {
-        let mut queue = self.queue.lock(rt);
-        let is_first = queue.workers == 0;
-        queue.workers = queue.workers.saturating_add(1);
-        drop(queue);
+        let is_first = self.queue.lock(rt).begin();
         self.has_worker.store(true, Ordering::SeqCst);
         is_first
     }
@@ -215,8 +154,9 @@ impl<G, K> Hall<G, K> {
 
     // Serving is over.
     pub(crate) fn end<R: Wait>(&self, rt: &R) {
-        self.queue.lock(rt).is_over = true;
+        self.queue.lock(rt).end();
         self.has_errands.notify_all();
+        self.has_long.notify_all();
         *self.over.lock(rt) = true;
         self.ending.notify_all();
     }
@@ -231,20 +171,34 @@ impl<G, K> Hall<G, K> {
         !waited.timed_out()
     }
 
-    // Puts it into the queue.
+    // All who wait look what there is to do.
+    fn rouse(&self) {
+        self.has_errands.notify_all();
+        self.has_long.notify_all();
+        let _ = self.waker.wake();
+    }
+
+    // One who waits looks what there is to do.
+    fn wake(&self, idle: Option<Idle>) {
+        match idle {
+            Some(Idle::Reader) => self.has_long.notify_one(),
+            Some(Idle::Other) => self.has_errands.notify_one(),
+            None => {}
+        }
+    }
+
+    // Puts it into the queue. Who does so looks there next. For a long text that isn't enough, which one worker alone reads: it may be
+    // at the door.
     fn queue<R: Wait>(&self, rt: &R, errand: Errand) {
         let mut queue = self.queue.lock(rt);
-        let _ = match errand {
-            Errand::Slow(number) => queue.slow.push_back(number).is_ok(),
-            Errand::Long(number) => queue.long.push_back(number).is_ok(),
-            other => queue.errands.push_back(other).is_ok(),
-        };
+        queue.put(errand);
+        let reader = queue.idle_reader();
         drop(queue);
         if matches!(errand, Errand::Long(_)) {
-            // One worker alone takes it.
-            self.has_errands.notify_all();
-        } else {
-            self.has_errands.notify_one();
+            self.wake(reader);
+            if reader.is_none() {
+                let _ = self.waker.wake();
+            }
         }
     }
 
@@ -277,15 +231,26 @@ impl<G, K> Hall<G, K> {
         }
     }
 
-    /// So many events are published. Where that is more than was told before, all clients are due to hear of them.
-    pub fn tell<R: Wait>(&self, rt: &R, published: u64) {
+    // So many events are published. Where that is more than was told before, all clients are due to hear of them. It tells whether
+    // anything is due.
+    pub(crate) fn publish<R: Wait>(&self, rt: &R, published: u64) -> bool {
         if self.published.fetch_max(published, Ordering::SeqCst) >= published {
-            return;
+            return false;
         }
+        let mut is_due = false;
         for (part, subscribed) in self.subscribed.iter().enumerate() {
             if subscribed.load(Ordering::SeqCst) > 0 && self.is_news(part) {
                 self.queue(rt, Errand::News(part));
+                is_due = true;
             }
+        }
+        is_due
+    }
+
+    /// The same by who is no worker of the hall.
+    pub fn tell<R: Wait>(&self, rt: &R, published: u64) {
+        if self.publish(rt, published) {
+            self.rouse();
         }
     }
 
@@ -349,28 +314,59 @@ impl<G, K> Hall<G, K> {
         self.left.lock(rt).pop()
     }
 
-    // What is due next for one who reads long texts or doesn't. That is waited for until serving is over.
-    pub(crate) fn next<R: Wait>(&self, rt: &R, reads_long: bool) -> Option<Errand> {
-        let queue = self.queue.lock(rt);
-        let mut queue = self
-            .has_errands
-            .wait_while(rt, queue, |queue| !queue.is_ready(reads_long));
-        if queue.is_over {
-            return None;
+    // What a worker does next, who reads long texts or doesn't. That is waited for.
+    pub(crate) fn next<R: Wait + Clock>(&self, rt: &R, reads_long: bool) -> Next {
+        for _ in 0..u64::MAX {
+            let mut queue = self.queue.lock(rt);
+            if let Some(next) = queue.next(reads_long) {
+                let wanted = queue.wanted();
+                drop(queue);
+                self.wake(wanted);
+                return next;
+            }
+            self.wait(rt, queue, reads_long);
         }
-        queue.take(reads_long)
+        Next::End
+    }
+
+    // Waits until a worker may have something to do.
+    fn wait<R: Wait + Clock>(&self, rt: &R, mut queue: MutexGuard<'_, Queue>, reads_long: bool) {
+        let place = if reads_long {
+            &self.has_long
+        } else {
+            &self.has_errands
+        };
+        let watches = queue.begin_waiting(reads_long);
+        let mut queue = if watches {
+            let patience = Duration::from_millis(WATCH);
+            let (queue, _) = place.wait_timeout_while(
+                rt,
+                queue,
+                patience,
+                |queue| !queue.has_next(reads_long),
+            );
+            queue
+        } else {
+            place.wait_while(rt, queue, |queue| !queue.has_next(reads_long))
+        };
+        queue.end_waiting(reads_long, watches);
+    }
+
+    // A worker leaves the door.
+    pub(crate) fn leave_door<R: Wait>(&self, rt: &R, door: Door) {
+        self.queue.lock(rt).leave_door(door);
+    }
+
+    // A worker waits until events are kept. Where that may take long, another goes to the door meanwhile, if nobody is there.
+    pub(crate) fn wait_aside<R: Wait>(&self, rt: &R) {
+        if self.syncs {
+            let wanted = self.queue.lock(rt).wanted_at_door();
+            self.wake(wanted);
+        }
     }
 
     // A slow turn is over.
     pub(crate) fn end_slow<R: Wait>(&self, rt: &R) {
-        let mut queue = self.queue.lock(rt);
-        queue.busy = queue.busy.saturating_sub(1);
-        drop(queue);
-        self.has_errands.notify_one();
-    }
-
-    // What is due next, if anything is.
-    pub(crate) fn next_now<R: Wait>(&self, rt: &R) -> Option<Errand> {
-        self.queue.lock(rt).take(true)
+        self.queue.lock(rt).end_slow();
     }
 }

@@ -5,6 +5,7 @@ mod client;
 mod door;
 mod guest;
 mod hall;
+mod queue;
 mod run;
 mod seat;
 mod serving;

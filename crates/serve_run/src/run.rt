@@ -11,7 +11,7 @@ use crate::tending::keep_meanwhile;
 use event_store::{Blank, Naming, open_store};
 use mio::net::TcpListener;
 use mio::{Poll, Waker};
-use mirror_settings::{Address, Job, Settings, SettingsKey, read_settings};
+use mirror_settings::{Address, Job, Settings, SettingsKey, Syncing, read_settings};
 use relay_core::RelayLimits;
 use std::alloc::Global;
 use std::fs::File;
@@ -30,8 +30,8 @@ const CLIENTS: u64 = 64;
 /// How many workers there are where it isn't known how many processors there are.
 const WORKERS: usize = 8;
 
-/// How many readers a hall takes: one for each worker, of whom two share a processor since some wait for the events file, and one for who
-/// lets connections in.
+/// How many readers a hall takes: one for each worker, of whom two share a processor since some wait for the events file, and one of
+/// whom is at the door.
 pub fn readers_for<R: Threads>(rt: &R) -> usize {
     let workers = match available_parallelism(rt) {
         Ok(processors) => processors.get().saturating_mul(2).clamp(4, 64),
@@ -96,7 +96,10 @@ pub fn open_hall<J: Naming, K: Drop, R: Net, W: Write>(
     let conns = settings.conns.unwrap_or(u64::MAX);
     let limits = RelayLimits::default().read_only(settings.read_only);
     let patience = Patience::of(settings);
-    let hall = Hall::new(alloc, conns, seats, door, waker, patience, limits, desk)?;
+    let syncs = settings.fsync == Syncing::Always;
+    let hall = Hall::new(
+        alloc, conns, seats, door, waker, patience, limits, syncs, desk,
+    )?;
     let (host, port) = (address.host.as_str(), bound.port());
     let text = format!(in alloc; "listening {host}:{port}\n")?;
     say(writer, text.as_str())?;

@@ -1,9 +1,12 @@
 //! Workers, who give connections their turns.
 
+use crate::door::Door;
 use crate::guest::Guest;
-use crate::hall::{Errand, Hall};
+use crate::hall::Hall;
+use crate::queue::{Errand, Next};
 use crate::seat::Seat;
-use event_store::{Desk, Naming, Reader};
+use event_log::{Keeper, Kept};
+use event_store::{Desk, Naming, Placed, Reader};
 use std::alloc::Global;
 use std::io::Write;
 use std::rt::Clock;
@@ -23,6 +26,22 @@ pub struct Serving<'c, 'h, C, G, K, P> {
     pub keeping: &'h P,
 }
 
+/// Who waits until events are kept, as a worker of a hall.
+#[derive(Clone, Copy)]
+struct Aside<'h, 'k, G, K, H> {
+    hall: &'h Hall<G, K>,
+    keeper: &'k H,
+}
+
+impl<'h, 'k, G, K, J: Naming, H: Keeper<J>> Keeper<J> for Aside<'h, 'k, G, K, H> {
+    type On = H::On;
+
+    fn kept<W: Wait>(&self, rt: &W, placed: &Placed<J>) -> Option<Kept<J, H::On>> {
+        self.hall.wait_aside(rt);
+        self.keeper.kept(rt, placed)
+    }
+}
+
 /// Gives the connection in a seat a turn, which reads long texts or doesn't.
 fn give_turn<J: Naming, D: Wait + Drop, R: Wait, C: Clock, E: Write + Drop>(
     rt: &R,
@@ -40,12 +59,16 @@ fn give_turn<J: Naming, D: Wait + Drop, R: Wait, C: Clock, E: Write + Drop>(
         clock: serving.clock,
         keeping: serving.keeping,
     };
+    let keeper = Aside {
+        hall,
+        keeper: &clerk,
+    };
     let (desk, turns, limits) = (hall.desk(), hall.turns(reads_long), hall.limits());
     seat.begin(rt);
     let guest = seat.guest.lock(rt).take();
     if let Some(mut guest) = guest {
         let begun = Instant::now(serving.clock).ok();
-        let turned = guest.turn(rt, alloc, reader, desk, &clerk, turns, limits);
+        let turned = guest.turn(rt, alloc, reader, desk, &keeper, turns, limits);
         let is_slow = took_long(begun, Instant::now(serving.clock).ok());
         let is_long = turned == Some(Turned::Later) || guest.is_in_long();
         seat.note_pace(is_slow, is_long);
@@ -53,7 +76,7 @@ fn give_turn<J: Naming, D: Wait + Drop, R: Wait, C: Clock, E: Write + Drop>(
     } else {
         hall.end_turn(rt, number, false);
     }
-    hall.tell(rt, reader.front().len());
+    let _ = hall.publish(rt, reader.front().len());
 }
 
 /// Whether that much time has gone by that others are not to wait for as much again.
@@ -122,7 +145,7 @@ fn tell_part<J: Naming, R: Wait, K>(
 }
 
 /// Does what is due.
-pub fn serve<J: Naming, D: Wait + Drop, R: Wait, C: Clock, E: Write + Drop>(
+fn serve<J: Naming, D: Wait + Drop, R: Wait, C: Clock, E: Write + Drop>(
     rt: &R,
     alloc: Global,
     serving: &Serving<'_, '_, C, Guest<J>, Desk<J, D>, Keeping<J, E>>,
@@ -140,15 +163,35 @@ pub fn serve<J: Naming, D: Wait + Drop, R: Wait, C: Clock, E: Write + Drop>(
     }
 }
 
-impl<'c, 'h, C: Clock, J: Naming, D: Wait + Drop, E: Write + Drop> Duty<Reader<J>>
+/// Sees who is ready at the door, which is waited for unless errands are left. Once no connection is left, serving is over.
+fn tend<R: Wait, C: Clock, J: Naming, K>(
+    rt: &R,
+    clock: &C,
+    alloc: Global,
+    hall: &Hall<Guest<J>, K>,
+    mut door: Door,
+    has_errands: bool,
+) {
+    if door.tend(rt, clock, alloc, hall, has_errands) {
+        hall.leave_door(rt, door);
+    } else {
+        hall.end(rt);
+    }
+}
+
+impl<'c, 'h, C: Wait + Clock, J: Naming, D: Wait + Drop, E: Write + Drop> Duty<Reader<J>>
     for Serving<'c, 'h, C, Guest<J>, Desk<J, D>, Keeping<J, E>> {
     fn work<R: Wait>(&self, rt: &R, alloc: Global, reader: &mut Reader<J>) {
-        let reads_long = self.hall.begin(rt);
+        let hall = self.hall;
+        let reads_long = hall.begin(rt);
         for _ in 0..u64::MAX {
-            let Some(errand) = self.hall.next(rt, reads_long) else {
-                return;
-            };
-            serve(rt, alloc, self, errand, reader);
+            match hall.next(self.clock, reads_long) {
+                Next::Errand(errand) => serve(rt, alloc, self, errand, reader),
+                Next::Door(door, has_errands) => {
+                    tend(rt, self.clock, alloc, hall, door, has_errands);
+                }
+                Next::End => return,
+            }
         }
     }
 }
