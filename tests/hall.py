@@ -187,6 +187,22 @@ def frames_come_in_pieces(path, folder):
         same(relay.communicate(timeout=60), ("served 1\nevents 1\n", ""))
 
 
+def the_last_bytes_are_read(path, folder):
+    """Messages of each length around the sizes of buffers are answered at once, and so is one behind which the client's side ends."""
+    with serving(path, folder, conns=2) as (relay, port):
+        client = Talker(port)
+        for power in range(10, 18):
+            for length in range(2**power - 24, 2**power + 4):
+                client.send(b'["' + b"a" * (length - 4) + b'"]')
+                same(shown(client.read()), '["NOTICE","invalid: bad message"]')
+        client.close()
+        last = Talker(port)
+        last.socket.sendall(Client.frame(req("a").encode()))
+        last.socket.shutdown(socket.SHUT_WR)
+        same(shown(last.read()), eose("a"))
+        same(relay.communicate(timeout=20), ("served 2\nevents 0\n", ""))
+
+
 def nobody_comes_to_a_deaf_relay(path, folder):
     """Behind the last connection the relay doesn't listen any more, and it ends once that client has said nothing for `timeout_ms`."""
     with serving(path, folder, conns=2, timeout_ms=1_000) as (relay, port):
@@ -211,7 +227,7 @@ def nobody_comes_to_a_deaf_relay(path, folder):
 def main():
     path = program()
     for part in (two_thousand_are_served, nobody_misses_news, one_takes_nothing, long_answers_wait_as_messages,
-                 long_texts_are_read_in_turn, frames_come_in_pieces, nobody_comes_to_a_deaf_relay):
+                 long_texts_are_read_in_turn, frames_come_in_pieces, the_last_bytes_are_read, nobody_comes_to_a_deaf_relay):
         with tempfile.TemporaryDirectory() as folder:
             part(path, folder)
         print(part.__name__.replace("_", " "))
