@@ -3,4 +3,5 @@ pub mod Headlines
 pub mod Loads
 pub mod Numbers
 pub mod Rounds
+pub mod Streams
 pub mod Written

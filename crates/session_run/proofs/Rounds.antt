@@ -15,7 +15,7 @@ use Rattle.mirror_core.specs.Next.{IsLeft, asked_of}
 use Rattle.mirror_core.specs.LeftOver.{IsFailover}
 use Rattle.session_run.specs.declared.fetching.Counts.{Counts}
 use Rattle.session_run.specs.Lines.{round_text}
-use Rattle.session_run.specs.Rounds.{Stage, IsNext, GoOn, last_of, AreOver, AreCounted, capped, is_done, is_missed}
+use Rattle.session_run.specs.Rounds.{Stage, CameOver, IsNext, GoOn, last_of, AreOver, AreCounted, capped, is_done, is_missed}
 use Rattle.session_run.specs.Fetched.{rounds_text, IsFetched}
 use Rattle.session_run.proofs.Written.{append_both}
 
@@ -106,14 +106,15 @@ next_round first here number old mid new before one both cells next at counted s
 -- the last round ended here
 pub all_ended : (most : ℕ) (first here : Stage) (number : ℕ) (old new : Option (List ℕ)) (before one both : Counts) (cells : List Cell)
     → (at : IsAt first here number old new before) → AreCounted cells one → AreBoth before one both → length cells ≡ length here.plan.gives
-    → AreOver most first at.rounds cells → IsFetched most first old new both
-all_ended most first here number old new before one both cells at counted sums whole over =
+    → CameOver here.plan.gives cells → AreOver most first at.rounds cells → IsFetched most first old new both
+all_ended most first here number old new before one both cells at counted sums whole came over =
     record {
       rounds = at.rounds;
       cells = cells;
       all = record {
         follow = at.follow;
         whole = subst (λ (s : Stage). length cells ≡ length s.plan.gives) (sym at.last_is) whole;
+        came = subst (λ (s : Stage). CameOver s.plan.gives cells) (sym at.last_is) came;
         over = over;
       };
       counted = record {
@@ -138,14 +139,15 @@ none_left most first here number old new before cells next at few is nothing =
 -- ---- what a later plan is made of
 
 pub is_next : (offers later : List (Id × List ℕ)) (plan next : Planned) (cells : List Cell) (bases raised stopped : List ℕ)
-    → length cells ≡ length plan.gives → IsPlan plan → bases ≡ plan.bases
+    → length cells ≡ length plan.gives → CameOver plan.gives cells → IsPlan plan → bases ≡ plan.bases
     → ((r : ℕ) → base_of bases r ≤ MOST_BASE → base_of raised r ≡ min (base_of bases r + asked_of plan.gives cells r (length cells)) MOST_BASE)
     → StandsFor later (IsLeft offers plan.gives cells) → IsFailover raised stopped later next
     → IsNext (record { offers = offers; plan = plan }) cells (record { offers = later; plan = next })
-is_next offers later plan next cells bases raised stopped whole plan_ok same grows left planned =
+is_next offers later plan next cells bases raised stopped whole came plan_ok same grows left planned =
     let over : next.bases ≡ raised = planned.planned.bases_same in
     record {
       whole = whole;
+      came = came;
       grown = λ r.
           ap (λ bs. base_of bs r) over
           ∙ grows r (subst (λ (bs : List ℕ). base_of bs r ≤ MOST_BASE) (sym same) (plan_ok.bases_ok.small r))

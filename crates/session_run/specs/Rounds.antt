@@ -1,5 +1,5 @@
 -- The rounds of a job: which plan is made of what the last one left, and what became of the ids.
-use Rattle.std.specs.Prelude.{◌≡◌, ℕ, ◌+◌, ◌-◌, ◌^◌, ◌<◌, ◌≤◌, min, ◌⊎◌, Bool, true, false, List, [], ◌∷◌, length, count_by}
+use Rattle.std.specs.Prelude.{◌≡◌, ℕ, ◌+◌, ◌-◌, ◌^◌, ◌<◌, ◌≤◌, min, ◌⊎◌, Bool, true, false, List, [], ◌∷◌, length, count_by, All}
 use Rattle.std.specs.List.{sum_by}
 use Rattle.neg_codec.specs.declared.Id.{Id}
 use Rattle.sharing.specs.declared.TheConstants.{RELAYS, MOST_BASE}
@@ -11,6 +11,10 @@ use Rattle.fetch_plan.specs.declared.cell.Cell.{Cell}
 use Rattle.fetch_plan.specs.declared.cell.Cell.TheVariants.{Done, Missed}
 use Rattle.mirror_core.specs.Next.{IsLeft, asked_of}
 use Rattle.mirror_core.specs.LeftOver.{IsFailover}
+use Rattle.mirror_core.specs.Fetching.{Fetching}
+use Rattle.ws_link.specs.Fetched.{WasFetched}
+use Rattle.ws_link.specs.Streams.{AreOverStreams}
+use Rattle.ws_link.specs.Wired.{Wired}
 use Rattle.session_run.specs.declared.fetching.Counts.{Counts}
 
 -- ---- what loads begin with
@@ -18,6 +22,19 @@ use Rattle.session_run.specs.declared.fetching.Counts.{Counts}
 -- Each relay's load begins with the one that the settings give it, if that is one that a load may begin with.
 abbrev pub BeginAt : List ℕ → List ℕ → Type 0
 BeginAt loads bases = (r : ℕ) → r < RELAYS → base_of loads r ≤ MOST_BASE → base_of bases r ≡ base_of loads r
+
+-- ---- what came over the streams of links
+
+-- Cells are over streams, if each source's log was fetched over its stream.
+abbrev pub IsOverIfFetched : {S : Type 0} → (S → List Fetching) → List (Id × ℕ) → List ℕ → List S → List Cell → Type 0
+IsOverIfFetched {S} log gives lanes sources cells =
+    (stream : S → Wired Fetching) → ((s : S) → log s ≡ (stream s).log) → All (λ s. WasFetched (stream s)) sources
+    → AreOverStreams stream gives lanes sources cells
+
+-- There are sources on lanes of relays. Of each id that is done one of its relay brought an event over its stream, and of each that is
+-- missed one didn't.
+abbrev pub CameOver : List (Id × ℕ) → List Cell → Type 0
+CameOver gives cells = (lanes : List ℕ) × (sources : List (Wired Fetching)) × AreOverStreams (λ s. s) gives lanes sources cells
 
 -- ---- one round behind another
 
@@ -33,6 +50,7 @@ begin_at table plan = record { offers = table.offers; plan = plan }
 -- A round ended with these cells, one for each id of its plan, and there the next one begins.
 pub record IsNext (last : Stage) (cells : List Cell) (next : Stage) : Type 0 where
   pub whole : length cells ≡ length last.plan.gives
+  pub came : CameOver last.plan.gives cells
   -- a load begins with what the relay was asked for besides
   pub grown : (r : ℕ) → base_of next.plan.bases r ≡ min (base_of last.plan.bases r + asked_of last.plan.gives cells r (length cells)) MOST_BASE
   -- the offers are those that are left
@@ -60,6 +78,7 @@ AreOver most first rounds cells =
 pub record AreRounds (most : ℕ) (first : Stage) (rounds : List (List Cell × Stage)) (cells : List Cell) : Type 0 where
   pub follow : GoOn first rounds
   pub whole : length cells ≡ length (last_of first rounds).plan.gives
+  pub came : CameOver (last_of first rounds).plan.gives cells
   pub over : AreOver most first rounds cells
 
 -- ---- what became of the ids

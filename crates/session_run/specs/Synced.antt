@@ -16,13 +16,20 @@ use Rattle.mirror_core.specs.declared.end.End.{End}
 use Rattle.mirror_core.specs.Ends.{EachRan}
 use Rattle.mirror_core.specs.Tables.{IsTableOf}
 use Rattle.mirror_core.specs.Headline.{Headline}
+use Rattle.ws_link.specs.Streams.{IsPlannedOver}
+use Rattle.ws_link.specs.Wired.{Wired}
 
 -- what a relay was asked and answered, and how many questions failed
 abbrev pub Log : Type 0
 Log = List Exchange × ℕ
 
+-- the log of the link behind a stream
+abbrev pub log_of : Wired Exchange → Log
+log_of s = (s.log, s.faults)
+
 -- Sessions over the items of the events that match, one for each relay of the settings, by the logs of the relays before and
--- after: how they ended, and the plan of what they found, over what the loads begin with. The headline holds of it.
+-- after: how they ended, and the plan of what they found, over what the loads begin with. The headline holds of it, also said of
+-- the streams of the links that have the logs.
 pub record IsSynced (settings : Settings) (bases : List ℕ) (seen : List EventView) (ends : List End) (table : Table) (plan : Planned) : Type 0 where
   pub own : List Item
   pub olds : List Log
@@ -36,3 +43,6 @@ pub record IsSynced (settings : Settings) (bases : List ℕ) (seen : List EventV
   pub found : IsTableOf 0 ends table
   pub planned : IsPlanOf bases table.offers plan
   pub headline : Headline (λ (l : Log). l.0) (base_of bases) own olds news ends table plan
+  pub streams : List (Wired Exchange)
+  pub logs : map log_of streams ≡ news
+  pub over : IsPlannedOver (λ s. s) (base_of bases) own streams ends table plan

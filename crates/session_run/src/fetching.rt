@@ -2,7 +2,7 @@
 
 ghost use Rattle.std.specs.Prelude.{◌≡◌, ◌+◌, ◌<◌, ◌^◌, ◌-◌, min, All, IfOk, IfSome, length, if◌then◌else◌};
 ghost use Rattle.fetch_plan.specs.Plan.{IsPlan};
-ghost use Rattle.session_run.specs.Rounds.{is_done, is_missed, is_left, AreCounted};
+ghost use Rattle.session_run.specs.Rounds.{is_done, is_missed, is_left, AreCounted, IsOverIfFetched};
 
 use crate::links::{SourcePlace, connect_all, name_of};
 use crate::pace::Paced;
@@ -23,7 +23,7 @@ use std::sync::{Mutex, Wait};
 use std::thread::Threads;
 use store_run::Refusal;
 use tungstenite::RandomKeys;
-use ws_link::WsSource;
+use ws_link::{WsSource, cells_over_streams};
 
 /// What became of ids.
 #[derive(Clone, Copy)]
@@ -286,14 +286,16 @@ pub fn sources_of<
 
 /// So many cells that nobody holds.
 fn free_cells(alloc: Global, count: usize) -> Result<Vec<Cell>, AllocError>
-    ensures { IfOk result (λ v. length v.items ≡ count) }
+    ensures count { IfOk result (λ v. length v.items ≡ count) }
+    ensures free { IfOk result (λ v. All (λ c. c ≡ Cell.Free) v.items) }
 {
     Vec::from_elem(alloc, Cell::Free, count)
 }
 
 /// A round in which nobody was asked.
 fn unasked(alloc: Global, plan: &Plan, stopped: RelaySet) -> Result<Round, Refusal>
-    ensures { IfOk result (λ round. length round.cells.items ≡ length plan.now.gives) }
+    ensures cells { IfOk result (λ round. length round.cells.items ≡ length plan.now.gives) }
+    ensures free { IfOk result (λ round. All (λ c. c ≡ Cell.Free) round.cells.items) }
 {
     Ok(Round {
         cells: free_cells(alloc, plan.len())?,
@@ -317,7 +319,8 @@ pub fn fetched<
     desk: &Mutex<Desk<J, D>>,
 ) -> Result<Round, Refusal>
     requires { All (λ s. S.faults s < 2 ^ 64 - 1) sources.old }
-    ensures { IfOk result (λ round. length round.cells.items ≡ length plan.now.gives) }
+    ensures cells { IfOk result (λ round. length round.cells.items ≡ length plan.now.gives) }
+    ensures over { IfOk result (λ round. IsOverIfFetched S.log plan.now.gives relays.now sources.new round.cells.items) }
 {
     let unreached = unreached(planned(plan), relays);
     if plan.len() == 0 {
@@ -328,6 +331,7 @@ pub fn fetched<
         Err(BoardFault::Lanes) => return unasked(alloc, plan, unreached),
         Err(BoardFault::Memory) => return Err(Refusal::Memory),
     };
+    cells_over_streams::<J, S>();
     match fetch_all(rt, alloc, board, lanes, sources, desk) {
         Ok(report) => Ok(Round {
             cells: report.cells,

@@ -6,7 +6,7 @@ ghost use Rattle.std.specs.Thread.{IsSend};
 ghost use Rattle.sharing.specs.declared.TheConstants.{RELAYS, MOST_BASE};
 ghost use Rattle.sharing.specs.Bases.{base_of};
 ghost use Rattle.session_run.specs.Lines.{round_text};
-ghost use Rattle.session_run.specs.Rounds.{BeginAt, begin_at};
+ghost use Rattle.session_run.specs.Rounds.{BeginAt, CameOver, begin_at};
 ghost use Rattle.session_run.specs.Synced.{IsSynced};
 ghost use Rattle.session_run.specs.Fetched.{IsFetched};
 
@@ -16,7 +16,7 @@ use crate::fetching::{
 use crate::links::{finish_all, linked_all};
 use crate::progress::Progress;
 use crate::text::put_round;
-use crate::told::{Heard, ToldPeer};
+use crate::told::{Heard, ToldPeer, all_fetched, all_spoken};
 use event_store::{Desk, Naming, Reader};
 use fetch_plan::Plan;
 use item_roll::Roll;
@@ -34,6 +34,8 @@ use std::rt::Clock;
 use std::sync::{Mutex, Wait};
 use std::thread::Threads;
 use store_run::{Keeping, Refusal, keep_beside, say};
+use tungstenite::RandomKeys;
+use ws_link::{WsPeer, plan_over_streams};
 
 /// Lets a relay's load begin with this one, if it is a relay and the load one that it may begin with.
 fn begin_load(bases: &mut Bases, relay: usize, load: u64)
@@ -123,7 +125,10 @@ pub fn compare<
     progress.tell(rt, asked_in(peers.as_slice()), "relays are asked");
     let bases = bases_of(settings.bases.as_slice());
     let limits = SessionLimits::default();
-    let done = sync_plan(rt, alloc, peers.as_mut_slice(), &snapshot, &bases, &limits);
+    let asked = peers.as_mut_slice();
+    let done = sync_plan(rt, alloc, asked, &snapshot, &bases, &limits);
+    all_spoken(asked);
+    plan_over_streams::<ToldPeer<'_, WsPeer<TcpStream, RandomKeys<&R>>, R, P>>();
     let heard = heard_in(rt, alloc, peers.as_slice());
     finish_all(peers);
     Ok(Compared {
@@ -156,7 +161,8 @@ fn fetch_round<
     keeping: &Keeping<J, E>,
     progress: &Progress<P>,
 ) -> Result<Round, Refusal>
-    ensures { IfOk result (λ round. length round.cells.items ≡ length plan.now.gives) }
+    ensures cells { IfOk result (λ round. length round.cells.items ≡ length plan.now.gives) }
+    ensures came { IfOk result (λ round. CameOver plan.now.gives round.cells.items) }
 {
     progress.tell(rt, plan.len(), "ids are planned");
     let (mut sources, relays) = sources_of(rt, alloc, settings, relays, progress)?;
@@ -168,8 +174,13 @@ fn fetch_round<
         keeping,
         ||
             requires { IsSend J.row × IsSend D.row × IsSend P.row × All (λ s. s.source.faults < 2 ^ 64 - 1) sources.now }
-            ensures { IfOk result (λ round. length round.cells.items ≡ length plan.entry.now.gives) }
-        { fetched(rt, alloc, plan, sources, relays, desk) },
+            ensures cells { IfOk result (λ round. length round.cells.items ≡ length plan.entry.now.gives) }
+            ensures came { IfOk result (λ round. CameOver plan.entry.now.gives round.cells.items) }
+        {
+            let round = fetched(rt, alloc, plan, sources, relays, desk);
+            all_fetched(sources);
+            round
+        },
     )?;
     progress.tell_counts(rt, &counts_of(round.cells.as_slice()));
     progress.tell_full(rt, round.is_full);

@@ -1,6 +1,8 @@
 //! Peers and sources of which it is told how far they are.
 
-ghost use Rattle.std.specs.Prelude.{◌≡◌, ◌+◌, ◌<◌, ◌^◌, ◌-◌, [], ◌∷◌, ◌++◌, IfOk, OnErr, Err};
+ghost use Rattle.std.specs.Prelude.{◌≡◌, ◌+◌, ◌<◌, ◌^◌, ◌-◌, [], ◌∷◌, ◌++◌, All, IfOk, OnErr, Err};
+ghost use Rattle.ws_link.specs.Fetched.{WasFetched};
+ghost use Rattle.ws_link.specs.Spoken.{WasSpoken};
 
 use crate::pace::SharedPace;
 use crate::progress::{Progress, RelayLine};
@@ -14,7 +16,7 @@ use std::io::Write;
 use std::rt::Clock;
 use std::sync::{Arc, Mutex, Wait};
 use std::time::Instant;
-use ws_link::{Explains, Notes, Reason};
+use ws_link::{Explains, Notes, Reason, WsPeer, WsSource};
 
 /// What a session with a relay came to.
 #[derive(Clone, Copy, Debug, PartialEq, Eq)]
@@ -127,6 +129,15 @@ impl<Q: Peer + Explains, R: Wait, P: Write> Peer for ToldPeer<'_, Q, R, P> {
     }
 }
 
+/// What the peers answered was heard: all that they logged was spoken over their streams.
+pub fn all_spoken<S: Drop, K: Drop, R, P>(peers: &[ToldPeer<'_, WsPeer<S, K>, R, P>])
+    ensures { All (λ told. WasSpoken told.peer) peers.now }
+{
+    for told in peers {
+        told.peer.always_spoken();
+    }
+}
+
 /// A relay that is fetched from, whose answers are counted.
 #[derive(Drop)]
 pub struct ToldSource<'a, S, R, P> {
@@ -173,5 +184,14 @@ impl<S: Source + Explains, R: Wait + Clock, P: Write> Source for ToldSource<'_, 
 
     fn failures(&self) -> u64 {
         self.source.failures()
+    }
+}
+
+/// What the sources gave was heard: all that they logged was fetched over their streams.
+pub fn all_fetched<S: Drop, K: Drop, R, P>(sources: &[ToldSource<'_, WsSource<S, K>, R, P>])
+    ensures { All (λ told. WasFetched told.source) sources.now }
+{
+    for told in sources {
+        told.source.always_fetched();
     }
 }

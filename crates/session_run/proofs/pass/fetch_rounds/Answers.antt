@@ -1,7 +1,8 @@
-use Rattle.std.proofs.Common.{◌≡◌, ◌+◌, ◌∙◌, ap, subst, length, arith}
+use Rattle.std.proofs.Common.{◌≡◌, ◌+◌, ◌∙◌, List, sym, ap, subst, length, arith}
 use Rattle.std.specs.Io.KnownBytes.{Appends}
 use Rattle.session_run.specs.Lines.{round_text}
-use Rattle.session_run.specs.Rounds.{Stage, IsNext, begin_at}
+use Rattle.fetch_plan.specs.declared.cell.Cell.{Cell}
+use Rattle.session_run.specs.Rounds.{Stage, CameOver, IsNext, begin_at}
 use Rattle.session_run.proofs.Written.{append_nothing}
 use Rattle.session_run.proofs.Rounds.{none_ended, next_round, all_ended, as_many, none_left, is_next}
 use Rattle.session_run.proofs.pass.fetch_rounds.Goals as goal
@@ -18,7 +19,9 @@ loop-round-preserved g c =
     let next : Stage = begin_at c.failover_plan.new.table c.in_ok-plan.plan in
     let is : IsNext (begin_at c.loop-round.table c.loop-round.plan) cells next =
     is_next c.loop-round.table.offers c.failover_plan.new.table.offers c.loop-round.plan c.in_ok-plan.plan cells c.bases.result c.grown-bases.result c.union-stopped.result
-    (ap length c.as_slice-cells.ensures.value ∙ c.in_ok-ended.ensures) c.planned-given.ensures.plan c.bases.ensures c.grown-bases.ensures c.in_ok-plan.ensures.left c.in_ok-plan.ensures.planned in
+    (ap length c.as_slice-cells.ensures.value ∙ c.in_ok-ended.ensures.cells)
+    (subst (λ (l : List Cell). CameOver c.loop-round.plan.gives l) (sym c.as_slice-cells.ensures.value) c.in_ok-ended.ensures.came)
+    c.planned-given.ensures.plan c.bases.ensures c.grown-bases.ensures c.in_ok-plan.ensures.left c.in_ok-plan.ensures.planned in
     let number : c.saturating_add.result ≡ c.loop-round.round + 1 = omega (arith, c.saturating_add.ensures) in
     record {
       at = next_round _ _ c.loop-round.round _ _ _ c.loop-round.all c.counts_of.result c.with-all.result cells next c.loop-round.invariant.at c.counts_of.ensures
@@ -33,9 +36,11 @@ returns-then-len-eq0 g c =
     let next : Stage = begin_at c.failover_plan.new.table c.in_ok-plan.plan in
     let is : IsNext (begin_at c.loop-round.table c.loop-round.plan) cells next =
     is_next c.loop-round.table.offers c.failover_plan.new.table.offers c.loop-round.plan c.in_ok-plan.plan cells c.bases.result c.grown-bases.result c.union-stopped.result
-    (ap length c.as_slice-cells.ensures.value ∙ c.in_ok-ended.ensures) c.planned-given.ensures.plan c.bases.ensures c.grown-bases.ensures c.in_ok-plan.ensures.left c.in_ok-plan.ensures.planned in
+    (ap length c.as_slice-cells.ensures.value ∙ c.in_ok-ended.ensures.cells)
+    (subst (λ (l : List Cell). CameOver c.loop-round.plan.gives l) (sym c.as_slice-cells.ensures.value) c.in_ok-ended.ensures.came)
+    c.planned-given.ensures.plan c.bases.ensures c.grown-bases.ensures c.in_ok-plan.ensures.left c.in_ok-plan.ensures.planned in
     all_ended c.args.settings.now.rounds _ _ c.loop-round.round _ _ c.loop-round.all c.counts_of.result c.with-all.result cells c.loop-round.invariant.at c.counts_of.ensures
-    (record { given = c.with-all.ensures.given; missed = c.with-all.ensures.missed; left = c.with-all.ensures.left }) is.whole
+    (record { given = c.with-all.ensures.given; missed = c.with-all.ensures.missed; left = c.with-all.ensures.left }) is.whole is.came
     (none_left c.args.settings.now.rounds _ _ c.loop-round.round _ _ c.loop-round.all cells next c.loop-round.invariant.at (omega arith) is (omega (arith, c.len.ensures.value)))
 
 pub returns : goal.returns
@@ -43,5 +48,6 @@ returns g c =
     let cells = c.as_slice-4.result.now in
     all_ended c.args.settings.now.rounds _ _ c.loop-round.round _ _ c.loop-round.all c.counts_of-2.result c.with.result cells c.loop-round.invariant.at c.counts_of-2.ensures
     (record { given = c.with.ensures.given; missed = c.with.ensures.missed; left = c.with.ensures.left })
-    (ap length c.as_slice-4.ensures.value ∙ c.in_ok-ended-2.ensures)
+    (ap length c.as_slice-4.ensures.value ∙ c.in_ok-ended-2.ensures.cells)
+    (subst (λ (l : List Cell). CameOver c.loop-round.plan.gives l) (sym c.as_slice-4.ensures.value) c.in_ok-ended-2.ensures.came)
     (as_many c.args.settings.now.rounds _ _ c.loop-round.round _ _ c.loop-round.all cells c.loop-round.invariant.at (omega arith) c.loop-round.invariant.few)

@@ -1,0 +1,13 @@
+use Rattle.std.proofs.Common.{subst, sym}
+use Rattle.std.proofs.lemmas.List.{take_all}
+use Rattle.std.proofs.lemmas.List.Elements.{All-more, All-same}
+use Rattle.ws_link.specs.Fetched.{WasFetched}
+use Rattle.session_run.proofs.told.all_fetched.Goals as goal
+
+pub loop-told-preserved : goal.loop-told-preserved
+loop-told-preserved g c =
+    All-more (λ told. WasFetched told.source) c.args.sources.now c.loop-told.told-index c.told-item.result c.loop-told-test.true c.loop-told.invariant
+    (subst (λ told. WasFetched told.source) c.told-item.is c.always_fetched.ensures)
+
+pub returns : goal.returns
+returns g c = All-same (λ told. WasFetched told.source) _ _ (sym (take_all c.loop-told.told-index c.args.sources.now c.loop-told-test.false)) c.loop-told.invariant
