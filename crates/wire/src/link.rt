@@ -349,6 +349,10 @@ fn drop_front(bytes: &mut Vec<u8>, count: usize)
     requires { count ≤ length bytes.old.items }
     ensures { bytes.new.items ≡ drop count bytes.old.items }
 {
+    // While a long message comes there is nothing to drop in front of it.
+    if count == 0 {
+        return;
+    }
     let len = bytes.len();
     bytes.copy_within(count..len, 0);
     bytes.truncate(len - count);
