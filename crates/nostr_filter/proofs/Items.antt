@@ -1,8 +1,8 @@
 -- Items of JSON arrays that read as one thing each.
-use Rattle.std.proofs.Common.{◌≡◌, ℕ, zero, suc, ◌<◌, ◌^◌, List, [], ◌∷◌, length, get_or, map, Option, None, Some, is_some, ◌&&◌, option_map, option_and_then, All, nat_lt, true, refl, ap, ◌∙◌, arith}
+use Rattle.std.proofs.Common.{◌≡◌, ℕ, zero, suc, ◌<◌, ◌^◌, List, [], ◌∷◌, ◌++◌, length, get_or, map, Option, None, Some, is_some, ◌&&◌, option_map, option_and_then, All, nat_lt, true, refl, ap, ◌∙◌, arith}
 use Rattle.std.proofs.lemmas.List.{get_or-map, length-map}
 use Rattle.std.proofs.lemmas.List.Elements.{All-head, All-tail}
-use Rattle.std.proofs.lemmas.Bool.{lt-ltb}
+use Rattle.std.proofs.lemmas.Bool.{and_parts, lt-ltb}
 use Rattle.std.specs.List.{list_all}
 use Rattle.hex.specs.Hex.{encode_lower}
 use Rattle.serde_json.specs.Data.{Data}
@@ -39,8 +39,16 @@ each_all : {X : Type 0} (p : Data → Option X) (vs : List Value) → list_all (
 each_all p [] = refl
 each_all p (v ∷ vs) = ap (λ b. is_some (p (view v)) && b) (each_all p vs) ∙ some_more (p (view v)) (each_item p (items_view vs))
 
+strings_among : (seen : List Value) (v : Value) (rest : List Value) → list_all (λ u. is_some (as_str (view u))) (seen ++ v ∷ rest) ≡ true → is_some (as_str (view v)) ≡ true
+strings_among [] v rest all = (and_parts _ _ all).0
+strings_among (u ∷ seen) v rest all = strings_among seen v rest (and_parts _ _ all).1
+
 pub strings_all : (vs : List Value) → list_all (λ v. is_some (as_str (view v))) vs ≡ is_some (each_item as_str (items_view vs))
 strings_all vs = each_all as_str vs
+
+-- each item of an array of strings is one
+pub string_at : (seen : List Value) (v : Value) (rest : List Value) → is_some (each_item as_str (items_view (seen ++ v ∷ rest))) ≡ true → is_some (as_str (view v)) ≡ true
+string_at seen v rest some = strings_among seen v rest (strings_all (seen ++ v ∷ rest) ∙ some)
 
 pub kinds_all : (vs : List Value) → list_all (λ v. is_some (kind_of (view v))) vs ≡ is_some (each_item kind_of (items_view vs))
 kinds_all vs = each_all kind_of vs

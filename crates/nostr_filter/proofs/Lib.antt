@@ -11,3 +11,4 @@ pub mod ShapeTests
 pub mod Standing
 pub mod TagLooking
 pub mod TagReading
+pub mod Taken

@@ -115,12 +115,22 @@ pub after_nothing : (rest : Option (List TagCondition)) → after [] rest ≡ re
 after_nothing None = refl
 after_nothing (Some cs) = refl
 
-pub kept_none : (d : Data) (out : List TagCondition) (i x : ℕ) → conditions_of letters d ≡ after out (conditions_of (drop i letters) d) → i < length letters → get_or letters i 0 ≡ x
-    → field texts_of (tag_name x) d ≡ Some None → conditions_of letters d ≡ after out (conditions_of (drop (i + 1) letters) d)
-kept_none d out i x so_far below at found =
+pub kept_none : (whole : Option (List TagCondition)) (d : Data) (out : List TagCondition) (i x : ℕ) → whole ≡ after out (conditions_of (drop i letters) d) → i < length letters → get_or letters i 0 ≡ x
+    → field texts_of (tag_name x) d ≡ Some None → whole ≡ after out (conditions_of (drop (i + 1) letters) d)
+kept_none whole d out i x so_far below at found =
     so_far ∙ ap (after out) (read_step letters d i x None below at found) ∙ after_none out x (conditions_of (drop (i + 1) letters) d)
 
-pub kept_some : (d : Data) (out : List TagCondition) (i x : ℕ) (values : List (List ℕ)) → conditions_of letters d ≡ after out (conditions_of (drop i letters) d) → i < length letters → get_or letters i 0 ≡ x
-    → field texts_of (tag_name x) d ≡ Some (Some values) → conditions_of letters d ≡ after (out ++ record { letter = x; values = values } ∷ []) (conditions_of (drop (i + 1) letters) d)
-kept_some d out i x values so_far below at found =
+pub kept_some : (whole : Option (List TagCondition)) (d : Data) (out : List TagCondition) (i x : ℕ) (values : List (List ℕ)) → whole ≡ after out (conditions_of (drop i letters) d) → i < length letters → get_or letters i 0 ≡ x
+    → field texts_of (tag_name x) d ≡ Some (Some values) → whole ≡ after (out ++ record { letter = x; values = values } ∷ []) (conditions_of (drop (i + 1) letters) d)
+kept_some whole d out i x values so_far below at found =
     so_far ∙ ap (after out) (read_step letters d i x (Some values) below at found) ∙ after_some out x values (conditions_of (drop (i + 1) letters) d)
+
+-- a test that is passed among the others
+passed_by : (b : Bool) (f : FilterField) (ts : List (FilterField × Bool)) → cond b (first_failing ts) (Some f) ≡ None → b ≡ true
+passed_by true f ts passed = refl
+passed_by false f ts passed = absurd (let bad = passed in cc)
+
+pub passed_at : (xs : List ℕ) (d : Data) (i x : ℕ) → i < length xs → get_or xs i 0 ≡ x → first_failing (tag_tests (drop i xs) d) ≡ None → is_some (field texts_of (tag_name x) d) ≡ true
+passed_at xs d i x below at passed =
+    let here : first_failing (tag_tests (x ∷ drop (i + 1) xs) d) ≡ None = ap (λ l. first_failing (tag_tests l d)) (sym (drop_more xs i 0 below ∙ ap (λ y. y ∷ drop (i + 1) xs) at)) ∙ passed in
+    passed_by _ (Tag x) (tag_tests (drop (i + 1) xs) d) here

@@ -80,10 +80,8 @@ pub record Reads (d : Data) (f : Filter) : Type 0 where
 
 -- ---- what each refusal says
 
--- the fields, each in its shape
+-- the fields but the conditions on tags, each in its shape
 pub record HasShapes (d : Data) (s : Shapes) : Type 0 where
-  pub object : is_some (as_object d) ≡ true
-  pub tags : conditions_of letters d ≡ Some s.tags
   pub authors : field texts_of (codes "authors") d ≡ Some s.authors
   pub ids : field texts_of (codes "ids") d ≡ Some s.ids
   pub kinds : field kinds_of (codes "kinds") d ≡ Some s.kinds

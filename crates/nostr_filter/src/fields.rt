@@ -1,14 +1,12 @@
 // The fields of a filter's object.
-ghost use Rattle.std.specs.Prelude.{◌≡◌, ◌<◌, ◌⊎◌, List, ℕ, Option, IfOk, IfErr, option_map, All};
+ghost use Rattle.std.specs.Prelude.{◌≡◌, ◌⊎◌, List, ℕ, Option, IfOk, IfErr, option_map, All};
 ghost use Rattle.serde_json.specs.Find.{as_str};
 ghost use Rattle.serde_json.specs.View.{view, items_view};
 ghost use Rattle.nostr_event.specs.EventView.{IsBytesOf};
-ghost use Rattle.nostr_filter.specs.Tags.{letters, tag_name};
-ghost use Rattle.nostr_filter.specs.FilterJson.{each_item, texts_of, kind_of, kinds_of, whole_of, field as read_field, conditions_of, tag_tests, first_failing, hex_texts, All32};
+ghost use Rattle.nostr_filter.specs.FilterJson.{each_item, texts_of, kind_of, kinds_of, whole_of, field as read_field, hex_texts, All32};
 
-use crate::conditions::{Bytes32List, Kinds, TagCondition, Texts};
+use crate::conditions::{Bytes32List, Kinds, Texts};
 use crate::fault::{FilterFault, FilterField};
-use crate::letters::LETTERS;
 use nostr_event::{Text, bytes32_of};
 use serde_json::Value;
 use std::alloc::Global;
@@ -97,37 +95,6 @@ pub fn whole_at(value: &Value, at: FilterField, name: &str) -> Result<Option<u64
         Some(number) => Ok(Some(number)),
         None => Err(FilterFault::Shape(at)),
     }
-}
-
-// The texts of the letter's condition, if it is there.
-fn condition_at(alloc: Global, value: &Value, letter: u8) -> Result<Option<Texts>, FilterFault>
-    requires { letter < 128 }
-    ensures ok { IfOk result (λ t. read_field texts_of (tag_name letter) (view value.now) ≡ Some t) }
-    ensures err { IfErr result (λ e. (e ≡ FilterFault.Memory) ⊎ ((e ≡ FilterFault.Shape (FilterField.Tag letter)) × (read_field texts_of (tag_name letter) (view value.now) ≡ None))) }
-{
-    let name = [b'#', letter];
-    match str::from_utf8(&name) {
-        Ok(name) => texts_at(alloc, value, FilterField::Tag(letter), name),
-        Err(_) => unreachable!(),
-    }
-}
-
-// The conditions on tags, in the order of their letters.
-pub fn conditions_at(alloc: Global, value: &Value) -> Result<Vec<TagCondition>, FilterFault>
-    ensures ok { IfOk result (λ v. conditions_of letters (view value.now) ≡ Some v.items) }
-    ensures err { IfErr result (λ e. (e ≡ FilterFault.Memory)
-        ⊎ ((x : ℕ) × (e ≡ FilterFault.Shape (FilterField.Tag x)) × (first_failing (tag_tests letters (view value.now)) ≡ Some (FilterField.Tag x)))) }
-{
-    let mut conditions = Vec::new(alloc);
-    for letter in LETTERS {
-        if let Some(values) = condition_at(alloc, value, *letter)? {
-            conditions.push(TagCondition {
-                letter: *letter,
-                values,
-            })?;
-        }
-    }
-    Ok(conditions)
 }
 
 // The bytes that the texts spell.

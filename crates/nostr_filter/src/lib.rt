@@ -11,6 +11,7 @@ mod members;
 mod order;
 mod reading;
 mod sizes;
+mod taking;
 mod tested;
 mod writing;
 

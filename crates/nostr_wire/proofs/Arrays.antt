@@ -23,12 +23,6 @@ name_first : (d : Data) (w : Value) (ws : List Value) (s : List ℕ) → as_arra
 name_first d w ws s h text = (rw h text, rw h (list_back (map view ws)))
 
 -- a first element and those behind it
-pub rest_is : (vs : List Value) (v : Value) → 1 ≤ length vs → v ≡ get_or vs 0 v → vs ≡ v ∷ take (length vs - 1) (drop 1 vs)
-rest_is [] v long at = absurd (omega arith)
-rest_is (w ∷ ws) v long at =
-    let whole : take (length (w ∷ ws) - 1) ws ≡ ws = take_all _ ws (omega arith) in
-    rw whole (ap (λ u. u ∷ ws) (sym at))
-
 pub found_at : (d : Data) (vs : List Value) (v : Value) (s : List ℕ) → as_array d ≡ Some (items_view vs) → 1 ≤ length vs → v ≡ get_or vs 0 v → as_str (view v) ≡ Some s
     → (name_in d ≡ Some s) × (behind_name d ≡ map view (take (length vs - 1) (drop 1 vs)))
 found_at d [] v s h long at text = absurd (omega arith)

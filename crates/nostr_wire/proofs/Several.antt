@@ -1,6 +1,7 @@
 -- The filters of a request.
-use Rattle.std.proofs.Common.{◌≡◌, ◌≢◌, ℕ, zero, suc, ◌<◌, ◌≤◌, ◌++◌, List, [], ◌∷◌, length, map, take, get_or, Bool, true, false, ◌&&◌, refl, sym, inl, inr, ap, subst, arith}
+use Rattle.std.proofs.Common.{◌≡◌, ◌≢◌, ℕ, zero, suc, ◌+◌, ◌<◌, ◌≤◌, ◌++◌, ◌∙◌, List, [], ◌∷◌, length, map, take, drop, set, get_or, Bool, true, false, ◌&&◌, refl, sym, inl, inr, ap, subst, arith}
 use Rattle.std.proofs.lemmas.Bool.{and_parts}
+use Rattle.std.proofs.lemmas.List.{get_or-drop, drop-drop, drop-set-lt}
 use Rattle.std.specs.List.{list_all}
 use Rattle.serde_json.specs.Data.{Data}
 use Rattle.serde_json.specs.View.{view}
@@ -41,6 +42,19 @@ pub object_at : (vs : List Value) (i : ℕ) (d : Value) → i < length vs → li
 object_at [] i d below h = absurd (omega arith)
 object_at (v ∷ vs) zero d below h = (and_parts _ _ h).0
 object_at (v ∷ vs) (suc i) d below h = object_at vs i d (omega arith) (and_parts _ _ h).1
+
+-- ---- values that are as they were from one on
+
+pub same_here : (vs ws : List Value) (i : ℕ) (d : Value) → drop i ws ≡ drop i vs → get_or ws i d ≡ get_or vs i d
+same_here vs ws i d left =
+    let none : i + 0 ≡ i = omega arith in
+    let at = λ (l : List Value). get_or-drop i l 0 d ∙ ap (λ k. get_or l k d) none in
+    sym (at ws) ∙ ap (λ (l : List Value). get_or l 0 d) left ∙ at vs
+
+-- after one is written over, so are those behind it
+pub same_behind : (vs ws : List Value) (i : ℕ) (w : Value) → drop i ws ≡ drop i vs → drop (i + 1) (set ws i w) ≡ drop (i + 1) vs
+same_behind vs ws i w left =
+    drop-set-lt (i + 1) ws i w (omega arith) ∙ sym (drop-drop 1 i ws) ∙ ap (λ (l : List Value). drop 1 l) left ∙ drop-drop 1 i vs
 
 -- ---- a request's elements
 

@@ -239,12 +239,12 @@ impl Element for Arc<Event> {
     }
 }
 
-// The filter that the value is.
-pub fn filter_of(alloc: Global, value: &Value) -> Result<Filter, WireFault>
-    ensures ok { IfOk result (λ f. Says (view value.now) (filter f)) }
-    ensures err { IfErr result (λ f. (f ≡ WireFault.Memory) ⊎ (SaysNo a_filter (view value.now) × IsFaultOf a_filter (view value.now) f)) }
+// The filter that the value is, parts of which are taken from it.
+pub fn filter_of(alloc: Global, value: &mut Value) -> Result<Filter, WireFault>
+    ensures ok { IfOk result (λ f. Says (view value.old) (filter f)) }
+    ensures err { IfErr result (λ f. (f ≡ WireFault.Memory) ⊎ (SaysNo a_filter (view value.old) × IsFaultOf a_filter (view value.old) f)) }
 {
-    match Filter::from_json(alloc, value) {
+    match Filter::take_json(alloc, value) {
         Ok(filter) => Ok(filter),
         Err(FilterFault::Memory) => Err(WireFault::Memory),
         Err(_) => Err(WireFault::Filter),

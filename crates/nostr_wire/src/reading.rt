@@ -126,26 +126,30 @@ pub fn put_filter(
 // The filters that the objects are, of which the first are kept.
 fn filters_of(
     alloc: Global,
-    values: &[Value],
+    values: &mut [Value],
     most: Option<usize>,
 ) -> Result<Vec<Filter>, WireFault>
-    requires { list_all (λ v. has_type a_filter (view v)) values.now ≡ true }
-    ensures ok { IfOk result (λ v. (all : List Kept) × (v.items ≡ kept_filters most all) × AreRead (map (λ _. a_filter) values.now) (map filter all) (map view values.now)) }
-    ensures err { IfErr result (λ f. (f ≡ WireFault.Memory) ⊎ AreRefused (map (λ _. a_filter) values.now) (map view values.now) f) }
+    requires { list_all (λ v. has_type a_filter (view v)) values.old ≡ true }
+    ensures ok { IfOk result (λ v. (all : List Kept) × (v.items ≡ kept_filters most all) × AreRead (map (λ _. a_filter) values.old) (map filter all) (map view values.old)) }
+    ensures err { IfErr result (λ f. (f ≡ WireFault.Memory) ⊎ AreRefused (map (λ _. a_filter) values.old) (map view values.old) f) }
 {
     let mut filters = Vec::new(alloc);
-    for value in values {
+    for value in values.iter_mut() {
         put_filter(&mut filters, most, filter_of(alloc, value)?)?;
     }
     Ok(filters)
 }
 
 // The name of a subscription, and one filter or more.
-fn request(alloc: Global, rest: &[Value], most: Option<usize>) -> Result<(Sub, Filters), WireFault>
-    ensures ok { IfOk result (λ p. (all : List Kept) × (p.1 ≡ kept_filters most all) × AreRead (request_parts (map view rest.now)) (sub p.0 ∷ map filter all) (map view rest.now)) }
-    ensures err { IfErr result (λ f. (f ≡ WireFault.Memory) ⊎ AreRefused (request_parts (map view rest.now)) (map view rest.now) f) }
+fn request(
+    alloc: Global,
+    rest: &mut [Value],
+    most: Option<usize>,
+) -> Result<(Sub, Filters), WireFault>
+    ensures ok { IfOk result (λ p. (all : List Kept) × (p.1 ≡ kept_filters most all) × AreRead (request_parts (map view rest.old)) (sub p.0 ∷ map filter all) (map view rest.old)) }
+    ensures err { IfErr result (λ f. (f ≡ WireFault.Memory) ⊎ AreRefused (request_parts (map view rest.old)) (map view rest.old) f) }
 {
-    let [first, filters @ ..] = rest else {
+    let Some((first, filters)) = rest.split_first_mut() else {
         return Err(WireFault::Arity);
     };
     if filters.is_empty() || !Sub::fits(first) || !are_objects(filters) {

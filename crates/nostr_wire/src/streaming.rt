@@ -42,9 +42,9 @@ fn with_element(
     alloc: Global,
     few: Few,
     most: Option<usize>,
-    value: &Value,
+    value: &mut Value,
 ) -> Result<Few, AllocError>
-    ensures { IfOk result (λ r. (ds : List Data) → Stand most few ds → Stand most r (ds ++ view value.now ∷ [])) }
+    ensures { IfOk result (λ r. (ds : List Data) → Stand most few ds → Stand most r (ds ++ view value.old ∷ [])) }
 {
     if !Filter::fits(value) {
         return Ok(Few::NoObject);
@@ -70,8 +70,8 @@ fn filters_in(alloc: Global, reader: &mut Reader<'_>, most: Option<usize>) -> Re
 {
     let mut few = Few::Kept(Vec::new(alloc));
     'elements: while !reader.take_end_array() {
-        let value = value_in(alloc, reader, MOST_DEPTH)?;
-        few = with_element(alloc, few, most, &value)?;
+        let mut value = value_in(alloc, reader, MOST_DEPTH)?;
+        few = with_element(alloc, few, most, &mut value)?;
     }
     Ok(few)
 }

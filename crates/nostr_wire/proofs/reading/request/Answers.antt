@@ -1,10 +1,9 @@
-use Rattle.std.proofs.Common.{◌≡◌, ◌≤◌, ◌-◌, ◌∙◌, ◌∷◌, length, map, take, drop, true, false, refl, inl, inr, ap, arith}
+use Rattle.std.proofs.Common.{◌≡◌, ◌≤◌, ◌∙◌, ◌∷◌, length, map, true, false, refl, inl, inr, ap, arith}
 use Rattle.std.proofs.lemmas.Grind.{common_steps}
 use Rattle.std.proofs.lemmas.Result.{err_from_is_err_and}
 use Rattle.std.specs.List.{list_all}
 use Rattle.serde_json.specs.View.{view}
 use Rattle.nostr_wire.specs.Elements.{a_sub, a_filter, has_type, sub, filter}
-use Rattle.nostr_wire.proofs.Arrays.{rest_is}
 use Rattle.nostr_wire.proofs.Several.{AreFilters, fits_all, request_fits, request_refused, request_read, no_filter, no_name, no_objects}
 use Rattle.nostr_wire.proofs.reading.request.Goals as goal
 use Rattle.nostr_wire.proofs.reading.request.Goals.{then-is_empty-via-then-is_empty, then-is_empty-via-else-is_empty+then-not-fits, then-is_empty-via-else-is_empty+else-not-fits+then-not-are_objects}
@@ -12,9 +11,9 @@ use Rattle.nostr_wire.proofs.reading.request.Goals.{then-is_empty-via-then-is_em
 pub returns-then-is_empty-clause-err : goal.returns-then-is_empty-clause-err
 returns-then-is_empty-clause-err c =
     let vs = c.args.rest.now in
-    let v = c.first-item.result in
-    let fs = take (length vs - 1) (drop 1 vs) in
-    let whole = rest_is vs v c.in-len1-up.len_at_least c.first-item.is in
+    let v = c.in-Some.first.now in
+    let fs = c.in-Some.filters.now in
+    let whole = c.in-Some.ensures.cases.0 in
     inr (inl (
       refl,
       elim c.then-is_empty.branch [
@@ -35,9 +34,9 @@ pub returns-in_err-sub-clause-err : goal.returns-in_err-sub-clause-err
 returns-in_err-sub-clause-err c =
     let p = err_from_is_err_and c.from_residual.result c.from_residual.ensures.1 in
     let vs = c.args.rest.now in
-    let v = c.first-item.result in
-    let fs = take (length vs - 1) (drop 1 vs) in
-    let whole = rest_is vs v c.in-len1-up.len_at_least c.first-item.is in
+    let v = c.in-Some.first.now in
+    let fs = c.in-Some.filters.now in
+    let whole = c.in-Some.ensures.cases.0 in
     let some : 1 ≤ length fs = grind (arith, common_steps, c.is_empty.ensures, c.if-is_empty.false) in
     let named : has_type a_sub (view v) ≡ true = grind (arith, common_steps, c.fits.ensures, c.if-not-fits.false) in
     let objects : list_all (λ u. has_type a_filter (view u)) fs ≡ true = grind (arith, common_steps, c.are_objects.ensures, c.if-not-are_objects.false) in
@@ -50,9 +49,9 @@ pub returns-in_err-filters_of-clause-err : goal.returns-in_err-filters_of-clause
 returns-in_err-filters_of-clause-err c =
     let p = err_from_is_err_and c.from_residual-in_err-filters_of.result c.from_residual-in_err-filters_of.ensures.1 in
     let vs = c.args.rest.now in
-    let v = c.first-item.result in
-    let fs = take (length vs - 1) (drop 1 vs) in
-    let whole = rest_is vs v c.in-len1-up.len_at_least c.first-item.is in
+    let v = c.in-Some.first.now in
+    let fs = c.in-Some.filters.now in
+    let whole = c.in-Some.ensures.cases.0 in
     let some : 1 ≤ length fs = grind (arith, common_steps, c.is_empty.ensures, c.if-is_empty.false) in
     let named : has_type a_sub (view v) ≡ true = grind (arith, common_steps, c.fits.ensures, c.if-not-fits.false) in
     let objects : list_all (λ u. has_type a_filter (view u)) fs ≡ true = grind (arith, common_steps, c.are_objects.ensures, c.if-not-are_objects.false) in
@@ -68,9 +67,9 @@ returns-in_err-filters_of-clause-err c =
 pub returns-clause-ok : goal.returns-clause-ok
 returns-clause-ok c =
     let vs = c.args.rest.now in
-    let v = c.first-item.result in
-    let fs = take (length vs - 1) (drop 1 vs) in
-    let whole = rest_is vs v c.in-len1-up.len_at_least c.first-item.is in
+    let v = c.in-Some.first.now in
+    let fs = c.in-Some.filters.now in
+    let whole = c.in-Some.ensures.cases.0 in
     let some : 1 ≤ length fs = grind (arith, common_steps, c.is_empty.ensures, c.if-is_empty.false) in
     let found = c.in_ok-filters_of.ensures.ok in
     let read : AreFilters found.0 fs = found.2 in (

@@ -1,7 +1,7 @@
 use Rattle.std.proofs.Common.{arith}
 use Rattle.nostr_event.proofs.Utf8.{ascii_then}
 use Rattle.std.proofs.lemmas.Str.{IsUtf8-nil}
-use Rattle.nostr_filter.proofs.fields.condition_at.Goals as goal
+use Rattle.nostr_filter.proofs.taking.take_condition.Goals as goal
 
 pub unreachable-requires : goal.unreachable-requires
 unreachable-requires c =
