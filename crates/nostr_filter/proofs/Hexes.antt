@@ -1,6 +1,6 @@
 -- Texts of hexadecimal digits among JSON data.
-use Rattle.std.proofs.Common.{◌≡◌, ◌↔◌, ◌∙◌, ℕ, ◌+◌, ◌<◌, List, [], ◌∷◌, length, get_or, drop, Option, None, Some, is_some, IfSome, IsTrue, option_map, option_and_then, All, true≢false, refl, sym, ap}
-use Rattle.std.proofs.lemmas.List.{drop_more}
+use Rattle.std.proofs.Common.{◌≡◌, ◌↔◌, ◌∙◌, ℕ, ◌+◌, ◌<◌, List, [], ◌∷◌, ◌++◌, length, get_or, map, take, drop, Option, None, Some, is_some, IfSome, IsTrue, option_map, option_and_then, All, true≢false, refl, sym, ap, ap₂}
+use Rattle.std.proofs.lemmas.List.{drop_more, take_more, map-append}
 use Rattle.std.proofs.lemmas.List.Elements.{All-cons, All-head, All-tail}
 use Rattle.hex.specs.Hex.{encode_lower}
 use Rattle.serde_json.specs.Data.{Data, Items, item}
@@ -12,16 +12,15 @@ use Rattle.nostr_filter.specs.FilterJson.{each_item, hex_texts, All32, IsHex, Ar
 
 -- ---- one value
 
-not_spelled : (d : Data) (text : List ℕ) → as_str d ≡ Some text → ((b : List ℕ) → IsBytesOf 32 b → ¬ (text ≡ encode_lower b)) → ¬ IsHex d
+pub not_spelled : (d : Data) (text : List ℕ) → as_str d ≡ Some text → ((b : List ℕ) → IsBytesOf 32 b → ¬ (text ≡ encode_lower b)) → ¬ IsHex d
 not_spelled d text here none = λ h.
     let same : Some text ≡ Some (encode_lower h.0) = sym here ∙ h.2 in
     let is : text ≡ encode_lower h.0 = cc in
     none h.0 h.1 is
 
-pub spelled : (d : Data) (text : List ℕ) (r : Option (List ℕ)) → as_str d ≡ Some text → IfSome r (λ b. IsBytesOf 32 b × (text ≡ encode_lower b))
-    → (r ≡ None → (b : List ℕ) → IsBytesOf 32 b → ¬ (text ≡ encode_lower b)) → (IsTrue (is_some r) ↔ IsHex d)
-spelled d text (Some b) here found missing = (λ yes. (b, found.0, here ∙ ap Some found.1), λ h. refl)
-spelled d text None here found missing = (λ yes. absurd (true≢false (sym yes)), λ h. absurd (not_spelled d text here (missing refl) h))
+pub hex_found : (d : Data) (r : Option (List ℕ)) → IfSome r (λ b. IsBytesOf 32 b × (as_str d ≡ Some (encode_lower b))) → (r ≡ None → ¬ IsHex d) → (IsTrue (is_some r) ↔ IsHex d)
+hex_found d (Some b) found missing = (λ yes. (b, found.0, found.1), λ h. refl)
+hex_found d None found missing = (λ yes. absurd (true≢false (sym yes)), λ h. absurd (missing refl h))
 
 pub no_text : (d : Data) → as_str d ≡ None → ¬ IsHex d
 no_text d here = λ h.
@@ -58,6 +57,20 @@ hex_step vs i v below at one =
     let here : drop i vs ≡ v ∷ drop (i + 1) vs = drop_more vs i v below ∙ ap (λ x. x ∷ drop (i + 1) vs) (sym at) in
     let ds = items_view (drop (i + 1) vs) in
     rw here (λ h. (parts (view v) ds h.0 h.1 h.2).1, λ h. more (view v) ds one h)
+
+-- where they are, this one is, and those behind it are
+pub hex_here : (vs : List Value) (i : ℕ) (v : Value) → i < length vs → v ≡ get_or vs i v → AreHex (items_view (drop i vs)) → IsHex (view v) × AreHex (items_view (drop (i + 1) vs))
+hex_here vs i v below at =
+    let here : drop i vs ≡ v ∷ drop (i + 1) vs = drop_more vs i v below ∙ ap (λ x. x ∷ drop (i + 1) vs) (sym at) in
+    rw here (λ h. parts (view v) (items_view (drop (i + 1) vs)) h.0 h.1 h.2)
+
+pub texts_more : (vs : List Value) (i : ℕ) (v : Value) (b : List ℕ) (bs : List (List ℕ)) → i < length vs → v ≡ get_or vs i v → map (λ u. as_str (view u)) (take i vs) ≡ map Some (hex_texts bs)
+    → as_str (view v) ≡ Some (encode_lower b) → map (λ u. as_str (view u)) (take (i + 1) vs) ≡ map Some (hex_texts (bs ++ b ∷ []))
+texts_more vs i v b bs below at so_far one =
+    let f = λ (u : Value). as_str (view u) in
+    let whole : take (i + 1) vs ≡ take i vs ++ v ∷ [] = take_more vs i v below ∙ ap (λ u. take i vs ++ u ∷ []) (sym at) in
+    ap (map f) whole ∙ map-append f (take i vs) (v ∷ []) ∙ ap₂ (λ xs (x : Option (List ℕ)). xs ++ x ∷ []) so_far one
+    ∙ sym (map-append Some (hex_texts bs) (encode_lower b ∷ [])) ∙ ap (map Some) (sym (map-append encode_lower bs (b ∷ [])))
 
 pub hex_stops : (vs : List Value) (i : ℕ) (v : Value) → i < length vs → v ≡ get_or vs i v → ¬ IsHex (view v) → ¬ AreHex (items_view (drop i vs))
 hex_stops vs i v below at other =

@@ -1,6 +1,5 @@
 -- Items of JSON arrays that read as one thing each.
 use Rattle.std.proofs.Common.{◌≡◌, ℕ, zero, suc, ◌<◌, ◌^◌, List, [], ◌∷◌, ◌++◌, length, get_or, map, Option, None, Some, is_some, ◌&&◌, option_map, option_and_then, All, nat_lt, true, refl, ap, ◌∙◌, arith}
-use Rattle.std.proofs.lemmas.List.{get_or-map, length-map}
 use Rattle.std.proofs.lemmas.List.Elements.{All-head, All-tail}
 use Rattle.std.proofs.lemmas.Bool.{and_parts, lt-ltb}
 use Rattle.std.specs.List.{list_all}
@@ -9,7 +8,6 @@ use Rattle.serde_json.specs.Data.{Data}
 use Rattle.serde_json.specs.Find.{as_str}
 use Rattle.serde_json.specs.View.{view, items_view}
 use Rattle.serde_json.specs.declared.value.Value.{Value}
-use Rattle.nostr_event.specs.EventView.{IsBytesOf}
 use Rattle.nostr_filter.specs.FilterJson.{each_item, kind_of, texts_of, texts_data, kinds_of, kinds_data, hex_texts, hex_data}
 
 pub each_some : {X : Type 0} (p : Data → Option X) (vs : List Value) (xs : List X) → map (λ v. p (view v)) vs ≡ map Some xs → each_item p (items_view vs) ≡ Some xs
@@ -71,10 +69,3 @@ kinds_back (k ∷ ks) h =
     let fits : k < 65536 = All-head (λ n. n < 2 ^ 16) k ks h in
     let test : nat_lt k 65536 ≡ true = lt-ltb k 65536 fits in
     rw (test, kinds_back ks (All-tail (λ n. n < 2 ^ 16) k ks h)) refl
-
-pub not_hex : (texts : List (List ℕ)) (i : ℕ) (d : List ℕ) → i < length texts → ((b : List ℕ) → IsBytesOf 32 b → ¬ (get_or texts i d ≡ encode_lower b))
-    → (values : List (List ℕ)) → All (IsBytesOf 32) values → ¬ (texts ≡ hex_texts values)
-not_hex texts i d below none values all = λ same.
-    let long : length texts ≡ length values = ap length same ∙ length-map values encode_lower in
-    let at : get_or texts i d ≡ encode_lower (get_or values i []) = ap (λ ts. get_or ts i d) same ∙ get_or-map encode_lower values i [] d (omega arith) in
-    none (get_or values i []) (all i [] (omega arith)) at

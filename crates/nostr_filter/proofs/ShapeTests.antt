@@ -1,5 +1,5 @@
 -- From what was read to what the tests of the shapes say.
-use Rattle.std.proofs.Common.{◌≡◌, ◌⊎◌, inl, inr, ℕ, ◌++◌, Bool, true, false, cond, List, Option, None, Some, is_some, option_map, refl, ap, ◌∙◌}
+use Rattle.std.proofs.Common.{◌≡◌, ◌⊎◌, inl, inr, ◌++◌, Bool, true, false, cond, Option, None, Some, is_some, refl, ◌∙◌}
 use Rattle.serde_json.specs.Data.{Data}
 use Rattle.serde_json.specs.Find.{as_object}
 use Rattle.nostr_filter.specs.declared.fault.FilterField.{FilterField}
@@ -7,7 +7,7 @@ use Rattle.nostr_filter.specs.declared.fault.FilterField.TheVariants.{Object}
 use Rattle.nostr_filter.specs.declared.fault.FilterFault.{FilterFault}
 use Rattle.nostr_filter.specs.declared.fault.FilterFault.TheVariants.{Shape, Memory}
 use Rattle.nostr_filter.specs.Tags.{letters}
-use Rattle.nostr_filter.specs.FilterJson.{IsHexAt, All32, Passes, Refuses, field, texts_of, hex_texts, first_failing, tag_tests, named_tests, shape_tests}
+use Rattle.nostr_filter.specs.FilterJson.{Passes, Refuses, first_failing, tag_tests, named_tests, shape_tests}
 use Rattle.nostr_filter.proofs.TagReading.{failing_later, failing_earlier}
 
 pub refuse_or : (d : Data) (e : FilterFault) (f : FilterField) (P : Type 0) → Passes d → (e ≡ Memory) ⊎ ((e ≡ Shape f) × P) → (P → first_failing (shape_tests d) ≡ Some f) → Refuses d e
@@ -33,12 +33,3 @@ pub tags_pass : (d : Data) → first_failing (shape_tests d) ≡ None → (is_so
 tags_pass d passed =
     let both = object_by (is_some (as_object d)) d passed in
     (both.0, tags_by d _ refl both.1)
-
-pub not_hex_at : (name : List ℕ) (d : Data) (texts : Option (List (List ℕ))) → field texts_of name d ≡ Some texts
-    → ((values : Option (List (List ℕ))) → All32 values → ¬ (texts ≡ option_map hex_texts values)) → ¬ IsHexAt name d
-not_hex_at name d texts found none = λ h.
-    let is : texts ≡ option_map hex_texts h.0 = cc in
-    none h.0 h.1 is
-
-pub hex_at : (name : List ℕ) (d : Data) (texts values : Option (List (List ℕ))) → field texts_of name d ≡ Some texts → texts ≡ option_map hex_texts values → All32 values → IsHexAt name d
-hex_at name d texts values found is all = (values, all, found ∙ ap Some is)

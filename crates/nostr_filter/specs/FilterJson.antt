@@ -82,12 +82,14 @@ pub record Reads (d : Data) (f : Filter) : Type 0 where
 
 -- the fields but the conditions on tags, each in its shape
 pub record HasShapes (d : Data) (s : Shapes) : Type 0 where
-  pub authors : field texts_of (codes "authors") d ≡ Some s.authors
-  pub ids : field texts_of (codes "ids") d ≡ Some s.ids
+  pub authors : field texts_of (codes "authors") d ≡ Some (option_map hex_texts s.authors)
+  pub ids : field texts_of (codes "ids") d ≡ Some (option_map hex_texts s.ids)
   pub kinds : field kinds_of (codes "kinds") d ≡ Some s.kinds
   pub limit : field whole_of (codes "limit") d ≡ Some s.limit
   pub since : field whole_of (codes "since") d ≡ Some s.since
   pub until : field whole_of (codes "until") d ≡ Some s.until
+  pub author_bytes : All32 s.authors
+  pub id_bytes : All32 s.ids
 
 -- the tests of the conditions of the letters xs
 abbrev pub tag_tests : List ℕ → Data → List (FilterField × Bool)

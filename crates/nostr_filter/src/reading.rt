@@ -5,9 +5,9 @@ ghost use Rattle.serde_json.specs.View.{view};
 ghost use Rattle.nostr_filter.specs.declared.filter.Filter.{Filter as FilterView};
 ghost use Rattle.nostr_filter.specs.FilterJson.{Passes, Reads, Refuses, HasShapes};
 
-use crate::conditions::{Kinds, Texts};
+use crate::conditions::{Bytes32List, Kinds};
 use crate::fault::{FilterFault, FilterField};
-use crate::fields::{bytes_of, kinds_at, texts_at, whole_at};
+use crate::fields::{bytes_at, kinds_at, whole_at};
 use crate::filter::Filter;
 use crate::taking::take_conditions;
 use crate::tested::tested;
@@ -17,8 +17,8 @@ use std::alloc::Global;
 /// The fields of a filter's object but the conditions on tags, with their shapes.
 #[derive(Drop)]
 pub struct Shapes {
-    pub authors: Option<Texts>,
-    pub ids: Option<Texts>,
+    pub authors: Option<Bytes32List>,
+    pub ids: Option<Bytes32List>,
     pub kinds: Option<Kinds>,
     pub limit: Option<u64>,
     pub since: Option<u64>,
@@ -31,8 +31,8 @@ fn shapes_of(alloc: Global, value: &Value) -> Result<Shapes, FilterFault>
     ensures ok { IfOk result (λ s. HasShapes (view value.now) s) }
     ensures err { IfErr result (λ f. Refuses (view value.now) f) }
 {
-    let authors = texts_at(alloc, value, FilterField::Authors, "authors")?;
-    let ids = texts_at(alloc, value, FilterField::Ids, "ids")?;
+    let authors = bytes_at(alloc, value, "authors")?;
+    let ids = bytes_at(alloc, value, "ids")?;
     let kinds = kinds_at(alloc, value, "kinds")?;
     let limit = whole_at(value, FilterField::Limit, "limit")?;
     let since = whole_at(value, FilterField::Since, "since")?;
@@ -68,12 +68,10 @@ fn read_filter(alloc: Global, value: &mut Value) -> Result<Filter, FilterFault>
     // Only what passes the tests is read, so that want of memory is told of nothing else.
     let is_tagged = tested(value)?;
     let shapes = shapes_of(alloc, value)?;
-    let authors = bytes_of(alloc, &shapes.authors, FilterField::Authors)?;
-    let ids = bytes_of(alloc, &shapes.ids, FilterField::Ids)?;
     let tags = take_conditions(alloc, value, is_tagged)?;
     Ok(Filter {
-        ids,
-        authors,
+        ids: shapes.ids,
+        authors: shapes.authors,
         kinds: shapes.kinds,
         tags,
         since: shapes.since,

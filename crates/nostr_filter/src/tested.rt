@@ -7,9 +7,8 @@ ghost use Rattle.nostr_filter.specs.Tags.{letters, tag_name};
 ghost use Rattle.nostr_filter.specs.FilterJson.{texts_of, kind_of, kinds_of, whole_of, field as read_field, conditions_of, first_failing, tag_tests, named_tests, shape_tests, IsHex, AreHex, IsHexAt, Passes, Refuses};
 
 use crate::fault::{FilterFault, FilterField};
-use crate::fields::kind_at;
+use crate::fields::{hex_at, kind_at};
 use crate::letters::LETTERS;
-use nostr_event::bytes32_of;
 use serde_json::Value;
 
 // Whether each value is a string.
@@ -176,10 +175,7 @@ fn shapes_tested(value: &Value) -> Result<bool, FilterField>
 fn is_hex(value: &Value) -> bool
     ensures { IsTrue result ↔ IsHex (view value.now) }
 {
-    match value.as_str() {
-        Some(text) => bytes32_of(text).is_some(),
-        None => false,
-    }
+    hex_at(value).is_some()
 }
 
 // Whether each value is one.
