@@ -1,3 +1,4 @@
 pub mod Written
 pub mod Told
 pub mod Compared
+pub mod Behind

@@ -1,7 +1,8 @@
 //! Events of a file's lines that are read before others are put into a store, as by several threads side by side.
-ghost use Rattle.std.specs.Prelude.{◌≡◌, ℕ, ◌+◌, take, IfOk, OnOk, Err};
+ghost use Rattle.std.specs.Prelude.{◌≡◌, ℕ, ◌+◌, ◌≤◌, drop, length, map, take, IfOk, OnOk, Err};
+ghost use Rattle.std.specs.Arc.{arc_value};
 ghost use Rattle.mirror_run.specs.Lines.{lines_of};
-ghost use Rattle.event_file.specs.Lines.{LinesTell, WrongBehind};
+ghost use Rattle.event_file.specs.Lines.{HoldEvents, LinesTell, WrongBehind};
 ghost use Rattle.event_file.specs.declared.fault.FileFault.TheVariants.{Line as line_fault, Memory as memory};
 
 use crate::fault::FileFault;
@@ -12,42 +13,61 @@ use std::alloc::{AllocError, Global};
 use std::marker::Model;
 use std::sync::{Arc, Wait};
 
-/// The events of a text's first lines, as far as each line has one that can be read, and what stands behind these lines.
+/// A text, the events of its first lines, as far as each line has one that can be read, and where what is behind these lines begins.
+/// Contracts see it as the text.
 #[derive(Drop)]
-pub struct Ahead<'t> {
-    text: &'t [u8],
+pub struct Ahead {
+    text: Vec<u8>,
     events: Vec<Arc<Event>>,
-    rest: &'t [u8],
+    rest: usize,
 }
 
-impl<'t> Model for Ahead<'t> {
-    ghost use Rattle.std.specs.Prelude.{ℕ, ◌+◌, ◌≤◌, List, length, map};
+impl Model for Ahead {
+    ghost use Rattle.std.specs.Prelude.{ℕ, ◌+◌, ◌≤◌, List, drop, length, map};
     ghost use Rattle.std.specs.Arc.{arc_value};
     ghost use Rattle.mirror_run.specs.Lines.{lines_of};
     ghost use Rattle.event_file.specs.Lines.{HoldEvents};
 
     ghost Value = { List ℕ };
 
-    ghost view = { λ a. a.text.now };
+    ghost view = { λ a. a.text.items };
 
     ghost invariant = { λ a. record {
-      hold : HoldEvents (lines_of a.text.now) (map arc_value a.events.items) (lines_of a.rest.now);
-      shorter : length a.events.items + length a.rest.now ≤ length a.text.now;
+      hold : HoldEvents (lines_of a.text.items) (map arc_value a.events.items) (lines_of (drop a.rest a.text.items));
+      within : length a.events.items ≤ a.rest;
+      inside : a.rest ≤ length a.text.items;
     } };
 }
 
-impl<'t> Ahead<'t> {
+/// The events of a text's lines, up to the first line that is empty or has none, and how many bytes these lines are.
+fn read_ahead(alloc: Global, text: &[u8]) -> Result<(Vec<Arc<Event>>, usize), AllocError>
+    ensures hold { IfOk result (λ r. HoldEvents (lines_of text.now) (map arc_value r.0.items) (lines_of (drop r.1 text.now))) }
+    ensures within { IfOk result (λ r. length r.0.items ≤ r.1) }
+    ensures inside { IfOk result (λ r. r.1 ≤ length text.now) }
+{
+    let mut events = Vec::new(alloc);
+    let mut rest = text;
+    while let Some((event, after)) = next_event(alloc, rest) {
+        events.push(event)?;
+        rest = after;
+    }
+    Ok((events, text.len() - rest.len()))
+}
+
+impl Ahead {
     /// Reads the events of a text's lines, up to the first line that is empty or has none.
-    pub fn of(alloc: Global, text: &'t [u8]) -> Result<Ahead<'t>, AllocError>
-        ensures { IfOk result (λ a. a ≡ text.now) }
+    pub fn of(alloc: Global, text: Vec<u8>) -> Result<Ahead, AllocError>
+        ensures { IfOk result (λ a. a ≡ text.items) }
     {
-        let mut events = Vec::new(alloc);
-        let mut rest = text;
-        while let Some((event, after)) = next_event(alloc, rest) {
-            events.push(event)?;
-            rest = after;
-        }
+        let (events, rest) = read_ahead(alloc, text.as_slice())?;
         Ok(Ahead { text, events, rest })
+    }
+
+    /// The text.
+    pub fn text(&self) -> &[u8]
+        ensures { result.now ≡ self.now }
+    {
+        self.text.as_slice()
     }
 }
 
@@ -56,7 +76,7 @@ pub fn insert_ahead<W: Wait, J: Naming, D: Wait + Drop>(
     rt: &W,
     alloc: Global,
     desk: &mut Desk<J, D>,
-    ahead: &Ahead<'_>,
+    ahead: &Ahead,
 ) -> Result<(), FileFault>
     ensures told { OnOk result (LinesTell (lines_of ahead.now) desk.old desk.new) }
     ensures wrong { (n : ℕ) → result ≡ Err (line_fault n) → (before : ℕ) × (n ≡ before + 1) × WrongBehind J.most before (lines_of ahead.now) desk.old desk.new }
@@ -68,7 +88,8 @@ pub fn insert_ahead<W: Wait, J: Naming, D: Wait + Drop>(
     if taken < ahead.events.len() {
         return Err(FileFault::Line(taken + 1));
     }
-    match insert_lines(rt, alloc, desk, ahead.rest) {
+    let (_, rest) = ahead.text.as_slice().split_at(ahead.rest);
+    match insert_lines(rt, alloc, desk, rest) {
         Ok(()) => Ok(()),
         Err(FileFault::Line(line)) => Err(FileFault::Line(taken + line)),
         Err(FileFault::Memory) => Err(FileFault::Memory),

@@ -1,5 +1,5 @@
 //! Reading a file of events into a store.
-ghost use Rattle.std.specs.Prelude.{◌≡◌, ℕ, ◌+◌, ◌<◌, ◌≤◌, List, [], ◌∷◌, length, map, take, drop, IfOk, IfSome, MatchBool, OnOk, Err};
+ghost use Rattle.std.specs.Prelude.{◌≡◌, ℕ, ◌+◌, ◌-◌, ◌<◌, ◌≤◌, List, [], ◌∷◌, length, map, take, drop, IfOk, IfSome, MatchBool, OnOk, Err};
 ghost use Rattle.std.specs.Arc.{arc_value};
 ghost use Rattle.nostr_event.specs.EventView.{EventView};
 ghost use Rattle.mirror_run.specs.Lines.{lines_of};
@@ -51,6 +51,7 @@ pub fn holds_event(alloc: Global, line: &[u8]) -> Result<bool, AllocError>
 pub fn next_event(alloc: Global, text: &[u8]) -> Option<(Arc<Event>, &[u8])>
     ensures next { IfSome result (λ n. HoldEvents (lines_of text.now) (arc_value n.0 ∷ []) (lines_of n.1.now)) }
     ensures shorter { IfSome result (λ n. length n.1.now < length text.now) }
+    ensures behind { IfSome result (λ n. n.1.now ≡ drop (length text.now - length n.1.now) text.now) }
 {
     let (line, rest) = cut_line(text)?;
     if line.is_empty() {

@@ -3,6 +3,7 @@
 #![tactic(auto)]
 
 mod beside;
+mod filling;
 mod keeping;
 mod refusal;
 mod saving;

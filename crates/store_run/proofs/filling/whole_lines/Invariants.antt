@@ -1,5 +1,5 @@
 use Rattle.std.proofs.Common.{◌≤◌, length}
-use Rattle.store_run.proofs.saving.whole_lines.Given as goal
+use Rattle.store_run.proofs.filling.whole_lines.Given as goal
 
 abbrev pub invariant-loop-len : goal.invariant-loop-len
 invariant-loop-len l = l.len ≤ length l.text
