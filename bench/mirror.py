@@ -6,8 +6,9 @@
 The inputs are M events as JSON with right ids (`inputs.py`). Each of K relays of the same program holds N of them, one behind
 another from its own place on, so that each event is held by one relay or by several. The mirror fetches all in one pass, with W
 connections to each relay. Then it is started again, and goes over these relays, each of which has a part of its events by then, in P
-passes more than one; and the same over as many that have just its events. Shown are the wall time, the processor time of the mirror
-and of all relays, and the mirror's greatest peak of resident memory; of the later passes what one of them took.
+passes more than one; the same over as many that have just its events; and over as many that this script plays, which have these too
+and compare any number of them at once. Shown are the wall time, the processor time of the mirror and of all relays that aren't
+played, and the mirror's greatest peak of resident memory; of the later passes what one of them took.
 
 As large as a store can be, it is `bench/mirror.py --held 300000 --events 1000000`: that takes some 12 GB of memory, and 3 GB on the
 disk.
@@ -22,8 +23,11 @@ import time
 
 from inputs import events as write_events
 from inputs import made
-from measure import apart, program_of
+from measure import ROOT, apart, program_of
 from relay import Serving, settings
+
+sys.path.insert(0, os.path.join(ROOT, "tests"))
+from played import Played
 
 PASS = re.compile(r"\S+ pass \d+ relays (\d+)/(\d+) need (\d+) given (\d+) missed (\d+) left (\d+) ms (\d+)")
 
@@ -81,6 +85,12 @@ def level(folder, name, ports, serving, options):
     told_row(name, took[len(took) // 2] / 1e3, (seconds - once) / options.passes, (cost(serving) - before) / len(told), peak)
 
 
+def has_the_same(connection, asked):
+    """A relay that has just what the mirror has: to its fingerprint it answers that nothing differs."""
+    if asked[0] == "NEG-OPEN":
+        connection.say(["NEG-MSG", asked[1], "61"])
+
+
 def ended(serving):
     for relay in serving:
         relay.child.kill()
@@ -113,6 +123,8 @@ def main():
             one = [Serving(options.mirror, folder, "same", 1000000, text)]
         level(folder, "nothing differs", [one[0].port] * relays, one, options)
         ended(one)
+        with Played(has_the_same) as relay:
+            level(folder, "the same, all at once", [relay.port] * relays, [], options)
 
 
 if __name__ == "__main__":

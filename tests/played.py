@@ -167,7 +167,8 @@ class Server:
 
     def __init__(self, serve):
         self.server = socket.create_server(("127.0.0.1", 0))
-        self.at = "127.0.0.1:%d" % self.server.getsockname()[1]
+        self.port = self.server.getsockname()[1]
+        self.at = "127.0.0.1:%d" % self.port
         threading.Thread(target=accepting, args=(self.server, serve), daemon=True).start()
 
     def __enter__(self):
