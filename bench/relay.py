@@ -128,17 +128,25 @@ def put(client, lines, window=64):
             raise SystemExit("an event was refused")
 
 
+def events_until_end(client):
+    """How many events come until the stored ones have ended. What comes isn't taken apart, which would leave the relay idle."""
+    came, last = 0, b""
+    while not last.endswith(b'["EOSE","q"]'):
+        found = client.socket.recv(1 << 20)
+        if not found:
+            raise SystemExit("the relay closed the connection")
+        came += (last + found).count(b'["EVENT","q",') - last.count(b'["EVENT","q",')
+        last = (last + found)[-32:]
+    return came
+
+
 def ask(port, filters):
     """Asks for each filter in turn, and tells how many events came."""
     client = Client(port)
     came = 0
     for filter in filters:
         client.send(b'["REQ","q",%s]' % json.dumps(filter).encode())
-        while True:
-            text = client.read()
-            if text.startswith(b'["EOSE"'):
-                break
-            came += 1
+        came += events_until_end(client)
     client.close()
     return came
 
