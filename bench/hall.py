@@ -3,7 +3,8 @@
 
     bench/hall.py [--mirror PATH] [--subscribers N] [--events N] [--stored N]
 
-So many clients (`crowd.c`) are connected to a relay side by side, each with one filter, on this machine. Then events come one by
+First it is shown what the system takes to send something to so many clients, by a program that does nothing else (`send.c`). Then
+so many clients (`crowd.c`) are connected to a relay side by side, each with one filter, on this machine. Then events come one by
 one from another client. Shown are how long it took until all were served; how long it took until an event was with half of the
 clients, with 99 % of them and with all, in ms, the median of all events; the share of a processor that the relay takes while
 nothing happens; and the memory that each connection takes at rest. Last, over a store of its own, how long a client waits for an
@@ -102,6 +103,23 @@ def fairness(program, count):
             relay.wait()
 
 
+def built(folder, name, *flags):
+    """The path of a program of this folder, built in another one."""
+    program = os.path.join(folder, name)
+    subprocess.run(["cc", "-O2", "-o", program, os.path.join(ROOT, "bench", name + ".c"), *flags], check=True)
+    return program
+
+
+def least(folder, count):
+    """What it takes to send something to so many clients, by one to four threads: the median times until half have it, and all."""
+    program = built(folder, "send", "-pthread")
+    for threads in (1, 2, 3, 4):
+        said = subprocess.run([program, str(count), str(threads)], stdout=subprocess.PIPE, text=True, check=True, timeout=60).stdout
+        rows = [[float(word) for word in line.split()] for line in said.splitlines()]
+        print("a program of %d threads that does nothing but send: ms until half and all have it: %s" % (
+            threads, ", ".join("%.1f" % statistics.median(row[k] for row in rows) for k in (0, 1))), flush=True)
+
+
 def main():
     parser = argparse.ArgumentParser(description=__doc__, formatter_class=argparse.RawDescriptionHelpFormatter)
     parser.add_argument("--mirror", default=program_of("mirror_app"))
@@ -112,8 +130,8 @@ def main():
     many = args.subscribers + 200
     resource.setrlimit(resource.RLIMIT_NOFILE, (many, many))
     with tempfile.TemporaryDirectory() as folder:
-        crowd = os.path.join(folder, "crowd")
-        subprocess.run(["cc", "-O2", "-o", crowd, os.path.join(ROOT, "bench", "crowd.c")], check=True)
+        crowd = built(folder, "crowd")
+        least(folder, args.subscribers)
         relay, port = begun(args.mirror, conf_of(folder, clients=many))
         try:
             before = resident(relay.pid)
