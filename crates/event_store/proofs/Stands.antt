@@ -51,17 +51,13 @@ cut_in_two k (x ∷ items) keys =
           rw (a, b, c, d) (IsPermutation-trans (x ∷ items) (x ∷ (front ++ back)) (front ++ x ∷ back) (IsPermutation-cons x items (front ++ back) rest) (moved_past front back x))
     ]
 
-pub items_push : (events : List EventView) (e : EventView) (roll : List Item) (k : Item) → k ≡ item_of e → All IsKey roll → IsPermutation (map item_of events) roll
-    → IsPermutation (map item_of (events ++ e ∷ [])) (part roll least k ++ k ∷ part roll k infinity)
-items_push events e roll k is keys moved =
-    let all = map item_of events in
+pub item_push : (all roll : List Item) (k : Item) → All IsKey roll → IsPermutation all roll → IsPermutation (all ++ k ∷ []) (part roll least k ++ k ∷ part roll k infinity)
+item_push all roll k keys moved =
     let front = part roll least k in
     let back = part roll k infinity in
-    let last : map item_of (events ++ e ∷ []) ≡ all ++ k ∷ [] = map-append item_of events (e ∷ []) ∙ ap (λ (x : Item). all ++ x ∷ []) (sym is) in
     let first : IsPermutation (k ∷ all) (k ∷ (front ++ back)) = IsPermutation-cons k all (front ++ back) (IsPermutation-trans all roll (front ++ back) moved (cut_in_two k roll keys)) in
-    subst (λ (xs : List Item). IsPermutation xs (front ++ k ∷ back)) (sym last)
-    (IsPermutation-trans (all ++ k ∷ []) (k ∷ all) (front ++ k ∷ back) (IsPermutation-to_front all k)
-    (IsPermutation-trans (k ∷ all) (k ∷ (front ++ back)) (front ++ k ∷ back) first (moved_past front back k)))
+    IsPermutation-trans (all ++ k ∷ []) (k ∷ all) (front ++ k ∷ back) (IsPermutation-to_front all k)
+    (IsPermutation-trans (k ∷ all) (k ∷ (front ++ back)) (front ++ k ∷ back) first (moved_past front back k))
 
 -- ---- a roll of the first events
 

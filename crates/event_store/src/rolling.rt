@@ -1,36 +1,52 @@
 //! The roll of a store's events, and what it finds.
-ghost use Rattle.std.specs.Prelude.{◌≡◌, ◌∷◌, ◌++◌, [], List, map, IsPermutation, IfOk, IfSome, OnOk};
+ghost use Rattle.std.specs.Prelude.{◌≡◌, ◌≤◌, ◌∷◌, ◌++◌, [], List, length, map, take, IsPermutation, IfOk, OnOk};
 ghost use Rattle.std.specs.Arc.{arc_value};
-ghost use Rattle.nostr_event.specs.EventView.{EventView, item_of};
+ghost use Rattle.neg_codec.specs.declared.Item.{Item as ItemView};
+ghost use Rattle.nostr_event.specs.EventView.{item_of};
 ghost use Rattle.event_store.specs.States.{IsRolled};
 
 use crate::event_list::EventList;
 use item_roll::Roll;
-use nostr_event::Event;
+use neg_codec::Item;
 use std::alloc::{AllocError, Global};
 use std::sync::Arc;
 
 // A roll gets so many items at once. Each one alone would copy a chunk, which the published roll shares.
 const BATCH: usize = 512;
 
-// Puts the event's item in its place.
-fn put_item(roll: &mut Roll, event: &Event) -> Result<(), AllocError>
-    ensures { OnOk result ((events : List EventView) → IsPermutation (map item_of events) roll.old → IsPermutation (map item_of (events ++ event.now ∷ [])) roll.new) }
+// Puts an item in its place.
+fn put_item(roll: &mut Roll, item: Item) -> Result<(), AllocError>
+    ensures { OnOk result ((items : List ItemView) → IsPermutation items roll.old → IsPermutation (items ++ item ∷ []) roll.new) }
 {
     roll.len();
-    match roll.insert(event.item()) {
+    match roll.insert(item) {
         Ok(()) => Ok(()),
         Err(_) => Err(AllocError),
     }
 }
 
+// The items of the events from a place on, in the roll's order: so each is put in near the one before it, where memory is at hand.
+fn items_from(alloc: Global, events: &EventList, start: usize) -> Result<Vec<Item>, AllocError>
+    requires { start ≤ length events.now }
+    ensures { IfOk result (λ v. IsPermutation (map item_of events.now) (map item_of (take start events.now) ++ v.items)) }
+{
+    let mut items = Vec::with_capacity(alloc, events.len() - start)?;
+    for place in start..events.len() {
+        items.push(events.get(place).item())?;
+    }
+    items.sort_unstable_by(|a: &Item, b: &Item| a.compare(b));
+    Ok(items)
+}
+
 // Puts the items of the events that the roll hasn't in their places.
-fn put_items(roll: &mut Roll, events: &EventList) -> Result<(), AllocError>
+fn put_items(alloc: Global, roll: &mut Roll, events: &EventList) -> Result<(), AllocError>
     requires { IsRolled events.now roll.old }
     ensures { OnOk result (IsPermutation (map item_of events.now) roll.new) }
 {
-    for place in roll.len()..events.len() {
-        put_item(roll, events.get(place))?;
+    let start = roll.len();
+    let items = items_from(alloc, events, start)?;
+    for at in 0..items.len() {
+        put_item(roll, items[at])?;
     }
     Ok(())
 }
@@ -48,7 +64,7 @@ pub fn roll_of_all(
         return Ok(Arc::try_clone(roll)?);
     }
     let mut all = roll.share(alloc)?;
-    put_items(&mut all, events)?;
+    put_items(alloc, &mut all, events)?;
     Ok(Arc::new(alloc, all)?)
 }
 

@@ -1,17 +1,15 @@
-use Rattle.std.proofs.Common.{sym, subst, arith, map, List, take, [], ◌∷◌, ◌++◌, ◌∙◌, ap}
+use Rattle.std.proofs.Common.{arith, map, take, List, ◌++◌, subst}
 use Rattle.std.specs.Prelude.{IsPermutation}
-use Rattle.std.specs.Arc.{arc_value}
 use Rattle.std.proofs.lemmas.List.{take_all}
-use Rattle.nostr_event.specs.EventView.{EventView, item_of}
-use Rattle.event_store.proofs.Picked.{took_more}
+use Rattle.std.proofs.lemmas.List.Sorted.{IsPermutation-trans}
+use Rattle.neg_codec.specs.declared.Item.{Item}
+use Rattle.nostr_event.specs.EventView.{item_of}
 use Rattle.event_store.proofs.rolling.put_items.Goals as goal
-
-pub loop-place-preserved : goal.loop-place-preserved
-loop-place-preserved c =
-    let before = take c.loop-place.place c.args.events.now in
-    let more = ap (λ (e : EventView). before ++ e ∷ []) c.deref.ensures ∙ sym (took_more c.args.events.now c.loop-place.place (arc_value c.get.result.now) c.get.ensures) in
-    subst (λ (xs : List EventView). IsPermutation (map item_of xs) c.put_item.new.roll) more (c.in_ok-put_item.ensures before c.loop-place.invariant)
 
 pub returns : goal.returns
 returns c =
-    subst (λ (xs : List EventView). IsPermutation (map item_of xs) c.loop-place.roll) (take_all c.loop-place.place c.args.events.now (omega (arith, c.len-place-end.ensures, c.loop-place.auto.place))) c.loop-place.invariant
+    let first = map item_of (take c.len-start.result c.args.events.now) in
+    let items = c.in_ok-items.items.items in
+    let all = take_all c.loop-at.at items (omega (arith, c.loop-at-test.false, c.len-at-end.ensures)) in
+    IsPermutation-trans (map item_of c.args.events.now) (first ++ items) c.loop-at.roll c.in_ok-items.ensures
+    (subst (λ (xs : List Item). IsPermutation (first ++ xs) c.loop-at.roll) all c.loop-at.invariant)
