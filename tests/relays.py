@@ -9,7 +9,7 @@ one a frame and one a message that never ends; one doesn't shake hands. The hone
 others but those that were asked for with right ids; the mirror's file has to be whole, and its memory within a bound. That is tried
 of `sync`, and the rest of both, of `mirror` in one pass.
 
-A relay gives 60 events of 1 MB that nobody asked for.
+A relay gives 600 events of 1 MB that nobody asked for.
 
 Then two relays have the same events, and one of them, the first or the second, refuses to give any, is cut after a megabyte, drips
 or says nothing: what it was to give comes from the other in the next round, and `--progress` says why it failed. An id that only
@@ -167,7 +167,7 @@ JOBS = (Job("sync", "--strict"), Job("mirror", passes=1))
 
 def gives_unasked(job, path, folder):
     wanted = event(6000, "asked for")
-    others = [json.dumps(event(7000 + n, "x" * 1_000_000)).encode() for n in range(60)]
+    others = [json.dumps(event(7000 + n, "x" * 1_000_000)).encode() for n in range(60)] * 10
 
     def gives(connection, sub, _ids):
         for other in others:
