@@ -15,21 +15,11 @@
 #include <sys/epoll.h>
 #include <sys/resource.h>
 #include <sys/socket.h>
-#include <time.h>
 #include <unistd.h>
 
+#include "share.h"
+
 enum { MOST = 4096 };
-
-static double now(void) {
-    struct timespec t;
-    clock_gettime(CLOCK_MONOTONIC, &t);
-    return t.tv_sec + t.tv_nsec / 1e9;
-}
-
-static void stop(const char *what) {
-    perror(what);
-    exit(1);
-}
 
 // A text as a client's frame under the mask 0.
 static int framed(unsigned char *into, const char *text) {

@@ -13,25 +13,15 @@
 #include <sys/epoll.h>
 #include <sys/resource.h>
 #include <sys/socket.h>
-#include <time.h>
 #include <unistd.h>
+
+#include "share.h"
 
 enum { TIMES = 10, READY = 1024 };
 
 static int count, threads, *streams;
 static char text[340];
 static pthread_barrier_t begin, end;
-
-static double now(void) {
-    struct timespec t;
-    clock_gettime(CLOCK_MONOTONIC, &t);
-    return t.tv_sec + t.tv_nsec / 1e9;
-}
-
-static void stop(const char *what) {
-    perror(what);
-    exit(1);
-}
 
 static void *sender(void *number) {
     for (int k = 0; k < TIMES; k++) {
