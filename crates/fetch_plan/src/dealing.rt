@@ -1,6 +1,6 @@
 //! Dealing: the pieces that relays hold as single ids.
 
-use crate::evening::Evening;
+use crate::balance::Balance;
 use offer_table::{Bases, OfferTable};
 use sharing::RELAYS;
 use std::alloc::{AllocError, Global};
@@ -48,13 +48,13 @@ impl Parts {
 }
 
 /// The parts of all groups.
-fn parts_of(alloc: Global, evening: &Evening, groups: usize) -> Result<Parts, AllocError> {
+fn parts_of(alloc: Global, balance: &Balance, groups: usize) -> Result<Parts, AllocError> {
     let mut all = Parts {
         firsts: vec![in alloc; 0u32; groups]?,
         parts: Vec::with_capacity(alloc, groups)?,
     };
     for relay in 0..RELAYS {
-        if let Some(pieces) = evening.held.get(usize::from(relay)) {
+        if let Some(pieces) = balance.held.get(usize::from(relay)) {
             for piece in pieces {
                 if piece.count > 0 {
                     all.add(piece.group, relay, piece.count)?;
@@ -65,14 +65,14 @@ fn parts_of(alloc: Global, evening: &Evening, groups: usize) -> Result<Parts, Al
     Ok(all)
 }
 
-/// The relay that each id is meant for, in the order of the ids.
-pub(crate) fn meant(
+/// The relay that each id had best go to, in the order of the ids.
+pub(crate) fn suggested(
     alloc: Global,
     table: &OfferTable,
     bases: &Bases,
 ) -> Result<Vec<u16>, AllocError> {
-    let evening = Evening::of(alloc, table, bases)?;
-    let mut parts = parts_of(alloc, &evening, table.groups())?;
+    let balance = Balance::of(alloc, table, bases)?;
+    let mut parts = parts_of(alloc, &balance, table.groups())?;
     let numbers = table.numbers();
     let mut relays = Vec::with_capacity(alloc, numbers.len())?;
     for group in numbers {

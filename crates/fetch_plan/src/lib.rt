@@ -7,16 +7,16 @@ ghost use Rattle.sharing.specs.Sharing.{NoneSmaller};
 ghost use Rattle.fetch_plan.specs.Takers.{at};
 ghost use Rattle.fetch_plan.specs.Plan.{IsPlanOf};
 
+mod balance;
 mod cell;
 mod chains;
 mod dealing;
-mod evening;
 mod outcome;
 mod takers;
 
 pub use cell::Cell;
 use chains::{greatest, settle};
-use dealing::meant;
+use dealing::suggested;
 use offer_table::{Bases, OfferTable, RelaySet};
 pub use outcome::Plan;
 use sharing::{RELAYS, SLOTS};
@@ -41,9 +41,9 @@ pub fn plan(alloc: Global, table: &OfferTable, bases: &Bases) -> Result<Plan, Al
     ensures planned { IfOk result (IsPlanOf bases.now table.now.offers) }
     ensures least { IfOk result (λ plan. NoneSmaller (base_of bases.now) table.now.offers plan.least_max) }
 {
-    let meant = meant(alloc, table, bases)?;
+    let suggested = suggested(alloc, table, bases)?;
     let offers = table.list();
-    let mut takers = choose(alloc, offers, &meant)?;
+    let mut takers = choose(alloc, offers, &suggested)?;
     let mut loads = loads_of(bases);
     add_loads(&takers, &mut loads);
     let reached = settle(alloc, offers, &mut takers, &mut loads)?;

@@ -11,36 +11,34 @@ use offer_table::RelaySet;
 use sharing::{RELAYS, SLOTS};
 use std::alloc::{AllocError, Global};
 
-/// The relay that is meant, where it is a member, or else the first member.
-fn chosen(relays: RelaySet, meant: u16) -> u16
+/// The relay that is suggested, where it is a member, or else the first member.
+fn chosen(relays: RelaySet, suggested: u16) -> u16
     requires { 0 < length relays }
     ensures member { is_among relays result ≡ true }
     ensures small { result < RELAYS }
 {
-    if relays.has(meant) {
-        return meant;
+    if relays.has(suggested) {
+        return suggested;
     }
-    for relay in 0..RELAYS {
-        if relays.has(relay) {
-            return relay;
-        }
+    match relays.split_first() {
+        Some((first, _)) => first,
+        None => unreachable!(),
     }
-    unreachable!()
 }
 
-/// Takes each id to the relay that is meant for it, or, where that one doesn't offer it, to one that does.
+/// Takes each id to the relay that is suggested for it, or, where that one doesn't offer it, to one that does.
 pub(crate) fn choose(
     alloc: Global,
     offers: &[(Id, RelaySet)],
-    meant: &[u16],
+    suggested: &[u16],
 ) -> Result<Vec<u16>, AllocError>
     requires { All (λ o. 0 < length o.1) offers.now }
     ensures { IfOk result (λ takers. AreOffered offers.now takers.items) }
 {
     let mut takers = Vec::with_capacity(alloc, offers.len())?;
     for (place, offer) in offers.iter().enumerate() {
-        let meant = meant.get(place).copied().unwrap_or(0);
-        takers.push(chosen(offer.1, meant))?;
+        let suggested = suggested.get(place).copied().unwrap_or(0);
+        takers.push(chosen(offer.1, suggested))?;
     }
     Ok(takers)
 }
