@@ -2,8 +2,7 @@
 use Rattle.std.proofs.Common.{◌≡◌, ◌≢◌, ℕ, zero, suc, ◌+◌, ◌<◌, ◌≤◌, false, List, [], ◌∷◌, ◌++◌, length, take, drop, Some, slice_get, inl, inr, refl, ap, sym, subst, arith, ◌∙◌}
 use Rattle.std.proofs.lemmas.Option.{slice_get_within}
 use Rattle.nostr_event.specs.EventView.{EventView}
-use Rattle.event_store.specs.Events.{has_id, with_event, with_events}
-use Rattle.event_store.specs.Faults.{EndsRightly}
+use Rattle.event_table.specs.Events.{has_id, with_event, with_events, EndsRightly}
 use Rattle.event_file.specs.Lines.{IsEventOf, LineTells, LinesTell, WrongBehind, HoldEvents}
 
 -- ---- behind the first lines

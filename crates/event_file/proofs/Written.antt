@@ -6,7 +6,7 @@ use Rattle.std.specs.Io.KnownBytes.{Appends}
 use Rattle.serde_json.specs.Written.{compact_text}
 use Rattle.nostr_event.specs.EventView.{EventView}
 use Rattle.nostr_event.specs.EventJson.{object_of}
-use Rattle.event_store.proofs.Picked.{took_more}
+use Rattle.event_list.proofs.Chunked.{took_more}
 use Rattle.event_log.specs.Text.{line_of, text_of}
 
 appends_both : (a b c : Option (List ℕ)) (first second : List ℕ) → Appends a b first → Appends b c second → Appends a c (first ++ second)

@@ -4,7 +4,7 @@ use Rattle.serde_json.specs.Data.{Data}
 use Rattle.serde_json.specs.Read.{read}
 use Rattle.nostr_event.specs.EventView.{EventView}
 use Rattle.nostr_event.specs.EventJson.{Reads}
-use Rattle.event_store.specs.Events.{has_id, with_event}
+use Rattle.event_table.specs.Events.{has_id, with_event}
 
 -- the line is the JSON of this event
 abbrev pub IsEventOf : List ℕ → EventView → Type 0

@@ -2,8 +2,8 @@
 
 use crate::path::{begin, followed, is_at, permissions_at, sync_folder, take_place};
 use crate::writing::write_lines;
+use event_list::EventList;
 use event_log::Medium;
-use event_store::EventList;
 use std::alloc::Global;
 use std::fs::{File, OpenOptions};
 use std::io::{BufReader, ErrorKind, Write};

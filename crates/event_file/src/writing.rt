@@ -5,7 +5,7 @@ ghost use Rattle.std.specs.Io.KnownBytes.{Appends};
 ghost use Rattle.mirror_run.specs.Waiting.{Sends};
 ghost use Rattle.event_log.specs.Text.{line_of, text_of};
 
-use event_store::EventList;
+use event_list::EventList;
 use mirror_run::waiting::{put, send};
 use nostr_event::Event;
 use std::alloc::Global;

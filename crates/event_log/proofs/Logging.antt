@@ -4,8 +4,8 @@ use mathlib.Core.List.{IsPrefix}
 use Rattle.std.proofs.lemmas.Grind.{flat_map-append}
 use Rattle.std.proofs.lemmas.List.{take_all}
 use Rattle.std.proofs.Math.Seq.{take-append_seam}
-use Rattle.event_store.proofs.Picked.{took_more}
-use Rattle.event_store.proofs.Prefixes.{prefix_self, prefix_trans}
+use Rattle.event_list.proofs.Chunked.{took_more}
+use Rattle.event_list.proofs.Prefixes.{prefix_self, prefix_trans}
 use Rattle.nostr_event.specs.EventView.{EventView}
 use Rattle.event_log.specs.Text.{line_of, text_of}
 use Rattle.event_log.specs.Media.{Held, Goes, Anyhow, Stays, Takes, TakesPart, Syncs, CutsTo}

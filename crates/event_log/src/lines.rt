@@ -6,7 +6,7 @@ ghost use Rattle.event_log.specs.Media.{Goes, Takes, TakesPart};
 ghost use Rattle.event_log.specs.Logs.{TakesLines, TakesBegun};
 
 use crate::medium::Medium;
-use event_store::EventList;
+use event_list::EventList;
 use nostr_event::Event;
 use std::alloc::AllocError;
 use std::io;

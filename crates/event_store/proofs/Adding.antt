@@ -7,7 +7,7 @@ use prog.Atomic.{either}
 use Rattle.logbook.specs.Pages.{Cell, cell, keeps, no_nib, step, Moves, Goes}
 use Rattle.nostr_event.specs.EventView.{EventView}
 use Rattle.event_store.specs.History.{IsKept, Added}
-use Rattle.event_store.proofs.Prefixes.{prefix_whole}
+use Rattle.event_list.proofs.Prefixes.{prefix_whole}
 
 abbrev pub shown : List EventView → List EventView
 shown log = []

@@ -10,19 +10,13 @@ use Rattle.std.specs.contracts.sync.Arc as Arc
 use Rattle.std.specs.contracts.sync.Mutex as Mutex
 use Rattle.item_roll.proofs.roll.Roll.TheSendSync as roll
 use Rattle.item_roll.specs.contracts.roll.Roll as Roll
-use Rattle.id_map.proofs.Crossing.{map_send, map_sync}
-use Rattle.event_index.proofs.Crossing.{index_send, index_sync}
-use Rattle.event_index.specs.contracts.index.Index as Index
-use Rattle.newest.proofs.Crossing.{order_send, order_sync}
-use Rattle.event_store.specs.contracts.listing.Listing as Listing
-use Rattle.event_store.specs.contracts.listing.Listing.TheInside as InListing
-use Rattle.event_store.specs.contracts.state.State as State
-use Rattle.event_store.specs.contracts.state.State.TheInside as InState
+use Rattle.event_table.proofs.Crossing.{table_send, table_sync}
+use Rattle.event_table.specs.contracts.table.EventTable as EventTable
 use Rattle.event_store.specs.contracts.shown.Shown as Shown
 use Rattle.event_store.specs.contracts.shown.Shown.TheInside as InShown
 use Rattle.event_store.specs.contracts.snapshot.Snapshot as Snapshot
 use Rattle.event_store.specs.contracts.snapshot.Snapshot.TheInside as InSnapshot
-use Rattle.event_store.proofs.event_list.EventList.TheSendSync as list
+use Rattle.event_list.proofs.list.EventList.TheSendSync as list
 use Rattle.event_store.proofs.mark.Mark.TheSendSync as mark
 use Rattle.event_store.proofs.blank.Front.TheSendSync as front
 use Rattle.event_store.proofs.blank.Head.TheSendSync as head
@@ -43,32 +37,11 @@ use Rattle.left_right.proofs.writer.Writer.TheSendSync as pen
 roll_send : IsSend (Arc.the_row Roll.the_row Global.the_row heap.ghosts)
 roll_send = search (sendable, crosses, roll.the_send, roll.the_sync)
 
-roll_sync : IsSync (Arc.the_row Roll.the_row Global.the_row heap.ghosts)
-roll_sync = search (sendable, crosses, roll.the_send, roll.the_sync)
+shared_send : IsSend (Arc.the_row EventTable.the_row Global.the_row heap.ghosts)
+shared_send = search (sendable, crosses, table_send, table_sync)
 
-shared_index_send : IsSend (Arc.the_row Index.the_row Global.the_row heap.ghosts)
-shared_index_send = search (sendable, crosses, index_send, index_sync)
-
-shared_index_sync : IsSync (Arc.the_row Index.the_row Global.the_row heap.ghosts)
-shared_index_sync = search (sendable, crosses, index_send, index_sync)
-
-listing_send : IsSend Listing.the_row
-listing_send = view_send InListing.the_row _ _ _ _ (declared_send InListing.the_type (list.the_send, (map_send, (order_send, tt))))
-
-listing_sync : IsSync Listing.the_row
-listing_sync = view_sync InListing.the_row _ _ _ _ (declared_sync InListing.the_type (list.the_sync, (map_sync, (order_sync, tt))))
-
-state_send : IsSend State.the_row
-state_send = view_send InState.the_row _ _ _ _ (declared_send InState.the_type (listing_send, (roll_send, (shared_index_send, tt))))
-
-state_sync : IsSync State.the_row
-state_sync = view_sync InState.the_row _ _ _ _ (declared_sync InState.the_type (listing_sync, (roll_sync, (shared_index_sync, tt))))
-
-shared_send : IsSend (Arc.the_row State.the_row Global.the_row heap.ghosts)
-shared_send = search (sendable, crosses, state_send, state_sync)
-
-shared_sync : IsSync (Arc.the_row State.the_row Global.the_row heap.ghosts)
-shared_sync = search (sendable, crosses, state_send, state_sync)
+shared_sync : IsSync (Arc.the_row EventTable.the_row Global.the_row heap.ghosts)
+shared_sync = search (sendable, crosses, table_send, table_sync)
 
 pub snapshot_send : IsSend Snapshot.the_row
 snapshot_send = view_send InSnapshot.the_row _ _ _ _ (declared_send InSnapshot.the_type (shared_send, (list.the_send, (roll_send, tt))))

@@ -9,7 +9,7 @@ use Rattle.logbook.specs.Pages.{Book}
 use Rattle.event_store.specs.declared.rule.View.{View}
 use Rattle.event_store.specs.Marks.{Marked}
 use Rattle.event_store.specs.Rules.{newcomer, Keeps, Seen}
-use Rattle.event_store.proofs.Prefixes.{prefix_self, prefix_trans}
+use Rattle.event_list.proofs.Prefixes.{prefix_self, prefix_trans}
 
 -- a new reader has seen nothing
 pub admits : (book : Book) → Admits (Keeps book) newcomer

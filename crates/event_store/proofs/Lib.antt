@@ -1,13 +1,4 @@
-pub mod Prefixes
 pub mod Keeping
 pub mod Adding
-pub mod Chunked
-pub mod Ids
-pub mod Indexed
-pub mod Picked
-pub mod Asked
-pub mod Stands
-pub mod Rolled
-pub mod Ranked
 pub mod Crossing
 pub mod More

@@ -1,7 +1,4 @@
 pub mod Events
-pub mod Chunks
-pub mod States
-pub mod Picking
 pub mod Marks
 pub mod History
 pub mod Rules

@@ -6,9 +6,8 @@ ghost use Rattle.std.specs.Arc.{arc_value};
 ghost use Rattle.nostr_event.specs.EventView.{EventView};
 ghost use Rattle.nostr_filter.specs.Choice.{chosen};
 
-use crate::choosing::choose_of;
-use crate::event_list::EventList;
-use crate::state::State;
+use event_list::EventList;
+use event_table::{EventTable, choose};
 use nostr_filter::Filter;
 use std::alloc::{AllocError, Global};
 use std::marker::Model;
@@ -17,7 +16,7 @@ use std::sync::Arc;
 /// The events that a store had published. Contracts see it as their list. It never changes.
 #[derive(Drop)]
 pub struct AllEvents {
-    state: Arc<State>,
+    state: Arc<EventTable>,
 }
 
 impl Model for AllEvents {
@@ -31,7 +30,7 @@ impl Model for AllEvents {
 }
 
 impl AllEvents {
-    pub(crate) fn of(state: Arc<State>) -> AllEvents
+    pub(crate) fn of(state: Arc<EventTable>) -> AllEvents
         ensures { result ≡ arc_value state }
     {
         AllEvents { state }
@@ -57,6 +56,6 @@ impl AllEvents {
     pub fn choose(&self, alloc: Global, filters: &[Filter]) -> Result<Vec<usize>, AllocError>
         ensures { (events : List (AnArc EventView AGlobal)) → map arc_value events ≡ self.now → IfOk result (λ v. v.items ≡ chosen filters.now events) }
     {
-        choose_of(alloc, &self.state, filters)
+        choose(alloc, &self.state, filters)
     }
 }

@@ -3,9 +3,9 @@ ghost use Rattle.std.specs.Prelude.{◌≡◌, ◌<◌, ◌≤◌, ◌^◌, [], 
 ghost use mathlib.Core.List.{IsPrefix};
 ghost use Rattle.event_store.specs.History.{head_of, IsLevel};
 
-use crate::event_list::EventList;
 use crate::mark::Mark;
 use crate::name::{Law, Naming};
+use event_list::EventList;
 use logbook::{Seen, Start, Word};
 use nostr_event::Event;
 use std::marker::{Model, PhantomData};

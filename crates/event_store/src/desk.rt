@@ -1,8 +1,9 @@
 //! The one who inserts.
 ghost use Rattle.std.specs.Prelude.{◌≡◌, ◌<◌, ◌≤◌, not, false, Some, [], ◌∷◌, ◌++◌, length, map, take, IfOk, IfErr, OnErr, if◌then◌else◌};
 ghost use Rattle.std.specs.Arc.{arc_value};
-ghost use Rattle.event_store.specs.Events.{has_id, Distinct, placings, with_events};
-ghost use Rattle.event_store.specs.Faults.{RefusesRightly, EndsRightly};
+ghost use Rattle.event_table.specs.Events.{has_id, with_events, EndsRightly};
+ghost use Rattle.event_store.specs.Events.{placings};
+ghost use Rattle.event_store.specs.Faults.{RefusesRightly};
 ghost use mathlib.Core.List.{IsPrefix};
 
 use crate::blank::{Front, Head};
@@ -11,9 +12,9 @@ use crate::placed::Placed;
 use crate::reader::Reader;
 use crate::rule::Pen;
 use crate::shown::Shown;
-use crate::state::State;
 use crate::steps::publish;
 use core::mem::replace_with;
+use event_table::EventTable;
 use left_right::writer::Writer;
 use nostr_event::Event;
 use std::alloc::{AllocError, Global};
@@ -114,7 +115,7 @@ impl<J: Naming, R: Wait + Drop> Desk<J, R> {
         requires front { front.now ≡ [] }
         ensures { IfOk result (λ d. d ≡ []) }
     {
-        let state = Arc::new(alloc, State::new(alloc)?)?;
+        let state = Arc::new(alloc, EventTable::new(alloc)?)?;
         let first = Shown::new(state, front.again().into_mark());
         let second = first.again()?;
         let third = first.again()?;
@@ -216,7 +217,7 @@ impl<J: Naming, R: Wait + Drop> Desk<J, R> {
     }
 
     // Publishes events that begin with those published.
-    fn show<W: Wait>(&mut self, rt: &W, state: State) -> Result<Front<J>, AllocError>
+    fn show<W: Wait>(&mut self, rt: &W, state: EventTable) -> Result<Front<J>, AllocError>
         requires begins { IsPrefix self.old state }
         requires room { length state ≤ J.most }
         ensures ok { IfOk result (λ f. (f ≡ self.new) × (self.new ≡ state)) }

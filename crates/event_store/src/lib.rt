@@ -3,29 +3,20 @@
 
 mod all;
 mod blank;
-mod choosing;
 mod desk;
-mod event_list;
-mod indexing;
-mod list;
-mod listing;
 mod mark;
 mod name;
 mod open;
-mod picking;
 mod placed;
 mod reader;
-mod rolling;
 mod rule;
 mod shown;
 mod snapshot;
-mod state;
 mod steps;
 
 pub use all::AllEvents;
 pub use blank::{Blank, Front};
 pub use desk::{Desk, Filled, InsertFault};
-pub use event_list::EventList;
 pub use name::Naming;
 pub use open::{StoreFault, open_small, open_store};
 pub use placed::Placed;

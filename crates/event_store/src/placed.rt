@@ -1,6 +1,6 @@
 //! What an insert answers.
 ghost use Rattle.std.specs.Prelude.{◌≡◌, true, length};
-ghost use Rattle.event_store.specs.Events.{has_id};
+ghost use Rattle.event_table.specs.Events.{has_id};
 
 use crate::blank::Front;
 use crate::name::Naming;
@@ -17,7 +17,8 @@ pub struct Placed<J: Naming> {
 
 impl<J: Naming> Model for Placed<J> {
     ghost use Rattle.std.specs.Prelude.{◌≡◌, true};
-    ghost use Rattle.event_store.specs.Events.{has_id, Placing, placing};
+    ghost use Rattle.event_table.specs.Events.{has_id};
+    ghost use Rattle.event_store.specs.Events.{Placing, placing};
 
     ghost Value = { Placing };
 

@@ -5,7 +5,7 @@ ghost use mathlib.Core.List.{IsPrefix};
 ghost use Rattle.left_right.specs.Sides.{view};
 ghost use Rattle.nostr_event.specs.EventView.{item_of};
 ghost use Rattle.item_roll.specs.Parts.{IsRoll};
-ghost use Rattle.event_store.specs.Events.{matching, Distinct};
+ghost use Rattle.event_table.specs.Events.{matching, Distinct};
 
 use crate::all::AllEvents;
 use crate::blank::Front;
@@ -13,9 +13,9 @@ use crate::name::Naming;
 use crate::placed::Placed;
 use crate::rule::Side;
 use crate::snapshot::Snapshot;
-use crate::state::State;
 use crate::steps::look;
 use core::mem::replace_with;
+use event_table::EventTable;
 use nostr_filter::Filter;
 use std::alloc::Global;
 use std::marker::Model;
@@ -133,7 +133,7 @@ impl<J: Naming> Reader<J> {
         Ok(AllEvents::of(self.see()?))
     }
 
-    fn see(&mut self) -> Result<Arc<State>, PinFault>
+    fn see(&mut self) -> Result<Arc<EventTable>, PinFault>
         ensures kept { IsPrefix self.old self.new }
         ensures seen { IfOk result (λ p. arc_value p ≡ self.new) }
         ensures gone { IfErr result (λ f. f ≡ PinFault.Gone → self.new ≡ self.old) }

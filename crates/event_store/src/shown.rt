@@ -3,7 +3,7 @@ ghost use Rattle.std.specs.Prelude.{◌≡◌, IfOk};
 ghost use Rattle.std.specs.Arc.{arc_value};
 
 use crate::mark::Mark;
-use crate::state::State;
+use event_table::EventTable;
 use left_right::Absorb;
 use std::alloc::AllocError;
 use std::marker::Model;
@@ -12,7 +12,7 @@ use std::sync::Arc;
 /// What readers take. Contracts see it as its events, and the book of their history.
 #[derive(Drop)]
 pub struct Shown {
-    state: Arc<State>,
+    state: Arc<EventTable>,
     mark: Mark,
 }
 
@@ -29,14 +29,14 @@ impl Model for Shown {
 }
 
 impl Shown {
-    pub fn new(state: Arc<State>, mark: Mark) -> Shown
+    pub fn new(state: Arc<EventTable>, mark: Mark) -> Shown
         requires { mark.list ≡ arc_value state }
         ensures { result ≡ mark }
     {
         Shown { state, mark }
     }
 
-    pub fn state(&self) -> &Arc<State>
+    pub fn state(&self) -> &Arc<EventTable>
         ensures { arc_value result.now ≡ self.now.list }
     {
         &self.state

@@ -3,11 +3,10 @@ ghost use Rattle.std.specs.Prelude.{◌≡◌, ◌<◌, ◌≤◌, None, length,
 ghost use Rattle.std.specs.Arc.{arc_value};
 ghost use Rattle.nostr_event.specs.EventView.{item_of};
 ghost use Rattle.item_roll.specs.Parts.{IsRoll};
-ghost use Rattle.event_store.specs.Events.{matching, Distinct};
+ghost use Rattle.event_table.specs.Events.{matching, Distinct};
 
-use crate::event_list::EventList;
-use crate::picking::{leaves_none_out, pick};
-use crate::state::State;
+use event_list::EventList;
+use event_table::{EventTable, leaves_none_out, matching_events};
 use item_roll::Roll;
 use nostr_filter::Filter;
 use std::alloc::{AllocError, Global};
@@ -17,7 +16,7 @@ use std::sync::Arc;
 /// The matching ones of the first events of a store. Contracts see it as a `Pinned`. It never changes.
 #[derive(Drop)]
 pub struct Snapshot {
-    state: Arc<State>,
+    state: Arc<EventTable>,
     events: EventList,
     roll: Arc<Roll>,
 }
@@ -34,7 +33,7 @@ impl Model for Snapshot {
 impl Snapshot {
     pub(crate) fn of(
         alloc: Global,
-        state: Arc<State>,
+        state: Arc<EventTable>,
         filter: &Filter,
     ) -> Result<Snapshot, AllocError>
         ensures all { IfOk result (λ s. s.all ≡ arc_value state) }
@@ -47,28 +46,32 @@ impl Snapshot {
         if leaves_none_out(filter) {
             let events = all.share()?;
             let roll = state.whole_roll(alloc)?;
-            roll.len();
+            let _ = roll.len();
             return Ok(Snapshot {
                 state,
                 events,
                 roll,
             });
         }
-        let events = pick(alloc, &state, filter)?;
+        let events = matching_events(alloc, &state, filter)?;
         Snapshot::with(alloc, state, events)
     }
 
     // The same with these events.
-    fn with(alloc: Global, state: Arc<State>, events: EventList) -> Result<Snapshot, AllocError>
+    fn with(
+        alloc: Global,
+        state: Arc<EventTable>,
+        events: EventList,
+    ) -> Result<Snapshot, AllocError>
         ensures all { IfOk result (λ s. s.all ≡ arc_value state) }
         ensures distinct { IfOk result (λ s. Distinct s.all) }
         ensures events { IfOk result (λ s. s.events ≡ events) }
         ensures items { IfOk result (λ s. IsPermutation (map item_of s.events) s.roll) }
         ensures sorted { IfOk result (λ s. IsRoll s.roll) }
     {
-        state.events();
+        let _ = state.events();
         let roll = roll_of(alloc, &events)?;
-        roll.len();
+        let _ = roll.len();
         let roll = Arc::new(alloc, roll)?;
         Ok(Snapshot {
             state,
@@ -80,7 +83,7 @@ impl Snapshot {
     /// The same, unless more events match than so many: these are counted before they are put into a roll.
     pub(crate) fn of_few(
         alloc: Global,
-        state: Arc<State>,
+        state: Arc<EventTable>,
         filter: &Filter,
         most: usize,
     ) -> Result<Option<Snapshot>, AllocError>
@@ -98,7 +101,7 @@ impl Snapshot {
             }
             return Ok(Some(Snapshot::of(alloc, state, filter)?));
         }
-        let events = pick(alloc, &state, filter)?;
+        let events = matching_events(alloc, &state, filter)?;
         if events.len() > most {
             return Ok(None);
         }

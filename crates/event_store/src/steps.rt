@@ -8,12 +8,12 @@ use crate::blank::Front;
 use crate::name::Naming;
 use crate::rule::{Pen, Sees, Side};
 use crate::shown::Shown;
-use crate::state::State;
+use event_table::EventTable;
 use std::alloc::AllocError;
 use std::sync::{Arc, Wait};
 
 /// What a reader takes along: how far the history was seen, and the events, unless their reference could not be shared.
-pub type Taken<J> = (Front<J>, Result<Arc<State>, AllocError>);
+pub type Taken<J> = (Front<J>, Result<Arc<EventTable>, AllocError>);
 
 /// Sees what is published, which begins with all that this side has seen.
 pub fn look<J: Naming>(side: Side<J>) -> (Side<J>, Option<Taken<J>>)

@@ -3,7 +3,8 @@
 ghost use Rattle.std.specs.Prelude.{◌≡◌};
 
 use crate::reading::{filter, read_shared};
-use event_store::{AllEvents, Blank, Desk, EventList, Naming, Placed, Reader, open_store};
+use event_list::EventList;
+use event_store::{AllEvents, Blank, Desk, Naming, Placed, Reader, open_store};
 use nostr_event::Event;
 use nostr_filter::{Bytes32List, Filter};
 use std::alloc::Global;

@@ -7,7 +7,8 @@ use Rattle.std.specs.declared.sync.Arc.{Arc}
 use denote.RawPtr.{null_ptr}
 use Rattle.neg_codec.specs.declared.Id.{Id}
 use Rattle.neg_codec.specs.declared.Item.{Item}
-use Rattle.event_store.specs.Events.{matching, Pinned}
+use Rattle.event_table.specs.Events.{matching}
+use Rattle.event_store.specs.Events.{Pinned}
 use Rattle.event_store.specs.declared.desk.InsertFault.TheVariants.{Full, Memory}
 use Rattle.nostr_event.specs.EventView.{EventView}
 use Rattle.nostr_filter.specs.declared.filter.Filter.{Filter}

@@ -10,7 +10,8 @@ use Rattle.item_roll.specs.Parts.{IsRoll}
 use Rattle.neg_responder.specs.Reply.{Replies, Refuses}
 use Rattle.nostr_event.specs.EventView.{EventView, item_of}
 use Rattle.nostr_filter.specs.declared.filter.Filter.{Filter}
-use Rattle.event_store.specs.Events.{matching, Pinned}
+use Rattle.event_table.specs.Events.{matching}
+use Rattle.event_store.specs.Events.{Pinned}
 use Rattle.relay_core.specs.declared.limits.RelayLimits.{RelayLimits}
 use Rattle.relay_core.specs.declared.sessions.Session.{Session}
 use Rattle.relay_core.specs.Messages.{answered, ended}

@@ -8,7 +8,7 @@ use Rattle.neg_session.specs.Most.{AreMost}
 use Rattle.neg_session.specs.declared.limits.SessionLimits.{SessionLimits}
 use Rattle.nostr_event.specs.EventView.{EventView, item_of}
 use Rattle.mirror_settings.specs.declared.settings.Settings.{Settings}
-use Rattle.event_store.specs.Events.{matching}
+use Rattle.event_table.specs.Events.{matching}
 use Rattle.sharing.specs.Bases.{base_of}
 use Rattle.offer_table.specs.Table.{Table}
 use Rattle.fetch_plan.specs.Plan.{Planned, IsPlanOf}

@@ -3,7 +3,7 @@ use Rattle.std.proofs.Common.{◌≡◌, ℕ, List, [], ◌∷◌, ◌++◌, map
 use Rattle.std.specs.Prelude.{option_map, OnOk, Result, Ok, Err}
 use Rattle.std.specs.Arc.{arc_value}
 use mathlib.Core.List.{IsPrefix}
-use Rattle.event_store.proofs.Prefixes.{prefix_self, prefix_trans}
+use Rattle.event_list.proofs.Prefixes.{prefix_self, prefix_trans}
 use Rattle.event_store.specs.declared.desk.InsertFault.TheVariants.{Full, Memory}
 use Rattle.neg_codec.specs.declared.Id.{Id}
 use Rattle.nostr_event.specs.EventView.{EventView}

@@ -3,7 +3,7 @@ use Rattle.std.proofs.Common.{◌≡◌, ℕ, List, [], ◌∷◌, ◌++◌, map
 use Rattle.std.proofs.lemmas.List.{map-append}
 use Rattle.std.specs.Prelude.{OnErr}
 use mathlib.Core.List.{IsPrefix}
-use Rattle.event_store.proofs.Prefixes.{prefix_trans}
+use Rattle.event_list.proofs.Prefixes.{prefix_trans}
 use Rattle.nostr_wire.specs.declared.messages.FromRelay.{FromRelay}
 use Rattle.nostr_wire.specs.Forms.{relay_form}
 use Rattle.ws_serve.specs.Frames.{spoken, spoken_one}

@@ -3,7 +3,7 @@ use Rattle.std.proofs.Common.{◌≡◌, ◌≢◌, ℕ, Bool, true, false, List
 use Rattle.std.specs.Prelude.{codes, option_map, IfSome}
 use Rattle.std.specs.Arc.{arc_value}
 use mathlib.Core.List.{IsPrefix}
-use Rattle.event_store.proofs.Prefixes.{prefix_self, prefix_trans}
+use Rattle.event_list.proofs.Prefixes.{prefix_self, prefix_trans}
 use Rattle.nostr_event.specs.EventView.{EventView}
 use Rattle.nostr_wire.specs.Forms.{Form, relay_form}
 use Rattle.relay_core.specs.declared.limits.RelayLimits.{RelayLimits}

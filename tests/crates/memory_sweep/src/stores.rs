@@ -4,8 +4,9 @@ ghost use Rattle.std.specs.Prelude.{◌≡◌};
 
 use crate::events::{event, event_id, filter};
 use crate::said::Said;
+use event_list::EventList;
 use event_store::{
-    Blank, Desk, EventList, InsertFault, Naming, PinFault, Placed, Reader, StoreFault, open_small,
+    Blank, Desk, InsertFault, Naming, PinFault, Placed, Reader, StoreFault, open_small,
     open_store,
 };
 use std::alloc::Global;

@@ -2,11 +2,12 @@
 ghost use Rattle.std.specs.Prelude.{◌≡◌, true, IfSome};
 ghost use Rattle.std.specs.Arc.{arc_value};
 ghost use mathlib.Core.List.{IsPrefix};
-ghost use Rattle.event_store.specs.Events.{has_id};
+ghost use Rattle.event_table.specs.Events.{has_id};
 
 use super::events::event;
+use event_list::EventList;
 use event_store::{
-    AllEvents, Blank, Desk, EventList, InsertFault, Naming, Placed, Reader, Snapshot, StoreFault,
+    AllEvents, Blank, Desk, InsertFault, Naming, Placed, Reader, Snapshot, StoreFault,
     open_small, open_store,
 };
 use nostr_event::Event;

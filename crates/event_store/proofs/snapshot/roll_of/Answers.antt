@@ -1,7 +1,7 @@
 use Rattle.std.proofs.Common.{ap, ◌∙◌, ◌++◌, ◌∷◌, []}
 use Rattle.std.specs.Arc.{arc_value}
 use Rattle.nostr_event.specs.EventView.{item_of}
-use Rattle.event_store.proofs.Picked.{items_more}
+use Rattle.event_table.proofs.Matched.{items_more}
 use Rattle.event_store.proofs.snapshot.roll_of.Goals as goal
 
 pub loop-place-preserved : goal.loop-place-preserved

@@ -2,7 +2,7 @@ use Rattle.std.proofs.Common.{ap, refl, ◌∙◌}
 use Rattle.std.proofs.lemmas.Result.{on_err_weaker}
 use Rattle.std.specs.Prelude.{option_map}
 use Rattle.std.specs.Arc.{arc_value}
-use Rattle.event_store.proofs.Prefixes.{prefix_self}
+use Rattle.event_list.proofs.Prefixes.{prefix_self}
 use Rattle.ws_serve.proofs.Answering.{answers_quiet, answers_stored_if}
 use Rattle.ws_serve.proofs.Beginning.{fails}
 use Rattle.ws_serve.proofs.Going.{serving_served, step_begun, step_told}

@@ -1,5 +1,5 @@
 use Rattle.std.proofs.Common.{map, rules, refl}
-use Rattle.event_store.proofs.Prefixes.{prefix_self, prefix_trans}
+use Rattle.event_list.proofs.Prefixes.{prefix_self, prefix_trans}
 use Rattle.nostr_wire.specs.Forms.{relay_form}
 use Rattle.relay_core.specs.Due.{CatchesUp}
 use Rattle.relay_core.specs.Faults.{GoesOnBy}

@@ -1,7 +1,7 @@
 use Rattle.std.proofs.Common.{◌∙◌, map}
 use Rattle.std.specs.Arc.{arc_value}
 use Rattle.std.specs.Vec.Iter.{into_iter_items}
-use Rattle.event_store.proofs.Prefixes.{prefix_trans}
+use Rattle.event_list.proofs.Prefixes.{prefix_trans}
 use Rattle.ws_serve.specs.declared.together.Stored.{Stored}
 use Rattle.ws_serve.specs.Gathered.{ids_of}
 use Rattle.ws_serve.proofs.Beginning.{fails}

@@ -1,7 +1,7 @@
 use Rattle.std.proofs.Common.{[], ◌∷◌, ◌∙◌, ap, arith, inl, inr, refl, rules, string_bytes}
 use Rattle.std.specs.Prelude.{option_map}
 use Rattle.std.specs.Arc.{arc_value}
-use Rattle.event_store.proofs.Prefixes.{prefix_trans}
+use Rattle.event_list.proofs.Prefixes.{prefix_trans}
 use Rattle.ws_serve.specs.Pieces.{words}
 use Rattle.ws_serve.specs.Served.{put_back}
 use Rattle.ws_serve.proofs.Beginning.{fails}

@@ -1,8 +1,8 @@
-use Rattle.std.proofs.Common.{◌≡◌, ◌∷◌, ◌++◌, [], ℕ, suc, List, length, Option, Some, None, ap, sym, refl, rules, ◌∙◌, arith}
+use Rattle.std.proofs.Common.{◌≡◌, ◌∷◌, ◌++◌, [], ℕ, suc, length, Option, Some, None, ap, sym, refl, rules, ◌∙◌, arith}
 use Rattle.std.specs.Prelude.{IfSome, option_map}
 use Rattle.std.proofs.lemmas.List.{length-append}
 use Rattle.std.specs.Arc.{arc_value}
-use Rattle.event_store.proofs.Picked.{took_more}
+use Rattle.event_list.proofs.Chunked.{took_more}
 use Rattle.event_store.proofs.blank.Front.add_from.Goals as goal
 
 -- how many were added, where so many were

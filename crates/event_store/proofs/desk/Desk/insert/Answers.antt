@@ -1,5 +1,5 @@
 use Rattle.std.proofs.Common.{ap, ◌∙◌}
-use Rattle.event_store.proofs.Ids.{has_last}
+use Rattle.event_table.proofs.Ids.{has_last}
 use Rattle.event_store.proofs.desk.Desk.insert.Goals as goal
 
 pub new-requires-in-Ok : goal.new-requires-in-Ok

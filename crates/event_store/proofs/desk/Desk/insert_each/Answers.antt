@@ -1,9 +1,10 @@
 use Rattle.std.proofs.Common.{◌≡◌, ◌<◌, ◌∙◌, Bool, sym, ap, subst, length, map, take, get_or, rules, arith}
 use Rattle.std.proofs.lemmas.List.{length-take, take_all}
 use Rattle.std.specs.Arc.{arc_value}
-use Rattle.event_store.specs.Events.{has_id, freshness, placings, with_events}
-use Rattle.event_store.specs.Faults.{EndsRightly}
-use Rattle.event_store.proofs.More.{longer_begins, shown_at, taken_at, each_there, placed_more}
+use Rattle.event_table.specs.Events.{has_id, freshness, with_events, EndsRightly}
+use Rattle.event_store.specs.Events.{placings}
+use Rattle.event_table.proofs.More.{longer_begins, shown_at}
+use Rattle.event_store.proofs.More.{taken_at, each_there, placed_more}
 use Rattle.event_store.proofs.desk.Desk.insert_each.Goals as goal
 
 pub show-requires-clause-begins : goal.show-requires-clause-begins

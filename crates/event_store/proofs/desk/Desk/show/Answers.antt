@@ -1,4 +1,4 @@
-use Rattle.std.proofs.Common.{rules, ◌≡◌, ◌∙◌, ℕ, List, length, Option, Some, None, ap, sym, subst}
+use Rattle.std.proofs.Common.{rules, ◌≡◌, ℕ, List, length, Option, Some, None, ap, sym, subst}
 use Rattle.std.specs.Prelude.{option_map}
 use Rattle.nostr_event.specs.EventView.{EventView}
 use Rattle.event_store.specs.History.{IsLevel}

@@ -1,6 +1,6 @@
 use Rattle.std.proofs.Common.{sym, ◌∙◌}
 use Rattle.std.specs.Arc.{arc_value}
-use Rattle.event_store.proofs.Picked.{all_match}
+use Rattle.event_table.proofs.Matched.{all_match}
 use Rattle.event_store.proofs.snapshot.Snapshot.of.Goals as goal
 
 pub returns-then-leaves_none_out-clause-events : goal.returns-then-leaves_none_out-clause-events

@@ -1,6 +1,6 @@
 use Rattle.std.proofs.Common.{ap, sym, ◌∙◌, length, arith}
 use Rattle.std.specs.Arc.{arc_value}
-use Rattle.event_store.proofs.Picked.{all_match}
+use Rattle.event_table.proofs.Matched.{all_match}
 use Rattle.event_store.proofs.snapshot.Snapshot.of_few.Goals as goal
 
 pub returns-then-len-most-clause-many : goal.returns-then-len-most-clause-many

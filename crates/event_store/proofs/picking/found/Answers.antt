@@ -1,6 +1,0 @@
-use Rattle.event_store.proofs.Picked.{found_more}
-use Rattle.event_store.proofs.picking.found.Goals as goal
-
-pub loop-id-preserved : goal.loop-id-preserved
-loop-id-preserved c =
-    found_more c.args.state.now c.args.ids.now c.loop-id.id-index _ c.place.result c.loop-id.places.items c.put_place.new.places.items c.loop-id-test.true c.place.ensures c.loop-id.invariant c.in_ok-put_place.ensures

@@ -1,0 +1,9 @@
+pub mod More
+pub mod Ids
+pub mod Indexed
+pub mod Matched
+pub mod Asked
+pub mod Stands
+pub mod Rolled
+pub mod Ranked
+pub mod Crossing
