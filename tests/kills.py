@@ -27,6 +27,9 @@ from wire import Client, Gone
 
 KILLS = (signal.SIGKILL, signal.SIGTERM, signal.SIGINT)
 
+# A shell's background jobs ignore SIGINT, and so would the relays that they start.
+signal.signal(signal.SIGINT, signal.default_int_handler)
+
 
 def puts_in(port, name, number, counts, told):
     """Puts events in, as many at once as one of the counts says, and adds the ids that were acknowledged to `told`."""
