@@ -92,26 +92,28 @@ fn is_id_of(alloc: Global, id: &Id, draft: &Draft) -> Result<bool, AllocError>
     )
 }
 
-// The event of these parts, if the id is the draft's.
-pub fn checked(
-    alloc: Global,
-    id: Id,
-    draft: Draft,
-    sig: [u8; 64],
-) -> Result<Option<Event>, AllocError>
-    requires { IsInRange (record { id = id; draft = draft; sig = sig }) }
-    ensures made { IfOk result (λ o. IfSome o (λ e. (e ≡ record { id = id; draft = draft; sig = sig }) × IsIdOf id draft)) }
-    ensures refused { IfOk result (λ o. o ≡ None → ¬ IsIdOf id draft) }
-{
-    if is_id_of(alloc, &id, &draft)? {
-        let text = text_of(alloc, &id, &draft, &sig)?;
-        Ok(Some(Event {
-            id,
-            draft,
-            sig,
-            text,
-        }))
-    } else {
-        Ok(None)
+impl Event {
+    /// The event of these parts, if the id is the draft's.
+    pub fn from_parts(
+        alloc: Global,
+        id: Id,
+        draft: Draft,
+        sig: [u8; 64],
+    ) -> Result<Option<Event>, AllocError>
+        requires { IsInRange (record { id = id; draft = draft; sig = sig }) }
+        ensures made { IfOk result (λ o. IfSome o (λ e. (e ≡ record { id = id; draft = draft; sig = sig }) × IsIdOf id draft)) }
+        ensures refused { IfOk result (λ o. o ≡ None → ¬ IsIdOf id draft) }
+    {
+        if is_id_of(alloc, &id, &draft)? {
+            let text = text_of(alloc, &id, &draft, &sig)?;
+            Ok(Some(Event {
+                id,
+                draft,
+                sig,
+                text,
+            }))
+        } else {
+            Ok(None)
+        }
     }
 }

@@ -19,6 +19,6 @@ mod writing;
 pub use draft::{Draft, Spelling};
 pub use event::Event;
 pub use fault::{EventFault, EventField};
-pub use hexes::bytes32_of;
+pub use hexes::{bytes32_of, bytes64_of};
 pub use ids::{id_of, id_text};
 pub use texts::{Tag, Tags, Text};

@@ -5,7 +5,7 @@ ghost use Rattle.nostr_event.specs.EventView.{EventView};
 ghost use Rattle.nostr_event.specs.EventJson.{HasBare, HasFields, Passes, Reads, Refuses};
 
 use crate::draft::Draft;
-use crate::event::{Event, checked};
+use crate::event::Event;
 use crate::fault::{EventFault, EventField};
 use crate::fields::{below, shapes_of, take_tags};
 use crate::hexes::{hex32_at, hex64_at};
@@ -90,7 +90,7 @@ fn read_event(alloc: Global, value: &mut Value) -> Result<Event, EventFault>
     ensures err { IfErr result (λ f. Refuses (view value.old) f) }
 {
     let Parts { id, draft, sig } = parts_of(alloc, value)?;
-    match checked(alloc, id, draft, sig)? {
+    match Event::from_parts(alloc, id, draft, sig)? {
         Some(event) => Ok(event),
         None => Err(EventFault::WrongId),
     }
