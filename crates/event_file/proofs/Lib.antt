@@ -1,4 +1,5 @@
 pub mod Written
 pub mod Told
+pub mod WrongIds
 pub mod Compared
 pub mod Behind

@@ -9,6 +9,7 @@ ghost use Rattle.event_file.specs.declared.fault.LineFault.TheVariants.{Wrong as
 
 use crate::fault::{FileFault, LineFault};
 use event_store::{Desk, Naming};
+use event_text::event_of_bytes;
 use mirror_run::cut_line;
 use nostr_event::{Event, EventFault};
 use serde_json::Value;
@@ -19,8 +20,8 @@ use std::sync::{Arc, Wait};
 // most of them where the events come in no order.
 const BATCH: usize = 2048;
 
-/// The event of a line.
-fn event_of(alloc: Global, line: &[u8]) -> Result<Arc<Event>, LineFault>
+/// The event of a line that is read as a value first.
+fn event_of_value(alloc: Global, line: &[u8]) -> Result<Arc<Event>, LineFault>
     ensures event { IfOk result (λ e. IsEventOf line.now (arc_value e)) }
     ensures none { result ≡ Err wrong → (e : EventView) → ¬ IsEventOf line.now e }
 {
@@ -33,6 +34,18 @@ fn event_of(alloc: Global, line: &[u8]) -> Result<Arc<Event>, LineFault>
         Ok(event) => Ok(Arc::new(alloc, event)?),
         Err(EventFault::Memory) => Err(LineFault::Memory),
         Err(_) => Err(LineFault::Wrong),
+    }
+}
+
+/// The event of a line.
+fn event_of(alloc: Global, line: &[u8]) -> Result<Arc<Event>, LineFault>
+    ensures event { IfOk result (λ e. IsEventOf line.now (arc_value e)) }
+    ensures none { result ≡ Err wrong → (e : EventView) → ¬ IsEventOf line.now e }
+{
+    match event_of_bytes(alloc, line) {
+        Some(Ok(event)) => Ok(Arc::new(alloc, event)?),
+        Some(Err(_)) => Err(LineFault::Wrong),
+        None => event_of_value(alloc, line),
     }
 }
 

@@ -1,5 +1,7 @@
 pub mod Arrays
+pub mod Carried
 pub mod Few
+pub mod Grown
 pub mod Laws
 pub mod Plain
 pub mod Requests
@@ -7,4 +9,3 @@ pub mod Several
 pub mod Stands
 pub mod Streams
 pub mod Texts
-pub mod Turns

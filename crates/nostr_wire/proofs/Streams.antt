@@ -8,17 +8,17 @@ use Rattle.serde_json.specs.Data.{Data, array, item}
 use Rattle.serde_json.specs.Read.{of_json, of_items, converted, read}
 use Rattle.serde_json.specs.View.{items_of}
 use Rattle.nostr_wire.specs.Stream.{Gives, GivesNone}
-use Rattle.nostr_wire.proofs.Turns.{converted-array, item_read, item_refused, items_over, whole_read, whole_and_more, whole_refused}
+use Rattle.event_text.proofs.Texts.{end_gives as end_gives_at, one_gives as one_gives_at}
+use Rattle.event_text.proofs.Turns.{converted-array, item_read, item_refused, whole_read, whole_and_more, whole_refused}
 
 -- an array's end gives no element
 pub end_gives : (ts r : List Token) → after_end_array ts ≡ Some r → Gives ts [] r
-end_gives ts r over n enough = items_over (value 126) n ts r enough over
+end_gives ts r over = end_gives_at 126 ts r over
 
 -- an element, and those behind it
 pub one_gives : (ts r : List Token) (d : Data) → after_end_array ts ≡ None → converted of_json (value 126 ts) ≡ Some (d, r) → length r < length ts
     → (ds : List Data) (rest : List Token) → Gives r ds rest → Gives ts (d ∷ ds) rest
-one_gives ts r d going found less ds rest more n enough =
-    item_read (value 126) n ts r d (omega (arith, less, enough)) going found ∙ ap (parse_map (item d)) (more (n - 1) (omega (arith, less, enough)))
+one_gives ts r d going found less ds rest more = one_gives_at 126 ts r d going found less ds rest more
 
 pub one_gives_none : (ts r : List Token) (d : Data) → after_end_array ts ≡ None → converted of_json (value 126 ts) ≡ Some (d, r) → length r < length ts → GivesNone r → GivesNone ts
 one_gives_none ts r d going found less none n enough =

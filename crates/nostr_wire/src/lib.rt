@@ -4,6 +4,7 @@
 #![tactic(auto)]
 
 mod elements;
+mod events;
 mod fault;
 mod lists;
 mod messages;

@@ -10,6 +10,7 @@ ghost use Rattle.nostr_filter.specs.declared.filter.Filter.{Filter as Kept};
 ghost use Rattle.nostr_wire.specs.Reading.{kept_filters, keeps_more, with_filter, IsHeard, Hears, name_in, behind_name, AreRead, IsMessage, Reads, AreRefused, IsRefused, Refuses};
 
 use crate::elements::{Element, filter_of, sub_of};
+use crate::events::{given, published};
 use crate::fault::WireFault;
 use crate::lists::{Filters, Sub};
 use crate::messages::{FromClient, FromRelay};
@@ -254,6 +255,9 @@ fn client_text(alloc: Global, text: &str, most: Option<usize>) -> Result<FromCli
     ensures ok { IfOk result (λ m. Hears most text.now m) }
     ensures err { IfErr result (λ f. Refuses client_table text.now f) }
 {
+    if let Some(event) = published(alloc, text) {
+        return event;
+    }
     let mut value = value_of(alloc, text)?;
     let message = client_of(alloc, &mut value, most)?;
     Ok(message)
@@ -263,6 +267,9 @@ fn relay_text(alloc: Global, text: &str) -> Result<FromRelay, WireFault>
     ensures ok { IfOk result (λ m. Reads relay_table text.now (relay_form m)) }
     ensures err { IfErr result (λ f. Refuses relay_table text.now f) }
 {
+    if let Some(event) = given(alloc, text) {
+        return event;
+    }
     let mut value = value_of(alloc, text)?;
     let message = relay_of(alloc, &mut value)?;
     Ok(message)

@@ -24,7 +24,7 @@ use serde_json::Value;
 use std::alloc::{AllocError, Global};
 
 // So deep an element of an array nests.
-const MOST_DEPTH: usize = 126;
+pub const MOST_DEPTH: usize = 126;
 
 /// What elements come to that are to be filters.
 #[derive(Drop)]
@@ -104,7 +104,7 @@ fn named(
 }
 
 // Whether an array begins.
-fn begins_array(reader: &mut Reader<'_>) -> bool
+pub fn begins_array(reader: &mut Reader<'_>) -> bool
     ensures { result ≡ true → reader.old ≡ begin_array ∷ reader.new }
 {
     match reader.next() {

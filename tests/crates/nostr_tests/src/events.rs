@@ -2,6 +2,7 @@
 mod vectors;
 
 use super::events::vectors::{VECTORS, Vector};
+use event_text::event_of_bytes;
 use neg_codec::{Id, Item};
 use nostr_event::{
     Draft, Event, EventFault, EventField, Spelling, Tag, Tags, Text, bytes32_of, id_of, id_text,
@@ -178,14 +179,27 @@ fn parsed(alloc: Global, text: &str) -> Result<Value, Fail> {
     Ok(Value::from_str(alloc, text).ok().ok_or("no JSON")?)
 }
 
+// The event of the text's value, which is that of its tokens where these tell one.
 fn read(alloc: Global, text: &str) -> Result<Event, Fail> {
     let value = parsed(alloc, text)?;
-    Ok(Event::from_json(alloc, &value).ok().ok_or("no event")?)
+    let event = Event::from_json(alloc, &value).ok().ok_or("no event")?;
+    match event_of_bytes(alloc, text.as_bytes()) {
+        Some(Ok(other)) if other.text() == event.text() => Ok(event),
+        None => Ok(event),
+        _ => Err(Fail::new("its tokens tell another event")),
+    }
 }
 
+// The fault of the text's value; its tokens tell of a wrong id at most.
 fn fault_of(alloc: Global, text: &str) -> Result<Option<EventFault>, Fail> {
     let value = parsed(alloc, text)?;
-    Ok(Event::from_json(alloc, &value).err())
+    let fault = Event::from_json(alloc, &value).err();
+    match event_of_bytes(alloc, text.as_bytes()) {
+        Some(Ok(_)) if fault.is_none() => Ok(fault),
+        Some(Err(_)) if fault == Some(EventFault::WrongId) => Ok(fault),
+        None => Ok(fault),
+        _ => Err(Fail::new("its tokens tell something else")),
+    }
 }
 
 // The text of what is written of the event, which is the text that it keeps.
@@ -291,6 +305,27 @@ fn events_from_outside(rt: HostRuntime) -> Result<(), Fail> {
         let is_same = is_written(alloc, vector)?;
         assert!(rt; is_good && is_same);
     }
+    Ok(())
+}
+
+#[test]
+fn events_of_tokens(rt: HostRuntime) -> Result<(), Fail> {
+    let alloc = rt.alloc();
+    for vector in &VECTORS {
+        let text = whole(alloc, vector.draft, vector.plain)?;
+        assert!(rt; matches!(event_of_bytes(alloc, text.as_bytes()), Some(Ok(_))));
+    }
+    let twice = CONTROL.replacen(alloc, "\"kind\":1", "\"kind\":2,\"kind\":1", 1)?;
+    assert!(rt; matches!(event_of_bytes(alloc, twice.as_bytes()), Some(Ok(_))));
+    let wrong = CONTROL.replacen(alloc, "\"kind\":1", "\"kind\":2", 1)?;
+    let stated = bytes32_of(CONTROL_PLAIN);
+    assert!(rt; matches!(event_of_bytes(alloc, wrong.as_bytes()), Some(Err(id)) if Some(id.0) == stated));
+    // What has another member, or more behind it, is left to others.
+    let more = CONTROL.replacen(alloc, "{", "{\"x\":1,", 1)?;
+    assert!(rt; event_of_bytes(alloc, more.as_bytes()).is_none());
+    let behind = format!(in alloc; "{CONTROL}1")?;
+    assert!(rt; event_of_bytes(alloc, behind.as_bytes()).is_none());
+    assert!(rt; event_of_bytes(alloc, b"\xff").is_none());
     Ok(())
 }
 

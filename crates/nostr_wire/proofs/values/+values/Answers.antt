@@ -8,7 +8,8 @@ use Rattle.serde_json.specs.Read.{of_json, of_items, of_members, converted}
 use Rattle.serde_json.specs.View.{view, number_view, members_view}
 use Rattle.serde_json.specs.declared.value.Value.{String, Number, Bool, Null, the_lemmas}
 use Rattle.serde_json.proofs.Views.{view-Array, view-Object, members_view-insert_entry}
-use Rattle.nostr_wire.proofs.Turns.{converted-array, converted-object, item_read, item_refused, items_over, member_read, member_refused, key_refused, members_over, items_before, items_before-no_items, one_more_item, none_before}
+use Rattle.event_text.proofs.Turns.{converted-array, converted-object, item_read, item_refused, items_over, member_read, member_refused, key_refused, members_over}
+use Rattle.nostr_wire.proofs.Grown.{items_before, items_before-no_items, one_more_item, none_before}
 use Rattle.nostr_wire.proofs.values.+values.Goals as goal
 
 pub value_in-returns-in_err-token-clause-err : goal.value_in-returns-in_err-token-clause-err

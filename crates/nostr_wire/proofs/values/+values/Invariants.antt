@@ -3,7 +3,7 @@ use Rattle.json.specs.Json.{items, members, value, parse_map}
 use Rattle.serde_json.specs.Data.{no_members}
 use Rattle.serde_json.specs.Read.{of_items, of_members, converted}
 use Rattle.serde_json.specs.View.{members_view}
-use Rattle.nostr_wire.proofs.Turns.{items_before}
+use Rattle.nostr_wire.proofs.Grown.{items_before}
 use Rattle.nostr_wire.proofs.values.+values.Given as goal
 
 abbrev pub decreases-value_in : goal.decreases-value_in

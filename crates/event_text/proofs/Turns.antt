@@ -1,13 +1,11 @@
 -- The loops of JSON's grammar, a turn at a time, with each value as the data that it is read as.
-use Rattle.std.proofs.Common.{◌≡◌, ℕ, zero, suc, ◌-◌, ◌<◌, ◌≤◌, List, [], ◌∷◌, ◌++◌, length, Option, Some, None, option_map, option_and_then, refl, ap, ◌∙◌}
+use Rattle.std.proofs.Common.{◌≡◌, ℕ, zero, suc, ◌-◌, ◌<◌, ◌≤◌, List, [], ◌∷◌, length, Option, Some, None, option_map, option_and_then, refl, ap, ◌∙◌}
 use Rattle.json.specs.Token.{Token}
 use Rattle.json.specs.Json as json
 use Rattle.json.specs.Json.{Parse, parse_map, after_end_array, read_key, items_step, items, members, if_last}
 use Rattle.json.proofs.Grammar.{items_end, items_more, members_end, members_no_key, members_more}
-use Rattle.serde_json.specs.Data.{Data, array, object, Items, no_items, item, Members, no_members, put}
+use Rattle.serde_json.specs.Data.{Data, array, object, no_items, item, Members, no_members, put}
 use Rattle.serde_json.specs.Read.{of_json, of_items, of_members, converted}
-use Rattle.serde_json.specs.View.{view, items_view}
-use Rattle.serde_json.specs.declared.value.Value.{Value}
 
 abbrev pick : {A : Type 0} → A → Option A → A
 pick d None = d
@@ -93,28 +91,6 @@ module _ (p : Parse json.Json) where
 
     pub members_over : (n : ℕ) (ts r : List Token) → length ts ≤ n → read_key ts ≡ Some (None, r) → converted (λ ms. of_members ms old) (members p n ts) ≡ Some (old, r)
     members_over n ts r enough e = ap (converted (λ ms. of_members ms old)) (members_end p n ts r enough e)
-
--- ---- a list that grows at its end
-
-abbrev pub items_before : List Value → Items → Items
-items_before [] rest = rest
-items_before (v ∷ vs) rest = item (view v) (items_before vs rest)
-
-pub items_before-no_items : (vs : List Value) → items_before vs no_items ≡ items_view vs
-items_before-no_items [] = refl
-items_before-no_items (v ∷ vs) = ap (item (view v)) (items_before-no_items vs)
-
-items_push : (vs : List Value) (v : Value) (rest : Items) → items_before vs (item (view v) rest) ≡ items_before (vs ++ v ∷ []) rest
-items_push [] v rest = refl
-items_push (w ∷ vs) v rest = ap (item (view w)) (items_push vs v rest)
-
-pub one_more_item : (vs : List Value) (v : Value) (r : Option (Items × List Token)) → parse_map (items_before vs) (parse_map (item (view v)) r) ≡ parse_map (items_before (vs ++ v ∷ [])) r
-one_more_item vs v None = refl
-one_more_item vs v (Some p) = ap (λ ds. Some (ds, p.1)) (items_push vs v p.0)
-
-pub none_before : (r : Option (Items × List Token)) → r ≡ parse_map (λ a. a) r
-none_before None = refl
-none_before (Some p) = refl
 
 -- ---- the whole text
 
