@@ -1,7 +1,7 @@
 //! Puts the events of a file's lines into a store.
 //!
 //! The lines are read in parts. While the events of some parts are put into the store, those of the next ones are read, each part's
-//! by a thread of its own.
+//! by a thread of its own, and then the text of those behind them.
 
 ghost use Rattle.std.specs.Prelude.{◌≤◌, length};
 ghost use Rattle.std.specs.Thread.{IsSend, IsSync};
@@ -19,9 +19,9 @@ use std::thread::{Threads, available_parallelism, join};
 /// So many parts, at most, are read beside those that are put in: with more, those who read would wait for the one who puts in.
 const MOST_PARTS: usize = 4;
 
-/// A part ends with the line that brings it to a hundredth of the file, or to the first or the second of these numbers of bytes. The
+/// A part ends with the line that brings it to a sixtieth of the file, or to the first or the second of these numbers of bytes. The
 /// events of larger parts are put into the store fewer times, each of which costs a copy of much of its roll.
-const PARTS: u64 = 100;
+const PARTS: u64 = 60;
 
 const LEAST_PART: u64 = 1 << 19;
 
@@ -111,54 +111,72 @@ fn whole_lines(text: &[u8]) -> usize
     len
 }
 
-/// The next part, if there is one. What stands behind the last line feed goes behind the rest.
-fn next_part<B: BufRead>(
-    alloc: Global,
-    lines: &mut B,
-    len: usize,
-    rest: &mut Vec<u8>,
-) -> Result<Option<Part>, Refusal> {
-    let mut text = match Vec::with_capacity(alloc, ROOM) {
-        Ok(text) => text,
-        Err(_) => Vec::new(alloc),
-    };
-    let mut count = read_lines(lines, &mut text, len)?;
-    let whole = whole_lines(text.as_slice());
-    if whole < text.len() {
-        rest.extend_from_slice(&text[whole..])?;
-        text.truncate(whole);
-        count = count.saturating_sub(1);
-    }
-    Ok(if count == 0 {
-        None
-    } else {
-        Some(Part {
-            text,
-            count,
-            ahead: None,
-        })
-    })
-}
-
-/// The next parts, so many or, at the end, fewer.
-fn next_parts<B: BufRead>(
-    alloc: Global,
-    lines: &mut B,
+/// The lines of a file that weren't read yet.
+#[derive(Drop)]
+struct Unread<B> {
+    lines: B,
+    // A part is so long at least, and so many are read at once.
     len: usize,
     many: usize,
-    rest: &mut Vec<u8>,
-) -> Result<Vec<Part>, Refusal> {
-    let mut parts = Vec::with_capacity(alloc, many)?;
-    for _ in 0..many {
-        if !rest.is_empty() {
-            break;
+    // What stands behind the last line feed, once that was come to.
+    rest: Vec<u8>,
+    // Why no more can be read.
+    fault: Option<Refusal>,
+}
+
+impl<B: BufRead> Unread<B> {
+    /// The next part, if there is one.
+    fn next_part(&mut self, alloc: Global) -> Result<Option<Part>, Refusal> {
+        let mut text = match Vec::with_capacity(alloc, ROOM) {
+            Ok(text) => text,
+            Err(_) => Vec::new(alloc),
+        };
+        let mut count = read_lines(&mut self.lines, &mut text, self.len)?;
+        let whole = whole_lines(text.as_slice());
+        if whole < text.len() {
+            self.rest.extend_from_slice(&text[whole..])?;
+            text.truncate(whole);
+            count = count.saturating_sub(1);
         }
-        match next_part(alloc, lines, len, rest)? {
-            Some(part) => parts.push(part)?,
-            None => break,
+        Ok(if count == 0 {
+            None
+        } else {
+            Some(Part {
+                text,
+                count,
+                ahead: None,
+            })
+        })
+    }
+
+    /// The next parts, so many or, at the end, fewer.
+    fn read_parts(&mut self, alloc: Global) -> Result<Vec<Part>, Refusal> {
+        let mut parts = Vec::with_capacity(alloc, self.many)?;
+        for _ in 0..self.many {
+            if !self.rest.is_empty() {
+                break;
+            }
+            match self.next_part(alloc)? {
+                Some(part) => parts.push(part)?,
+                None => break,
+            }
+        }
+        Ok(parts)
+    }
+
+    /// The same; none behind a fault.
+    fn next_parts(&mut self, alloc: Global) -> Vec<Part> {
+        if self.fault.is_some() {
+            return Vec::new(alloc);
+        }
+        match self.read_parts(alloc) {
+            Ok(parts) => parts,
+            Err(refusal) => {
+                self.fault = Some(refusal);
+                Vec::new(alloc)
+            }
         }
     }
-    Ok(parts)
 }
 
 /// How many events are published.
@@ -208,42 +226,27 @@ fn take_parts<J: Naming, D: Wait + Drop, R: Wait>(
     Ok(())
 }
 
-/// Reads the events of parts, and meanwhile does something else.
-fn read_beside<R: Threads + Wait + Sync, G: FnOnce() -> B, B>(
+/// Reads the events of parts, then the text of the parts behind them, and meanwhile does something else.
+fn read_beside<R: Threads + Wait + Sync, B: BufRead + Send, G: FnOnce() -> T, T>(
     rt: &R,
     alloc: Global,
     parts: &mut [Part],
+    unread: &mut Unread<B>,
     meanwhile: G,
-) -> B
+) -> (Vec<Part>, T)
     requires { G.pre meanwhile }
 {
-    let (_, done) = join(
+    join(
         rt,
         ||
-            requires { IsSync R.row }
-        { run_workers(rt, alloc, &Reading, parts) },
+            requires { IsSync R.row × IsSend B.row }
+        {
+            run_workers(rt, alloc, &Reading, parts);
+            unread.next_parts(alloc)
+        },
         ||
             requires { G.pre meanwhile }
         { meanwhile() },
-    );
-    done
-}
-
-/// Puts the events of parts into a store, while those of the next ones are read.
-fn take_beside<J: Naming, D: Wait + Drop, R: Threads + Wait + Sync>(
-    rt: &R,
-    alloc: Global,
-    desk: &mut Desk<J, D>,
-    reader: &mut Reader<J>,
-    found: &mut Found,
-    ready: &[Part],
-    next: &mut [Part],
-) -> Result<(), Refusal> {
-    read_beside(
-        rt,
-        alloc,
-        next,
-        || take_parts(rt, alloc, desk, reader, found, ready),
     )
 }
 
@@ -273,50 +276,52 @@ fn take_end<J: Naming, D: Wait + Drop, R: Wait>(
     take_part(rt, alloc, desk, reader, found, &part)
 }
 
-/// Puts the events of lines into a store. A part is so long at least, so that no more text is held than the parts that are put in and
-/// those that are read meanwhile.
-pub fn fill_from<J: Naming, D: Wait + Drop, R: Threads + Wait + Sync, B: BufRead>(
+/// Puts the events of lines into a store. A part is so long at least, so that no more text is held than the parts that are put in,
+/// those whose events are read meanwhile, and those behind them. What was read before a fault of reading is put in first, so that a
+/// wrong line is told before it.
+pub fn fill_from<J: Naming, D: Wait + Drop, R: Threads + Wait + Sync, B: BufRead + Send + Drop>(
     rt: &R,
     alloc: Global,
     desk: &mut Desk<J, D>,
     reader: &mut Reader<J>,
-    lines: &mut B,
+    lines: B,
     len: usize,
 ) -> Result<Found, Refusal> {
-    let many = parts_at_once(rt);
+    let mut unread = Unread {
+        lines,
+        len,
+        many: parts_at_once(rt),
+        rest: Vec::new(alloc),
+        fault: None,
+    };
     let mut found = Found {
         lines: 0,
         bytes: 0,
         is_plain: true,
         end: End::Nothing,
     };
-    let mut rest = Vec::new(alloc);
     let mut ready = Vec::new(alloc);
+    let mut next = unread.next_parts(alloc);
     for _ in 0..u64::MAX {
-        // What was read before a fault of reading is put in first, so that a wrong line is told before it.
-        let (mut next, fault) = match next_parts(alloc, lines, len, many, &mut rest) {
-            Ok(parts) => (parts, None),
-            Err(refusal) => (Vec::new(alloc), Some(refusal)),
-        };
-        take_beside(
+        let (behind, done) = read_beside(
             rt,
             alloc,
-            desk,
-            reader,
-            &mut found,
-            ready.as_slice(),
             next.as_mut_slice(),
-        )?;
-        if let Some(refusal) = fault {
-            return Err(refusal);
-        }
+            &mut unread,
+            || take_parts(rt, alloc, desk, reader, &mut found, ready.as_slice()),
+        );
+        done?;
         if next.is_empty() {
             break;
         }
         ready = next;
+        next = behind;
     }
-    if !rest.is_empty() {
-        take_end(rt, alloc, desk, reader, &mut found, rest)?;
+    if let Some(refusal) = unread.fault {
+        return Err(refusal);
+    }
+    if !unread.rest.is_empty() {
+        take_end(rt, alloc, desk, reader, &mut found, unread.rest)?;
     }
     Ok(found)
 }

@@ -29,8 +29,8 @@ fn fill<J: Naming, D: Wait + Drop, R: Threads + Wait + Sync + Files<File = File>
         Err(error) => return Err(read_refusal(&error)),
     };
     match BufReader::with_capacity(alloc, READ, file) {
-        Ok(mut lines) => {
-            fill_from(rt, alloc, desk, reader, &mut lines, part_of(0))?;
+        Ok(lines) => {
+            fill_from(rt, alloc, desk, reader, lines, part_of(0))?;
             Ok(())
         }
         Err(error) => Err(read_refusal(&error)),
@@ -47,7 +47,7 @@ fn found_in<J: Naming, D: Wait + Drop, R: Threads + Wait + Sync>(
 ) -> Result<Found, Refusal> {
     let size = file.size().unwrap_or(0);
     match file.reading(alloc, READ) {
-        Ok(mut lines) => fill_from(rt, alloc, desk, reader, &mut lines, part_of(size)),
+        Ok(lines) => fill_from(rt, alloc, desk, reader, lines, part_of(size)),
         Err(error) => Err(read_refusal(&error)),
     }
 }
