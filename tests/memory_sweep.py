@@ -89,8 +89,9 @@ def sweep(copies, pool, name):
     if told(name, status, out, errors) != "ample":
         raise SystemExit("%s: %s" % (name, out))
     ends = in_turn(pool, name, range(1, allocations + 2), lambda at: told(name, *copies.run(words, allocation=at)))
-    if not ends["memory"]:
-        raise SystemExit("%s never answered want of memory" % name)
+    # What tokens of a text are read as is read another way where there was no memory for it.
+    if bool(ends["memory"]) == name.endswith(", tokens"):
+        raise SystemExit("%s answered want of memory %d times" % (name, ends["memory"]))
     if starts:
         in_turn(pool, name + ", starts", range(1, starts + 1), lambda at: told(name, *copies.run(words, start=at)))
 

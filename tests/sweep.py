@@ -70,8 +70,9 @@ def in_turn(pool, name, places, one):
 
 
 def bites(name, ends):
-    """Fails where most refusals left no trace, or none was told as want of memory: then they may not have been made at all."""
-    if not ends["refused: memory"] or ends["ample"] * 2 > sum(ends.values()):
+    """Fails where two refusals of three left no trace, or none was told as want of memory: then they may not have been made at
+    all. An event for whose tokens there was no memory is read in another way, which leaves none."""
+    if not ends["refused: memory"] or ends["ample"] * 3 > sum(ends.values()) * 2:
         raise SystemExit("%s: hardly anything was refused" % name)
 
 

@@ -1,6 +1,6 @@
 //! Connections of a relay.
 
-use crate::events::{GIVEN, SENT, event, event_id, event_text};
+use crate::events::{GIVEN, SENT, event, event_id, event_text, value_text};
 use crate::over::Call;
 use crate::said::Said;
 use crate::stores::publishes;
@@ -93,7 +93,7 @@ fn refused<J: Naming>(
 
 /// The client sends the second event.
 fn gives<J: Naming>(alloc: Global, conn: &mut Conn, reader: &mut Reader<J>) -> Option<Said> {
-    let text = event_text(alloc, GIVEN, 1)?;
+    let text = value_text(alloc, GIVEN, 1)?;
     match conn.serve(reader, text.as_str()) {
         Ok(step) => Said::ample(step.out.is_empty() && event_id(1) == Some(step.store?.id())),
         Err(fault) => refused(alloc, conn, reader, fault, 1),

@@ -23,6 +23,7 @@ pub const NAMES: &[&str] = &[
     "choose",
     "TagOrder::new",
     "read_client EVENT",
+    "read_client EVENT, tokens",
     "read_client REQ",
     "read_client NEG-OPEN",
     "read_client_few",
@@ -30,6 +31,7 @@ pub const NAMES: &[&str] = &[
     "write_client EVENT",
     "write_client NEG-OPEN",
     "read_relay EVENT",
+    "read_relay EVENT, tokens",
     "read_relay OK",
     "read_relay NEG-MSG",
     "write_relay EVENT",
@@ -49,14 +51,16 @@ pub fn said_of(alloc: Global, name: &str) -> Option<Said> {
         "Filter::to_json" => write_filter(alloc),
         "choose" => chosen(alloc),
         "TagOrder::new" => tags_in_order(alloc),
-        "read_client EVENT" => read_as_client(alloc, event_text(alloc, GIVEN, 0)?.as_str()),
+        "read_client EVENT" => read_as_client(alloc, value_text(alloc, GIVEN, 0)?.as_str()),
+        "read_client EVENT, tokens" => read_as_client(alloc, event_text(alloc, GIVEN, 0)?.as_str()),
         "read_client REQ" => read_as_client(alloc, REQUEST),
         "read_client NEG-OPEN" => read_as_client(alloc, NEG_OPEN),
         "read_client_few" => read_few(alloc, REQUEST),
         "read_client_few long" => read_few(alloc, long_request(alloc)?.as_str()),
         "write_client EVENT" => write_as_client(alloc, event_text(alloc, GIVEN, 0)?.as_str()),
         "write_client NEG-OPEN" => write_as_client(alloc, NEG_OPEN),
-        "read_relay EVENT" => read_as_relay(alloc, event_text(alloc, SENT, 0)?.as_str()),
+        "read_relay EVENT" => read_as_relay(alloc, value_text(alloc, SENT, 0)?.as_str()),
+        "read_relay EVENT, tokens" => read_as_relay(alloc, event_text(alloc, SENT, 0)?.as_str()),
         "read_relay OK" => read_as_relay(alloc, OKAY),
         "read_relay NEG-MSG" => read_as_relay(alloc, NEG_MSG),
         "write_relay EVENT" => write_as_relay(alloc, event_text(alloc, SENT, 0)?.as_str()),
@@ -108,6 +112,11 @@ const OKAY: &str =
 /// What is sent of an event in the list, behind these elements.
 pub fn event_text(alloc: Global, front: &str, at: usize) -> Option<String> {
     format!(in alloc; "[{front},{}]", EVENTS.get(at)?).ok()
+}
+
+/// The same behind a space, so that it is read by way of a value. The text of tokens is so read where memory was refused.
+pub fn value_text(alloc: Global, front: &str, at: usize) -> Option<String> {
+    format!(in alloc; " [{front},{}]", EVENTS.get(at)?).ok()
 }
 
 /// The id of the event at a place in the list.
@@ -255,7 +264,7 @@ fn read_few(alloc: Global, text: &str) -> Option<Said> {
 
 fn read_as_client(alloc: Global, text: &str) -> Option<Said> {
     match read_client(alloc, text) {
-        Ok(message) => Said::ample(write_client(alloc, &message).ok()?.as_str() == text),
+        Ok(message) => Said::ample(write_client(alloc, &message).ok()?.as_str() == text.trim_start()),
         Err(WireFault::Memory) => Said::memory(true),
         Err(_) => Said::wrong(),
     }
@@ -271,7 +280,7 @@ fn write_as_client(alloc: Global, text: &str) -> Option<Said> {
 
 fn read_as_relay(alloc: Global, text: &str) -> Option<Said> {
     match read_relay(alloc, text) {
-        Ok(message) => Said::ample(write_relay(alloc, &message).ok()?.as_str() == text),
+        Ok(message) => Said::ample(write_relay(alloc, &message).ok()?.as_str() == text.trim_start()),
         Err(WireFault::Memory) => Said::memory(true),
         Err(_) => Said::wrong(),
     }
