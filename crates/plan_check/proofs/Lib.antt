@@ -4,6 +4,7 @@ pub mod Judged
 pub mod Spans
 pub mod LineLemmas
 pub mod NumberLemmas
+pub mod RelayDigits
 pub mod Runs
 pub mod Digits
 pub mod IdLemmas

@@ -1,6 +1,6 @@
 //! The words of a line: ids and relays.
 
-ghost use Rattle.std.specs.Prelude.{◌≡◌, ◌≢◌, ◌<◌, ◌≤◌, ◌^◌, ◌++◌, ◌∷◌, ℕ, List, All, IfSome, IfNone, IfOk};
+ghost use Rattle.std.specs.Prelude.{◌≡◌, ◌≢◌, ◌<◌, ◌≤◌, ◌^◌, ◌+◌, ◌++◌, ◌∷◌, ℕ, List, All, IfSome, IfNone, IfOk, decimal, drop, length, slice_index};
 ghost use Rattle.hex.specs.Hex.{encode_lower};
 ghost use Rattle.neg_codec.specs.declared.Id.{Id as AnId};
 ghost use Rattle.neg_codec.specs.Keys.{IsId};
@@ -75,20 +75,75 @@ fn cut_number(text: &[u8]) -> Option<(u64, &[u8])>
     Some((number, rest))
 }
 
+/// The value of the digit at a place, and 10 or more where none stands there.
+#[inline(always)]
+fn digit_at(text: &[u8], place: usize) -> u8
+    ensures digit { result < 10 → slice_index text.now place ≡ 48 + result }
+    ensures within { result < 10 → place < length text.now }
+    ensures other { 10 ≤ result → (d : ℕ) → d < 10 → slice_index text.now place ≢ 48 + d }
+{
+    if place < text.len() {
+        text[place].wrapping_sub(b'0')
+    } else {
+        10
+    }
+}
+
+/// The relay that a text begins with, up to this place, and the text after it. None is answered where it is none, or more
+/// belongs to the word.
+#[inline(always)]
+fn cut_at(text: &[u8], place: usize, relay: u16) -> Option<(u16, &[u8])>
+    requires { place ≤ length text.now }
+    ensures found { text.now ≡ decimal relay ++ drop place text.now → IfSome result (λ cut. text.now ≡ decimal cut.0 ++ cut.1.now) }
+    ensures small { IfSome result (λ cut. cut.0 < RELAYS) }
+    ensures rest { IfSome result (λ cut. IsNextWord cut.1.now) }
+    ensures none { IfNone result (relay < RELAYS → ¬ IsNextWord (drop place text.now)) }
+{
+    let (_, rest) = text.split_at(place);
+    if relay < RELAYS && (rest.is_empty() || rest[0] == b' ') {
+        Some((relay, rest))
+    } else {
+        None
+    }
+}
+
+/// The relay at the front, in decimal without leading zeros, and the text after it. A relay has three digits at most.
+#[inline(always)]
+fn cut_digits(text: &[u8]) -> Option<(u16, &[u8])>
+    ensures found { IfSome result (λ cut. text.now ≡ decimal cut.0 ++ cut.1.now) }
+    ensures small { IfSome result (λ cut. cut.0 < RELAYS) }
+    ensures rest { IfSome result (λ cut. IsNextWord cut.1.now) }
+    ensures none { IfNone result ((r : ℕ) (rest : List ℕ) → r < RELAYS → IsNextWord rest → text.now ≢ decimal r ++ rest) }
+{
+    let first = digit_at(text, 0);
+    if first > 9 {
+        return None;
+    }
+    let second = digit_at(text, 1);
+    if second > 9 {
+        return cut_at(text, 1, u16::from(first));
+    }
+    if first == 0 {
+        return None;
+    }
+    let front = 10 * u16::from(first) + u16::from(second);
+    let third = digit_at(text, 2);
+    if third > 9 {
+        return cut_at(text, 2, front);
+    }
+    cut_at(text, 3, 10 * front + u16::from(third))
+}
+
 /// The relay behind the space at the front, and the text after it. None is answered where no number of a relay stands
 /// there.
+#[inline(always)]
 pub fn cut_relay(text: &[u8]) -> Option<(u16, &[u8])>
     ensures found { IfSome result (λ cut. text.now ≡ number_text cut.0 ++ cut.1.now) }
     ensures small { IfSome result (λ cut. cut.0 < RELAYS) }
     ensures rest { IfSome result (λ cut. IsNextWord cut.1.now) }
     ensures none { IfNone result ((r : ℕ) (rest : List ℕ) → r < RELAYS → IsNextWord rest → text.now ≢ number_text r ++ rest) }
 {
-    let (number, rest) = cut_number(text)?;
-    if number < u64::from(RELAYS) {
-        Some((number as u16, rest))
-    } else {
-        None
-    }
+    cut_digits(skip_space(text)?)
 }
 
 /// The load behind the space at the front that a relay may begin with, and the text after it.
