@@ -1,11 +1,11 @@
 -- Lines of one kind, one after another.
-use Rattle.std.proofs.Common.{◌≡◌, ℕ, ◌+◌, ◌<◌, ◌&&◌, Bool, true, false, cond, List, [], ◌∷◌, ◌++◌, length, map, Option, Some, None, refl, sym, ap, ◌∙◌, subst, arith, append_assoc, length-append, inl, inr}
+use Rattle.std.proofs.Common.{◌≡◌, ℕ, ◌+◌, ◌-◌, ◌<◌, ◌==◌, ◌&&◌, Bool, true, false, cond, List, [], ◌∷◌, ◌++◌, length, map, take, get_or, nat_lt, Option, Some, None, refl, sym, ap, ◌∙◌, subst, arith, append_assoc, length-append, inl, inr}
 use Rattle.std.specs.Option.{IfSome}
 use Rattle.std.specs.declared.cmp.Ordering.{Ordering}
-use Rattle.std.specs.Ordering.{nat_cmp}
+use Rattle.std.specs.Ordering.{nat_cmp, is_lt}
 use Rattle.std.specs.List.{All}
 use Rattle.std.proofs.lemmas.Bool.{cases_Bool}
-use Rattle.std.proofs.lemmas.List.{map-append}
+use Rattle.std.proofs.lemmas.List.{map-append, take_more}
 use Rattle.std.proofs.lemmas.List.Elements.{All-nil, All-push}
 use Rattle.plan_check.specs.Lines.{first_out, is_behind, or_else, rises, rises_from}
 use Rattle.plan_check.specs.TextLines.{ended, FirstIsNot}
@@ -99,3 +99,19 @@ rises_push before (q ∷ qs) r = ap (λ b. is_behind nat_cmp before q && b) (ris
 pub last_number : (before : Option ℕ) (rs : List ℕ) (r : ℕ) → last_from (λ x. x) before (rs ++ r ∷ []) ≡ Some r
 last_number before [] r = refl
 last_number before (q ∷ qs) r = last_number (Some q) qs r
+
+less : (a b : ℕ) → is_lt (nat_cmp a b) ≡ nat_lt a b
+less a b = elim (cases_Bool (nat_lt a b)) [
+  | inl t ↦ rw t refl
+  | inr f ↦ rw f (elim (cases_Bool (a == b)) [ inl t ↦ rw t refl | inr f ↦ rw f refl ])
+]
+
+-- one number more, behind the one at the place before
+pub rises_more : (rs : List ℕ) (i : ℕ) → 0 < i → i < length rs → rises (take (i + 1) rs) ≡ (rises (take i rs) && nat_lt (get_or rs (i - 1) 0) (get_or rs i 0))
+rises_more rs i some lt =
+    let r : ℕ = get_or rs i 0 in
+    let b : ℕ = get_or rs (i - 1) 0 in
+    let same : i - 1 + 1 ≡ i = omega arith in
+    let front : take i rs ≡ take (i - 1) rs ++ b ∷ [] = ap (λ n. take n rs) (sym same) ∙ take_more rs (i - 1) 0 (omega arith) in
+    let last : last_from (λ (x : ℕ). x) None (take i rs) ≡ Some b = ap (last_from (λ (x : ℕ). x) None) front ∙ last_number None (take (i - 1) rs) b in
+    ap rises (take_more rs i 0 lt) ∙ rises_push None (take i rs) r ∙ ap (λ k. rises (take i rs) && is_behind nat_cmp k r) last ∙ ap (λ t. rises (take i rs) && t) (less b r)

@@ -36,18 +36,15 @@ pub(crate) fn are_all_relays(relays: &[u16]) -> bool
     relays.iter().all(|relay| *relay < RELAYS)
 }
 
-/// Whether each of these is above the one before.
+/// Whether each of these is above the one before. All are looked at before an answer, so that this becomes vector code.
 pub(crate) fn do_rise(relays: &[u16]) -> bool
     ensures { result ≡ rises relays.now }
 {
-    let mut before = None;
-    for relay in relays {
-        if !comes_next(before, *relay) {
-            return false;
-        }
-        before = Some(*relay);
+    let mut rise = true;
+    for place in 1..relays.len() {
+        rise &= relays[place - 1] < relays[place];
     }
-    true
+    rise
 }
 
 /// Whether this is a relay and a load that it may begin with.
