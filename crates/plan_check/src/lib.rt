@@ -18,7 +18,7 @@ pub use faults::PlanFault;
 pub use file::PlanFile;
 pub use laws::{one_answer, one_fault, one_file, round_trip};
 pub use lines::{LONGEST_LINE, set_give, set_group};
-pub use reading::{read_head, read_plan};
+pub use reading::{parse_plan, read_head, read_plan};
 pub use records::cut_offer;
 pub use scanning::{is_tail, scan_plan};
 pub use text_lines::cut_line;

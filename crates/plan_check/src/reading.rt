@@ -1,6 +1,6 @@
 //! Plan files that are read from their texts.
 
-ghost use Rattle.std.specs.Prelude.{◌≡◌, ◌≢◌, ◌<◌, ◌++◌, ◌∷◌, [], ◌⊎◌, ℕ, List, map, All, IfOk, IfErr, IfSome, IfNone, Ok, Err};
+ghost use Rattle.std.specs.Prelude.{◌≡◌, ◌≢◌, ◌<◌, ◌++◌, ◌∷◌, [], ◌⊎◌, ℕ, List, map, All, IfOk, IfErr, IfSome, IfNone, Ok, Err, IsUtf8};
 ghost use Rattle.sharing.specs.declared.TheConstants.{RELAYS};
 ghost use Rattle.plan_check.specs.declared.faults.PlanFault.{PlanFault as AFault};
 ghost use Rattle.plan_check.specs.declared.faults.PlanFault.TheVariants.{Memory as memory};
@@ -11,7 +11,7 @@ ghost use Rattle.plan_check.specs.PlanParts.{IsBaseLine};
 ghost use Rattle.plan_check.specs.PlanReading.{IsTextFault, IsReadFault};
 
 use crate::records::{parse_base, parse_give, parse_group, parse_offer};
-use crate::scanning::{scan_plan, skip_line};
+use crate::scanning::{scan, skip_line};
 use crate::text_lines::cut_line;
 use crate::{PlanFault, PlanFile};
 use neg_codec::Id;
@@ -159,10 +159,21 @@ pub fn read_plan(alloc: Global, text: &str) -> Result<PlanFile, PlanFault>
     ensures exact { (file : File) → IsTextOf text.now file → (result ≡ Ok file) ⊎ (result ≡ Err memory) }
     ensures refused { (fault : AFault) → IsTextFault text.now fault → result ≡ Err fault }
 {
-    if let Ok(Some(file)) = file_of(alloc, text.as_bytes()) {
+    parse_plan(alloc, text.as_bytes())
+}
+
+/// The same as [`read_plan`] of bytes that need not be UTF-8. Those of a plan text are.
+pub fn parse_plan(alloc: Global, text: &[u8]) -> Result<PlanFile, PlanFault>
+    ensures ok { IfOk result (IsTextOf text.now) }
+    ensures utf8 { IfOk result (λ _. IsUtf8 text.now) }
+    ensures err { IfErr result (IsReadFault text.now) }
+    ensures exact { (file : File) → IsTextOf text.now file → (result ≡ Ok file) ⊎ (result ≡ Err memory) }
+    ensures refused { (fault : AFault) → IsTextFault text.now fault → result ≡ Err fault }
+{
+    if let Ok(Some(file)) = file_of(alloc, text) {
         return Ok(file);
     }
-    match scan_plan(text) {
+    match scan(text) {
         Ok(_) => Err(PlanFault::Memory),
         Err(fault) => Err(fault),
     }

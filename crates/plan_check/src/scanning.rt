@@ -163,7 +163,7 @@ pub fn is_tail(text: &[u8]) -> bool
 }
 
 /// The number of the offers of a plan text, or why the text is none.
-fn scan(text: &[u8]) -> Result<usize, PlanFault>
+pub(crate) fn scan(text: &[u8]) -> Result<usize, PlanFault>
     ensures ok { IfOk result (λ n. (file : File) × IsTextOf text.now file × (length file.offers ≡ n)) }
     ensures err { IfErr result (IsTextFault text.now) }
 {
