@@ -36,7 +36,7 @@ fn limited(bytes: Vec<u8>) -> Result<Vec<u8>, Refusal>
 }
 
 /// The bytes that the reader gives.
-pub(crate) fn read_all<R: Read>(alloc: Global, reader: &mut R) -> Result<Vec<u8>, Refusal>
+pub fn read_all<R: Read>(alloc: Global, reader: &mut R) -> Result<Vec<u8>, Refusal>
     ensures ok { IfOk result (λ v. IfSome (R.remaining reader.old) (λ input. v.items ≡ input)) }
     ensures short { IfOk result (λ v. length v.items ≤ 67108864) }
     ensures err { IfErr result (λ e. IfSome (R.remaining reader.old) (λ input. IsTextRefusal input e)) }

@@ -1,15 +1,16 @@
 //! The job `check`.
 
-ghost use Rattle.std.specs.Prelude.{◌≡◌, ◌≢◌, IfOk, IfErr, OnOk, IfSome, string_bytes};
+ghost use Rattle.std.specs.Prelude.{◌≡◌, ◌≢◌, ◌≤◌, length, IfOk, IfErr, OnOk, IfSome, string_bytes};
 ghost use Rattle.std.specs.Io.KnownBytes.{Keeps};
 ghost use Rattle.sharing.specs.Bases.{base_in};
 ghost use Rattle.sharing.specs.Sharing.{NoneSmaller};
 ghost use Rattle.plan_run.specs.Planned.{Passes, IsRefusedAs};
 ghost use Rattle.plan_run.specs.Jobs.{ChecksAs, IsLeastWritten, IsUnchecked, IsCheckRefusal, least_text};
 
+use crate::texts::text_of;
 use crate::writing::write_text;
-use mirror_run::{LineFault, Refusal, read_input};
-use plan_check::{PlanFault, PlanFile, check, read_plan};
+use mirror_run::{LineFault, Refusal, read_all};
+use plan_check::{PlanFault, PlanFile, check, parse_plan};
 use std::alloc::{AllocError, Global};
 use std::io::{Read, Write};
 
@@ -30,6 +31,24 @@ fn load_of(file: &PlanFile) -> Result<u64, u8>
     }
 }
 
+/// The same as [`least_of`] of bytes, UTF-8 or not.
+fn least_in(alloc: Global, text: &[u8]) -> Result<u64, Refusal>
+    ensures ok { IfOk result (ChecksAs text.now) }
+    ensures err { IfErr result (IsUnchecked text.now) }
+{
+    let file = match parse_plan(alloc, text) {
+        Ok(file) => file,
+        Err(PlanFault::Line(n)) => return Err(Refusal::Line(n, LineFault::Form)),
+        Err(PlanFault::Order(n)) => return Err(Refusal::Line(n, LineFault::Order)),
+        Err(PlanFault::Memory) => return Err(Refusal::Memory),
+        Err(_) => unreachable!(),
+    };
+    match load_of(&file) {
+        Ok(most) => Ok(most),
+        Err(number) => Err(Refusal::Plan(number)),
+    }
+}
+
 /// The busiest load of a plan text's gives, where they are a sharing of its offers and its group shows that none has
 /// less.
 ///
@@ -40,16 +59,21 @@ pub fn least_of(alloc: Global, text: &str) -> Result<u64, Refusal>
     ensures ok { IfOk result (ChecksAs text.now) }
     ensures err { IfErr result (IsUnchecked text.now) }
 {
-    let file = match read_plan(alloc, text) {
-        Ok(file) => file,
-        Err(PlanFault::Line(n)) => return Err(Refusal::Line(n, LineFault::Form)),
-        Err(PlanFault::Order(n)) => return Err(Refusal::Line(n, LineFault::Order)),
-        Err(PlanFault::Memory) => return Err(Refusal::Memory),
-        Err(_) => unreachable!(),
-    };
-    match load_of(&file) {
+    least_in(alloc, text.as_bytes())
+}
+
+/// The same as [`least_of`] of an input.
+fn least_of_input(alloc: Global, bytes: &[u8]) -> Result<u64, Refusal>
+    requires { length bytes.now ≤ 67108864 }
+    ensures ok { IfOk result (ChecksAs bytes.now) }
+    ensures err { IfErr result (IsCheckRefusal bytes.now) }
+{
+    match least_in(alloc, bytes) {
         Ok(most) => Ok(most),
-        Err(number) => Err(Refusal::Plan(number)),
+        Err(refusal) => {
+            text_of(bytes)?;
+            Err(refusal)
+        }
     }
 }
 
@@ -77,8 +101,8 @@ pub fn run_check<R: Read, W: Write>(
     ensures err { IfErr result (λ e. IfSome (R.remaining reader.old) (λ input. IsCheckRefusal input e)) }
     ensures unwritten { IfErr result (λ e. e ≢ Refusal.Write → Keeps (W.contents writer.old) (W.contents writer.new)) }
 {
-    let text = read_input(alloc, reader)?;
-    let most = least_of(alloc, text.as_str())?;
+    let bytes = read_all(alloc, reader)?;
+    let most = least_of_input(alloc, &bytes)?;
     let line = line_of(alloc, most)?;
     write_text(writer, line.as_str())
 }

@@ -7,6 +7,7 @@ mod members;
 mod offers;
 mod planning;
 mod printing;
+mod texts;
 mod writing;
 
 pub use checking::{least_of, run_check};

@@ -103,13 +103,13 @@ fn take_offers(alloc: Global, text: &[u8]) -> Result<(Vec<(Id, RelaySet)>, &[u8]
     Ok((offers, rest))
 }
 
-/// The bases and the offers of a plan text. None where the text is no plan text.
-pub(crate) fn read_front(alloc: Global, text: &str) -> Result<Option<Front>, AllocError>
+/// The bases and the offers of a plan text. None where the bytes are no plan text.
+pub(crate) fn read_front(alloc: Global, text: &[u8]) -> Result<Option<Front>, AllocError>
     ensures front { IfOk result (λ o. IfSome o (λ f. IsFront text.now (base_of f.bases) f.offers.items f.end)) }
     ensures bases { IfOk result (λ o. IfSome o (λ f. AreBases f.bases)) }
     ensures offers { IfOk result (λ o. IfSome o (λ f. IsOffers f.offers.items)) }
 {
-    let Some((pairs, rest)) = read_head(alloc, text.as_bytes())? else {
+    let Some((pairs, rest)) = read_head(alloc, text)? else {
         return Ok(None);
     };
     let Some(bases) = bases_of(&pairs) else {

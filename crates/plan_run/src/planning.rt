@@ -1,23 +1,24 @@
 //! The job `plan`.
 
-ghost use Rattle.std.specs.Prelude.{◌≡◌, ◌≢◌, IfOk, IfErr, OnOk, IfSome};
+ghost use Rattle.std.specs.Prelude.{◌≡◌, ◌≢◌, ◌≤◌, length, IfOk, IfErr, OnOk, IfSome};
 ghost use Rattle.std.specs.Io.KnownBytes.{Keeps};
 ghost use Rattle.plan_run.specs.Fronts.{IsPlannedText};
 ghost use Rattle.plan_run.specs.Jobs.{IsPlanWritten, IsUnplanned, IsPlanRefusal};
 
 use crate::offers::read_front;
 use crate::printing::write_plan;
+use crate::texts::text_of;
 use fetch_plan::{Plan, plan};
-use mirror_run::{LineFault, Refusal, read_input};
+use mirror_run::{LineFault, Refusal, read_all};
 use offer_table::OfferTable;
 use plan_check::{PlanFault, scan_plan};
 use sharing::MOST_IDS;
 use std::alloc::{AllocError, Global};
 use std::io::{Read, Write};
 
-/// Where the lines of a plan text's offers end, and a least plan of them. None where the text is no plan text, or has
-/// more offers than a table takes.
-fn made_of(alloc: Global, text: &str) -> Result<Option<(usize, Plan)>, AllocError>
+/// Where the lines of a plan text's offers end, and a least plan of them. None where the bytes are no plan text, or
+/// have more offers than a table takes.
+fn made_of(alloc: Global, text: &[u8]) -> Result<Option<(usize, Plan)>, AllocError>
     ensures { IfOk result (λ o. IfSome o (λ r. IsPlannedText text.now r.0 r.1)) }
 {
     let Some(front) = read_front(alloc, text)? else {
@@ -51,9 +52,21 @@ pub fn plan_of(alloc: Global, text: &str) -> Result<(usize, Plan), Refusal>
     ensures ok { IfOk result (λ r. IsPlannedText text.now r.0 r.1) }
     ensures err { IfErr result (IsUnplanned text.now) }
 {
-    match made_of(alloc, text) {
+    match made_of(alloc, text.as_bytes()) {
         Ok(Some(made)) => Ok(made),
         _ => Err(refusal_of(text)),
+    }
+}
+
+/// The same as [`plan_of`] of an input.
+fn plan_of_input(alloc: Global, bytes: &[u8]) -> Result<(usize, Plan), Refusal>
+    requires { length bytes.now ≤ 67108864 }
+    ensures ok { IfOk result (λ r. IsPlannedText bytes.now r.0 r.1) }
+    ensures err { IfErr result (IsPlanRefusal bytes.now) }
+{
+    match made_of(alloc, bytes) {
+        Ok(Some(made)) => Ok(made),
+        _ => Err(refusal_of(text_of(bytes)?)),
     }
 }
 
@@ -74,7 +87,7 @@ pub fn run_plan<R: Read, W: Write>(
     ensures err { IfErr result (λ e. IfSome (R.remaining reader.old) (λ input. IsPlanRefusal input e)) }
     ensures unwritten { IfErr result (λ e. e ≢ Refusal.Write → Keeps (W.contents writer.old) (W.contents writer.new)) }
 {
-    let text = read_input(alloc, reader)?;
-    let (end, made) = plan_of(alloc, text.as_str())?;
-    write_plan(alloc, writer, &text.as_bytes()[..end], &made)
+    let bytes = read_all(alloc, reader)?;
+    let (end, made) = plan_of_input(alloc, &bytes)?;
+    write_plan(alloc, writer, &bytes[..end], &made)
 }
