@@ -135,7 +135,7 @@ fn cut_digits(text: &[u8]) -> Option<(u16, &[u8])>
 }
 
 /// The relay behind the space at the front, and the text after it. None is answered where no number of a relay stands
-/// there.
+/// there. It is put into each caller: an answer by way of memory would take as long as the digits.
 #[inline(always)]
 pub fn cut_relay(text: &[u8]) -> Option<(u16, &[u8])>
     ensures found { IfSome result (λ cut. text.now ≡ number_text cut.0 ++ cut.1.now) }
