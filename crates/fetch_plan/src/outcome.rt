@@ -8,7 +8,6 @@ ghost use Rattle.fetch_plan.specs.Plan.{IsPlan, planned_load};
 use neg_codec::Id;
 use offer_table::{Bases, RelaySet};
 use sharing::{RELAYS, SLOTS};
-use std::cmp::Ordering;
 use std::marker::Model;
 
 /// Which relay each offered id is given to, what the relays' loads begin with, the greatest load, and a group of
@@ -55,18 +54,10 @@ impl Plan {
     pub fn relay_of(&self, id: &Id) -> Option<u16>
         ensures { result ≡ beside self.now.gives id.now }
     {
-        let mut low = 0;
-        let mut high = self.gives.len();
-        while low < high {
-            let middle = low + (high - low) / 2;
-            let give = &self.gives[middle];
-            match id.cmp(&give.0) {
-                Ordering::Less => high = middle,
-                Ordering::Equal => return Some(give.1),
-                Ordering::Greater => low = middle + 1,
-            }
+        match self.gives.binary_search_by_key(id, |give| give.0) {
+            Ok(place) => Some(self.gives[place].1),
+            Err(_) => None,
         }
-        None
     }
 
     /// A relay's load: what it begins with, and one more for each id that it is given.

@@ -1,7 +1,11 @@
 -- A search among pairs whose ids are in order.
-use Rattle.std.proofs.Common.{◌≡◌, ℕ, ◌+◌, ◌<◌, ◌≤◌, cond, false, List, [], ◌∷◌, length, map, get_or, Some, None, refl, sym, ap, ◌∙◌, arith, inl, inr, suc}
+use Rattle.std.proofs.Common.{◌≡◌, ℕ, ◌+◌, ◌<◌, ◌≤◌, cond, false, List, [], ◌∷◌, length, map, get_or, Result, Ok, Err, Some, None, refl, sym, ap, ◌∙◌, arith, inl, inr, suc}
+use Rattle.std.specs.Prelude.{MatchResult}
+use Rattle.std.specs.declared.cmp.Ordering.{Ordering}
 use Rattle.std.specs.declared.cmp.Ordering.TheVariants.{Less, Equal, Greater}
-use Rattle.std.specs.Ordering.{is_eq, ordering_reverse}
+use Rattle.std.specs.Ordering.{is_eq, is_lt, ordering_reverse, ordering_index}
+use Rattle.std.specs.List.Sorted.{IsSearchInRange, IsBinarySearchResult, IsNonDecreasingBy}
+use Rattle.std.proofs.lemmas.List.Sorted.{searchable_from_sorted}
 use Rattle.std.proofs.lemmas.Bool.{cases_lt, cases_eq}
 use Rattle.std.proofs.lemmas.List.{get_or-map, length-map}
 use Rattle.std.proofs.lemmas.Map.Keys.{Less-from_sorted}
@@ -75,3 +79,28 @@ module _ {X : Type 0} where
         | inl below ↦ ap is_eq (id_total.antisymm id (get_or pairs k (record { 0 = [] }, none)).0 ∙ ap ordering_reverse (h.below k below))
         | inr above ↦ ap is_eq (h.above k (omega arith) lt)
       ])
+
+  -- what a binary search of the ids finds
+  module _ (none : X) (pairs : List (Id × X)) (ordered : Ascend (map (λ g. g.0) pairs)) (id : Id) where
+    flipped : (a b : Id) (u v : Ordering) → id_cmp a b ≡ u → ordering_reverse u ≡ v → id_cmp b a ≡ v
+    flipped a b u v h e = id_total.antisymm b a ∙ ap ordering_reverse h ∙ e
+
+    rises : IsNonDecreasingBy (λ g. ordering_index (id_cmp g.0 id)) pairs
+    rises =
+        searchable_from_sorted id_total (λ (g : Id × X). g.0) pairs id (λ k d low high.
+        let e : Id = record { 0 = [] } in
+        let at : (i : ℕ) → i < length pairs → get_or (map (λ g. g.0) pairs) i e ≡ (get_or pairs i d).0 = λ i f. get_or-map (λ (g : Id × X). g.0) pairs i d e f in
+        let less : id_cmp (get_or (map (λ g. g.0) pairs) k e) (get_or (map (λ g. g.0) pairs) (k + 1) e) ≡ Less = Less-from_sorted id_cmp (map (λ g. g.0) pairs) k (k + 1) e ordered (omega arith) (omega (arith, length-map pairs (λ (g : Id × X). g.0))) in
+        ap is_lt (flipped (get_or pairs k d).0 (get_or pairs (k + 1) d).0 Less Greater (sym (ap (λ i. id_cmp i (get_or pairs (k + 1) d).0) (at k (omega arith))) ∙ sym (ap (id_cmp (get_or (map (λ g. g.0) pairs) k e)) (at (k + 1) high)) ∙ less) refl))
+
+    pub looked : (r : Result ℕ ℕ) → IsSearchInRange r (length pairs) → IsBinarySearchResult (λ g. id_cmp g.0 id) pairs r → MatchResult r (λ i. (d : Id × X) → beside pairs id ≡ Some (get_or pairs i d).1) (λ i. beside pairs id ≡ None)
+    looked (Ok i) within same = λ d. ap (beside pairs) (sym (same_id (get_or pairs i d).0 id (ap is_eq (same d)))) ∙ found_itself pairs ordered i d within
+    looked (Err i) within parted =
+        let parts = parted rises in
+        let d : Id × X = (record { 0 = [] }, none) in
+        not_found none pairs id i i (record {
+          within = within;
+          apart = omega arith;
+          below = λ k lt. parts.0 k d (omega arith) lt;
+          above = λ k le lt. flipped (get_or pairs k d).0 id Greater Less (parts.1 k d le lt) refl;
+        }) (omega arith)

@@ -1,43 +1,35 @@
-use Rattle.std.proofs.Common.{◌≡◌, ◌<◌, ◌+◌, ◌-◌, ◌/◌, ℕ, List, [], Some, length, get_or, sym, ap, ◌∙◌, arith}
+use Rattle.std.proofs.Common.{◌≡◌, ℕ, List, Result, Some, None, get_or, map, rules, sym, ap, ◌∙◌, subst}
+use Rattle.std.specs.Prelude.{MatchResult}
+use Rattle.std.proofs.lemmas.List.Sorted.{answers_always}
 use Rattle.neg_codec.specs.declared.Id.{Id}
-use Rattle.sharing.specs.Offers.{id_cmp, beside}
-use Rattle.sharing.proofs.Searched.{between_all, go_down, go_up, found_at, not_found}
-use Rattle.fetch_plan.proofs.Readers.{get_or_any}
+use Rattle.sharing.specs.Offers.{Ascend, beside}
+use Rattle.sharing.proofs.Searched.{looked}
 use Rattle.fetch_plan.proofs.outcome.Plan.relay_of.Goals as goal
 
--- a give that was read
-read : (gives : List (Id × ℕ)) (k : ℕ) (g : Id × ℕ) → k < length gives → g ≡ get_or gives k g → get_or gives k (record { 0 = [] }, 0) ≡ g
-read gives k g lt e = get_or_any gives k (record { 0 = [] }, 0) g lt ∙ sym e
+Found : List (Id × ℕ) → Id → Result ℕ ℕ → Type 0
+Found gives id r = MatchResult r (λ i. (d : Id × ℕ) → beside gives id ≡ Some (get_or gives i d).1) (λ i. beside gives id ≡ None)
 
-pub loop-low-init : goal.loop-low-init
-loop-low-init c = between_all 0 c.self.inside.gives.items c.args.id.now _ (omega (arith, c.len-high.ensures))
+abbrev id_of : Id × ℕ → Id
+id_of g = g.0
 
-pub loop-low-preserved-in-Less : goal.loop-low-preserved-in-Less
-loop-low-preserved-in-Less c =
-    let middle : ℕ = c.loop-low.low + (c.loop-low.high - c.loop-low.low) / 2 in
-    let gives = c.self.inside.gives.items in
-    let to : middle < c.loop-low.high = omega (arith, c.loop-low-test.true) in
-    let lt : middle < length gives = omega (arith, c.loop-low.invariant.within) in
-    go_down 0 gives c.args.id.now c.loop-low.low c.loop-low.high middle c.loop-low.invariant c.self.invariant.0.ascend (omega arith) to
-    (ap (λ (g : Id × ℕ). id_cmp c.args.id.now g.0) (read gives middle c.index-give.result.now lt c.index-give.ensures) ∙ sym c.cmp.ensures ∙ c.in-Less.is)
+pub returns-in-Ok : goal.returns-in-Ok
+unfolding Found
+returns-in-Ok c =
+    let e = c.binary_search_by_key.ensures in
+    let gives = c.deref.result.now in
+    let ascend : Ascend (map (λ g. g.0) gives) = subst (λ (gs : List (Id × ℕ)). Ascend (map (λ g. g.0) gs)) (sym c.deref.ensures.value) c.self.invariant.0.ascend in
+    let all : Found gives c.args.id.now c.binary_search_by_key.result = looked {X = ℕ} 0 gives ascend c.args.id.now c.binary_search_by_key.result e.bound (e.position id_of (answers_always _ _ _ (λ f a r g called. search rules))) in
+    let one = subst (Found gives c.args.id.now) c.in-Ok.is all in
+    let give = c.index.result.now in
+    ap (λ (g : Id × ℕ). Some g.1) c.index.ensures ∙ ap (λ (gs : List (Id × ℕ)). Some (get_or gs c.in-Ok.place give).1) (sym c.deref.ensures.value) ∙ sym (one give)
+    ∙ ap (λ gs. beside gs c.args.id.now) c.deref.ensures.value ∙ ap (λ p. beside p.gives c.args.id.now) c.self.view_is
 
-pub loop-low-preserved : goal.loop-low-preserved
-loop-low-preserved c =
-    let middle : ℕ = c.loop-low.low + (c.loop-low.high - c.loop-low.low) / 2 in
-    let gives = c.self.inside.gives.items in
-    let to : middle < c.loop-low.high = omega (arith, c.loop-low-test.true) in
-    let lt : middle < length gives = omega (arith, c.loop-low.invariant.within) in
-    go_up 0 gives c.args.id.now c.loop-low.low c.loop-low.high middle c.loop-low.invariant c.self.invariant.0.ascend (omega arith) to
-    (ap (λ (g : Id × ℕ). id_cmp c.args.id.now g.0) (read gives middle c.index-give.result.now lt c.index-give.ensures) ∙ sym c.cmp.ensures ∙ c.in-Greater.is)
-
-pub returns-in-Equal : goal.returns-in-Equal
-returns-in-Equal c =
-    let middle : ℕ = c.loop-low.low + (c.loop-low.high - c.loop-low.low) / 2 in
-    let gives = c.self.inside.gives.items in
-    let lt : middle < length gives = omega (arith, c.loop-low-test.true, c.loop-low.invariant.within) in
-    let same = read gives middle c.index-give.result.now lt c.index-give.ensures in
-    sym (found_at 0 gives c.args.id.now middle c.self.invariant.0.ascend lt (ap (λ (g : Id × ℕ). id_cmp c.args.id.now g.0) same ∙ sym c.cmp.ensures ∙ c.in-Equal.is) ∙ ap (λ (g : Id × ℕ). Some g.1) same)
-    ∙ ap (λ p. beside p.gives c.args.id.now) c.self.view_is
-
-pub returns : goal.returns
-returns c = sym (not_found 0 c.self.inside.gives.items c.args.id.now c.loop-low.low c.loop-low.high c.loop-low.invariant c.loop-low-test.false) ∙ ap (λ p. beside p.gives c.args.id.now) c.self.view_is
+pub returns-in-Err : goal.returns-in-Err
+unfolding Found
+returns-in-Err c =
+    let e = c.binary_search_by_key.ensures in
+    let gives = c.deref.result.now in
+    let ascend : Ascend (map (λ g. g.0) gives) = subst (λ (gs : List (Id × ℕ)). Ascend (map (λ g. g.0) gs)) (sym c.deref.ensures.value) c.self.invariant.0.ascend in
+    let all : Found gives c.args.id.now c.binary_search_by_key.result = looked {X = ℕ} 0 gives ascend c.args.id.now c.binary_search_by_key.result e.bound (e.position id_of (answers_always _ _ _ (λ f a r g called. search rules))) in
+    let none = subst (Found gives c.args.id.now) c.in-Err.is all in
+    sym none ∙ ap (λ gs. beside gs c.args.id.now) c.deref.ensures.value ∙ ap (λ p. beside p.gives c.args.id.now) c.self.view_is
