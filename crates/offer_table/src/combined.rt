@@ -1,6 +1,6 @@
 //! The offers of two lists, walked side by side.
 
-ghost use Rattle.std.specs.Prelude.{◌≡◌, ◌≤◌, ◌+◌, ◌∷◌, ℕ, List, [], length, map, nat_lt, OnOk, IfOk, MatchOption};
+ghost use Rattle.std.specs.Prelude.{◌≡◌, ◌≤◌, ◌+◌, ◌∷◌, ℕ, [], length, map, nat_lt, OnOk, IfOk, MatchOption};
 ghost use Rattle.neg_codec.specs.declared.Id.{Id};
 ghost use Rattle.sharing.specs.declared.TheConstants.{MOST_IDS};
 ghost use Rattle.sharing.specs.Sharing.{is_among};

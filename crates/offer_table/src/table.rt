@@ -1,6 +1,6 @@
 //! Tables of offers.
 
-ghost use Rattle.std.specs.Prelude.{◌≡◌, ◌≤◌, ◌+◌, ◌<◌, ◌==◌, ◌||◌, ◌&&◌, not, ℕ, List, [], ◌∷◌, length, map, Some, Err, slice_get, OnOk, IfOk, OnErr, IfErr, MatchOption, IsOkUnless};
+ghost use Rattle.std.specs.Prelude.{◌≡◌, ◌≤◌, ◌+◌, ◌<◌, ◌==◌, ◌||◌, ◌&&◌, not, ℕ, [], ◌∷◌, length, map, Some, Err, slice_get, OnOk, IfOk, OnErr, IfErr, MatchOption, IsOkUnless};
 ghost use Rattle.std.specs.List.{list_any};
 ghost use Rattle.std.specs.Map.Iter.{deref, ShowsInOrder};
 ghost use Rattle.neg_codec.specs.declared.Id.{Id};
