@@ -1,5 +1,5 @@
 -- From settled takers to the promises on offers.
-use Rattle.std.proofs.Common.{◌≡◌, ℕ, ◌+◌, ◌<◌, ◌≤◌, ◌==◌, Bool, true, cond, List, [], ◌∷◌, length, get_or, map, refl, sym, ap, ◌∙◌, subst, arith, inl, inr, ◌⊎◌, Some, zero, suc}
+use Rattle.std.proofs.Common.{◌≡◌, ℕ, ◌+◌, ◌<◌, ◌≤◌, ◌==◌, Bool, true, cond, List, [], ◌∷◌, length, get_or, map, refl, sym, ap, ◌∙◌, subst, arith, inl, inr, ◌⊎◌, suc}
 use Rattle.sharing.specs.declared.TheConstants.{RELAYS, MOST_IDS}
 use Rattle.std.specs.Prelude.{count_by}
 use Rattle.std.specs.List.{All}
@@ -9,11 +9,11 @@ use Rattle.std.proofs.lemmas.List.Sums.{sum_by-cons}
 use Rattle.std.proofs.lemmas.List.Elements.{All-head, All-tail}
 use Rattle.neg_codec.specs.declared.Id.{Id}
 use Rattle.sharing.specs.Bases.{base_of, AreBases}
-use Rattle.sharing.specs.Sharing.{is_among, taken, load, IsSharing, IsGreatest, Shows}
+use Rattle.sharing.specs.Sharing.{is_among, load, IsSharing, IsGreatest}
 use Rattle.sharing.specs.Offers.{Ascend, AreRelays, relay_in}
 use Rattle.sharing.specs.Reached.{KeepsTo, IsLeast}
 use Rattle.sharing.proofs.Counting.{shows_from_closed}
-use Rattle.sharing.proofs.Looks.{gives_agree, taken_by_gives, load_by_gives}
+use Rattle.sharing.proofs.Looks.{gives_agree, load_by_gives}
 use Rattle.sharing.proofs.Orders.{distinct_sorted}
 use Rattle.fetch_plan.specs.Plan.{Planned, IsPlan, IsPlanOf, planned_load}
 use Rattle.fetch_plan.specs.Takers.{at, offered, held, AreOffered, no_offer}

@@ -9,7 +9,8 @@ use Rattle.sharing.specs.Sharing.{is_among}
 use Rattle.sharing.specs.Offers.{AreRelays}
 use Rattle.neg_codec.specs.declared.Id.{Id}
 use Rattle.fetch_plan.specs.Takers.{at, offered}
-use Rattle.fetch_plan.specs.Chains.{set_at, LeadsBelow, IsBeyond, PassesOn, Begins, IsWay, AreReached, IsClosed, IsSettled}
+use Rattle.fetch_plan.specs.declared.search.Search.{Search}
+use Rattle.fetch_plan.specs.Chains.{set_at, LeadsBelow, IsBeyond, Begins, IsWay, AreReached, IsClosed, IsSettled}
 use Rattle.fetch_plan.proofs.Readers.{set_here, set_there, one_more, small_in}
 
 -- of no ids
@@ -43,67 +44,69 @@ beyond_more offers takers n beyond now h lt member =
     }
 
 -- a relay more, beyond one that was reached in an earlier turn
-module _ (beyond : List (List ℕ)) (loads : List ℕ) (most : ℕ) (reached now froms turns : List ℕ) (turn relay other : ℕ) (fits : other < length froms) (fits' : other < length turns)
-    (known : is_among reached relay ≡ true) (new : is_among reached other ≡ false) (earlier : at turns relay < turn) (leads : is_among (set_at beyond relay) other ≡ true)
-    (member : (r : ℕ) → is_among now r ≡ ((r == other) || is_among reached r)) where
-  abbrev pub froms_after : List ℕ
-  froms_after = set froms other relay
+module _ (beyond : List (List ℕ)) (loads : List ℕ) (most : ℕ) (search : Search) (now : List ℕ) (relay other : ℕ) (fits : other < length search.froms) (fits' : other < length search.turns)
+    (known : is_among search.reached relay ≡ true) (new : is_among search.reached other ≡ false) (earlier : at search.turns relay < search.turn) (leads : is_among (set_at beyond relay) other ≡ true)
+    (member : (r : ℕ) → is_among now r ≡ ((r == other) || is_among search.reached r)) where
+  abbrev pub after : Search
+  after = record { reached = now; froms = set search.froms other relay; turns = set search.turns other search.turn; turn = search.turn }
 
-  abbrev pub turns_after : List ℕ
-  turns_after = set turns other turn
+  pub stays : (r : ℕ) → is_among search.reached r ≡ true → is_among now r ≡ true
+  stays r m = member r ∙ or_right (r == other) (is_among search.reached r) m
 
-  pub stays : (r : ℕ) → is_among reached r ≡ true → is_among now r ≡ true
-  stays r m = member r ∙ or_right (r == other) (is_among reached r) m
+  pub apart : (r : ℕ) → is_among search.reached r ≡ true → r ≢ other
+  apart r m e = false≢true (sym new ∙ ap (is_among search.reached) (sym e) ∙ m)
 
-  pub apart : (r : ℕ) → is_among reached r ≡ true → r ≢ other
-  apart r m e = false≢true (sym new ∙ ap (is_among reached) (sym e) ∙ m)
+  pub turn_kept : (r : ℕ) → is_among search.reached r ≡ true → at after.turns r ≡ at search.turns r
+  turn_kept r m = get_or-set_other search.turns other r search.turn 0 (apart r m)
 
-  pub turn_kept : (r : ℕ) → is_among reached r ≡ true → at turns_after r ≡ at turns r
-  turn_kept r m = get_or-set_other turns other r turn 0 (apart r m)
-
-  way_kept : (r : ℕ) → is_among reached r ≡ true → IsWay beyond reached froms turns r → IsWay beyond now froms_after turns_after r
+  way_kept : (r : ℕ) → is_among search.reached r ≡ true → IsWay beyond search r → IsWay beyond after r
   way_kept r m w =
-      let same : at froms_after r ≡ at froms r = get_or-set_other froms other r relay 0 (apart r m) in
+      let same : at after.froms r ≡ at search.froms r = get_or-set_other search.froms other r relay 0 (apart r m) in
       record {
-        known = ap (is_among now) same ∙ stays (at froms r) w.known;
-        earlier = omega (arith, ap (at turns_after) same, turn_kept (at froms r) w.known, turn_kept r m, w.earlier);
+        known = ap (is_among now) same ∙ stays (at search.froms r) w.known;
+        earlier = omega (arith, ap (at after.turns) same, turn_kept (at search.froms r) w.known, turn_kept r m, w.earlier);
         leads = ap (λ k. is_among (set_at beyond k) r) same ∙ w.leads;
       }
 
-  way_new : IsWay beyond now froms_after turns_after other
+  way_new : IsWay beyond after other
   way_new =
-      let same : at froms_after other ≡ relay = get_or-set_same froms other relay 0 fits in
+      let same : at after.froms other ≡ relay = get_or-set_same search.froms other relay 0 fits in
       record {
         known = ap (is_among now) same ∙ stays relay known;
-        earlier = omega (arith, ap (at turns_after) same, turn_kept relay known, get_or-set_same turns other turn 0 fits', earlier);
+        earlier = omega (arith, ap (at after.turns) same, turn_kept relay known, get_or-set_same search.turns other search.turn 0 fits', earlier);
         leads = ap (λ k. is_among (set_at beyond k) other) same ∙ leads;
       }
 
-  pub reach_more : AreRelays now → AreReached beyond loads most reached froms turns turn → AreReached beyond loads most now froms_after turns_after turn
+  pub reach_more : AreRelays now → AreReached beyond loads most search → AreReached beyond loads most after
   reach_more relays h = record {
     relays = relays;
     busiest = λ r lt e. stays r (h.busiest r lt e);
-    ways_ok = one_more reached now other member (λ r. (get_or loads r 0 ≡ most) ⊎ IsWay beyond now froms_after turns_after r) (inr way_new)
-        (λ r m. elim (h.ways_ok r m) [ inl e ↦ inl e | inr w ↦ inr (way_kept r m w) ]);
-    late = one_more reached now other member (λ r. at turns_after r ≤ turn) (omega (arith, get_or-set_same turns other turn 0 fits')) (λ r m. omega (arith, turn_kept r m, h.late r m));
-    least = λ test begin on. one_more reached now other member (λ r. test r ≡ true) (on relay other (h.least test begin on relay known) leads) (h.least test begin on);
+    ways_ok = one_more search.reached now other member (λ r. ((at after.turns r ≡ 0) × (get_or loads r 0 ≡ most)) ⊎ IsWay beyond after r) (inr way_new)
+        (λ r m. elim (h.ways_ok r m) [ inl e ↦ inl (turn_kept r m ∙ e.0, e.1) | inr w ↦ inr (way_kept r m w) ]);
+    late = one_more search.reached now other member (λ r. at after.turns r ≤ search.turn) (omega (arith, get_or-set_same search.turns other search.turn 0 fits')) (λ r m. omega (arith, turn_kept r m, h.late r m));
+    least = λ test begin on. one_more search.reached now other member (λ r. test r ≡ true) (on relay other (h.least test begin on relay known) leads) (h.least test begin on);
   }
 
-pub reach_later : (beyond : List (List ℕ)) (loads : List ℕ) (most : ℕ) (reached froms turns : List ℕ) (turn : ℕ) → AreReached beyond loads most reached froms turns turn → AreReached beyond loads most reached froms turns (turn + 1)
-reach_later beyond loads most reached froms turns turn h = record {
+-- one turn more
+abbrev pub later : Search → Search
+later search = record { reached = search.reached; froms = search.froms; turns = search.turns; turn = search.turn + 1 }
+
+pub reach_later : (beyond : List (List ℕ)) (loads : List ℕ) (most : ℕ) (search : Search) → AreReached beyond loads most search → AreReached beyond loads most (later search)
+reach_later beyond loads most search h = record {
   relays = h.relays;
   busiest = h.busiest;
-  ways_ok = h.ways_ok;
+  ways_ok = λ r m. elim (h.ways_ok r m) [ inl e ↦ inl e | inr w ↦ inr (record { known = w.known; earlier = w.earlier; leads = w.leads }) ];
   late = λ r m. omega (arith, h.late r m);
   least = h.least;
 }
 
 -- what is beyond these relays was tried
-pub record Reaching (beyond : List (List ℕ)) (first froms_first turns_first : List ℕ) (relay turn : ℕ) (others reached froms turns : List ℕ) (other : ℕ) : Type 0 where
-  pub reach : (loads : List ℕ) (most : ℕ) → AreReached beyond loads most first froms_first turns_first turn → AreReached beyond loads most reached froms turns turn
-  pub stay : (r : ℕ) → is_among first r ≡ true → is_among reached r ≡ true
-  pub earlier : at turns relay < turn
-  pub so_far : (s : ℕ) → s < other → is_among others s ≡ true → is_among reached s ≡ true
+pub record Reaching (beyond : List (List ℕ)) (first : Search) (relay : ℕ) (others : List ℕ) (search : Search) (other : ℕ) : Type 0 where
+  pub reach : (loads : List ℕ) (most : ℕ) → AreReached beyond loads most first → AreReached beyond loads most search
+  pub stay : (r : ℕ) → is_among first.reached r ≡ true → is_among search.reached r ≡ true
+  pub counted : search.turn ≡ first.turn
+  pub earlier : at search.turns relay < search.turn
+  pub so_far : (s : ℕ) → s < other → is_among others s ≡ true → is_among search.reached s ≡ true
   pub small : 0 < other → (s : ℕ) → is_among others s ≡ true → s < RELAYS
 
 -- one relay more was tried, and is reached if it is beyond
@@ -114,31 +117,31 @@ below_next others reached other before here s lt m =
       | inr ne ↦ before s (omega arith) m
     ]
 
-module _ (beyond : List (List ℕ)) (first froms_first turns_first : List ℕ) (relay turn : ℕ) (others reached froms turns : List ℕ) (other : ℕ) (h : Reaching beyond first froms_first turns_first relay turn others reached froms turns other)
-    (tiny : (s : ℕ) → is_among others s ≡ true → s < RELAYS) where
-  pub reaching_pass : (is_among others other ≡ true → is_among reached other ≡ true) → Reaching beyond first froms_first turns_first relay turn others reached froms turns (other + 1)
-  reaching_pass here = record { reach = h.reach; stay = h.stay; earlier = h.earlier; so_far = below_next others reached other h.so_far here; small = λ _. tiny }
+module _ (beyond : List (List ℕ)) (first : Search) (relay : ℕ) (others : List ℕ) (search : Search) (other : ℕ) (h : Reaching beyond first relay others search other) (tiny : (s : ℕ) → is_among others s ≡ true → s < RELAYS) where
+  pub reaching_pass : (is_among others other ≡ true → is_among search.reached other ≡ true) → Reaching beyond first relay others search (other + 1)
+  reaching_pass here = record { reach = h.reach; stay = h.stay; counted = h.counted; earlier = h.earlier; so_far = below_next others search.reached other h.so_far here; small = λ _. tiny }
 
-  pub reaching_step : (now : List ℕ) → AreRelays now → other < length froms → other < length turns → is_among first relay ≡ true → others ≡ set_at beyond relay → is_among others other ≡ true → is_among reached other ≡ false →
-      ((r : ℕ) → is_among now r ≡ ((r == other) || is_among reached r)) →
-      Reaching beyond first froms_first turns_first relay turn others now (set froms other relay) (set turns other turn) (other + 1)
+  pub reaching_step : (now : List ℕ) → AreRelays now → other < length search.froms → other < length search.turns → is_among first.reached relay ≡ true → others ≡ set_at beyond relay → is_among others other ≡ true → is_among search.reached other ≡ false →
+      ((r : ℕ) → is_among now r ≡ ((r == other) || is_among search.reached r)) →
+      Reaching beyond first relay others (record { reached = now; froms = set search.froms other relay; turns = set search.turns other search.turn; turn = search.turn }) (other + 1)
   reaching_step now relays fits fits' known same leads new member =
-      let known_now : is_among reached relay ≡ true = h.stay relay known in
+      let known_now : is_among search.reached relay ≡ true = h.stay relay known in
       let along : is_among (set_at beyond relay) other ≡ true = ap (λ xs. is_among xs other) (sym same) ∙ leads in
       record {
-        reach = λ loads most start. reach_more beyond loads most reached now froms turns turn relay other fits fits' known_now new h.earlier along member relays (h.reach loads most start);
-        stay = λ r m. member r ∙ or_right (r == other) (is_among reached r) (h.stay r m);
-        earlier = omega (arith, h.earlier, turn_kept beyond [] 0 reached now froms turns turn relay other fits fits' known_now new h.earlier along member relay known_now);
-        so_far = below_next others now other (λ s below m. member s ∙ or_right (s == other) (is_among reached s) (h.so_far s below m)) (λ _. member other ∙ or_left (other == other) (is_among reached other) (eq-eqb other other refl));
+        reach = λ loads most start. reach_more beyond loads most search now relay other fits fits' known_now new h.earlier along member relays (h.reach loads most start);
+        stay = λ r m. member r ∙ or_right (r == other) (is_among search.reached r) (h.stay r m);
+        counted = h.counted;
+        earlier = omega (arith, h.earlier, turn_kept beyond [] 0 search now relay other fits fits' known_now new h.earlier along member relay known_now);
+        so_far = below_next others now other (λ s below m. member s ∙ or_right (s == other) (is_among search.reached s) (h.so_far s below m)) (λ _. member other ∙ or_left (other == other) (is_among search.reached other) (eq-eqb other other refl));
         small = λ _. tiny;
       }
 
 -- what is done in a search
-pub record Searching (beyond : List (List ℕ)) (loads : List ℕ) (most : ℕ) (reached froms turns : List ℕ) (done : List Bool) (turn : ℕ) : Type 0 where
-  pub reach : AreReached beyond loads most reached froms turns turn
-  pub closed : (r s : ℕ) → get_or done r false ≡ true → is_among (set_at beyond r) s ≡ true → is_among reached s ≡ true
+pub record Searching (beyond : List (List ℕ)) (loads : List ℕ) (most : ℕ) (search : Search) (done : List Bool) : Type 0 where
+  pub reach : AreReached beyond loads most search
+  pub closed : (r s : ℕ) → get_or done r false ≡ true → is_among (set_at beyond r) s ≡ true → is_among search.reached s ≡ true
   pub high : (r : ℕ) → get_or done r false ≡ true → most ≤ get_or loads r 0 + 1
-  pub counted : turn + count_by not done ≡ RELAYS
+  pub counted : search.turn + count_by not done ≡ RELAYS
   pub wide : length done ≡ RELAYS
 
 pub none_done : (n r : ℕ) → get_or (replicate n false) r false ≡ false
@@ -152,8 +155,8 @@ count_none : (n : ℕ) → count_by not (replicate n false) ≡ n
 count_none zero = refl
 count_none (suc n) = omega (arith, count_none n, sum_by-cons (λ b. cond (not b) 1 0) false (replicate n false))
 
-pub searching_none : (beyond : List (List ℕ)) (loads : List ℕ) (most : ℕ) (reached froms turns : List ℕ) → AreReached beyond loads most reached froms turns 0 → Searching beyond loads most reached froms turns (replicate RELAYS false) 0
-searching_none beyond loads most reached froms turns reach = record {
+pub searching_none : (beyond : List (List ℕ)) (loads : List ℕ) (most : ℕ) (search : Search) → AreReached beyond loads most search → search.turn ≡ 0 → Searching beyond loads most search (replicate RELAYS false)
+searching_none beyond loads most search reach start = record {
   reach = reach;
   closed = λ r s d. absurd (false≢true (sym (none_done RELAYS r) ∙ d));
   high = λ r d. absurd (false≢true (sym (none_done RELAYS r) ∙ d));
@@ -162,14 +165,14 @@ searching_none beyond loads most reached froms turns reach = record {
 }
 
 -- where just the busiest are reached
-pub reached_none : (beyond : List (List ℕ)) (loads : List ℕ) (most : ℕ) (reached froms turns : List ℕ) → AreRelays reached → ((r : ℕ) → is_among reached r ≡ true → get_or loads r 0 ≡ most) → Begins loads most (is_among reached) →
-    ((r : ℕ) → at turns r ≡ 0) → AreReached beyond loads most reached froms turns 0
-reached_none beyond loads most reached froms turns relays sound whole zeros = record {
+pub reached_none : (beyond : List (List ℕ)) (loads : List ℕ) (most : ℕ) (search : Search) → AreRelays search.reached → ((r : ℕ) → is_among search.reached r ≡ true → get_or loads r 0 ≡ most) → Begins loads most (is_among search.reached) →
+    ((r : ℕ) → at search.turns r ≡ 0) → AreReached beyond loads most search
+reached_none beyond loads most search relays sound whole zeros = record {
   relays = relays;
   busiest = whole;
-  ways_ok = λ r m. inl (sound r m);
+  ways_ok = λ r m. inl (zeros r, sound r m);
   late = λ r m. omega (arith, zeros r);
-  least = λ test begin on r m. begin r (small_in reached r relays m) (sound r m);
+  least = λ test begin on r m. begin r (small_in search.reached r relays m) (sound r m);
 }
 
 pub no_turns : (n r : ℕ) → at (replicate {A = ℕ} n 0) r ≡ 0
@@ -179,11 +182,12 @@ no_turns n r =
       | inr ge ↦ get_or_past (replicate {A = ℕ} n 0) r 0 (omega (arith, length-replicate {A = ℕ} n 0))
     ]
 
-pub searching_step : (beyond : List (List ℕ)) (loads : List ℕ) (most : ℕ) (reached now froms turns froms_now turns_now : List ℕ) (done : List Bool) (turn relay : ℕ) → Searching beyond loads most reached froms turns done turn →
-    relay < length done → get_or done relay false ≡ false → count_by not (set done relay true) + 1 ≡ count_by not done → most ≤ get_or loads relay 0 + 1 →
-    AreReached beyond loads most now froms_now turns_now (turn + 1) → ((r : ℕ) → is_among reached r ≡ true → is_among now r ≡ true) → ((s : ℕ) → is_among (set_at beyond relay) s ≡ true → is_among now s ≡ true) →
-    Searching beyond loads most now froms_now turns_now (set done relay true) (turn + 1)
-searching_step beyond loads most reached now froms turns froms_now turns_now done turn relay h lt new count high reach stay closed = record {
+-- one relay more is done
+pub searching_step : (beyond : List (List ℕ)) (loads : List ℕ) (most : ℕ) (search now : Search) (done : List Bool) (relay : ℕ) → Searching beyond loads most search done →
+    relay < length done → get_or done relay false ≡ false → count_by not (set done relay true) + 1 ≡ count_by not done → most ≤ get_or loads relay 0 + 1 → now.turn ≡ search.turn + 1 →
+    AreReached beyond loads most now → ((r : ℕ) → is_among search.reached r ≡ true → is_among now.reached r ≡ true) → ((s : ℕ) → is_among (set_at beyond relay) s ≡ true → is_among now.reached s ≡ true) →
+    Searching beyond loads most now (set done relay true)
+searching_step beyond loads most search now done relay h lt new count high more reach stay closed = record {
   reach = reach;
   closed = λ r s d m. elim (cases_eq r relay) [
     | inl e ↦ closed s (ap (λ r. is_among (set_at beyond r) s) (sym e) ∙ m)
@@ -193,23 +197,23 @@ searching_step beyond loads most reached now froms turns froms_now turns_now don
     | inl e ↦ omega (arith, high, ap (λ r. get_or loads r 0) e)
     | inr ne ↦ h.high r (sym (get_or-set_other done relay r true false ne) ∙ d)
   ];
-  counted = omega (arith, h.counted, count);
+  counted = omega (arith, h.counted, count, more);
   wide = length-set done relay true ∙ h.wide;
 }
 
 -- where all that is reached is done
-pub is_closed : (beyond : List (List ℕ)) (loads : List ℕ) (most : ℕ) (reached froms turns : List ℕ) (done : List Bool) (turn : ℕ) → Searching beyond loads most reached froms turns done turn →
-    ((r : ℕ) → r < RELAYS → is_among reached r ≡ true → get_or done r false ≡ true) → IsClosed beyond loads most reached
-is_closed beyond loads most reached froms turns done turn h all = record {
-  closed = λ r s m among. h.closed r s (all r (small_in reached r h.reach.relays m) m) among;
-  high = λ r m. h.high r (all r (small_in reached r h.reach.relays m) m);
+pub is_closed : (beyond : List (List ℕ)) (loads : List ℕ) (most : ℕ) (search : Search) (done : List Bool) → Searching beyond loads most search done →
+    ((r : ℕ) → r < RELAYS → is_among search.reached r ≡ true → get_or done r false ≡ true) → IsClosed beyond loads most search.reached
+is_closed beyond loads most search done h all = record {
+  closed = λ r s m among. h.closed r s (all r (small_in search.reached r h.reach.relays m) m) among;
+  high = λ r m. h.high r (all r (small_in search.reached r h.reach.relays m) m);
 }
 
 -- a closed search settles the ids that it is about
-pub is_settled : (offers : List (Id × List ℕ)) (takers : List ℕ) (n : ℕ) (beyond : List (List ℕ)) (loads : List ℕ) (most : ℕ) (reached froms turns : List ℕ) (turn : ℕ) → n ≡ length takers → IsBeyond offers takers n beyond →
+pub is_settled : (offers : List (Id × List ℕ)) (takers : List ℕ) (n : ℕ) (beyond : List (List ℕ)) (loads : List ℕ) (most : ℕ) (search : Search) → n ≡ length takers → IsBeyond offers takers n beyond →
     ((r : ℕ) → r < RELAYS → get_or loads r 0 ≤ most) → (r : ℕ) × (r < RELAYS) × (get_or loads r 0 ≡ most) →
-    AreReached beyond loads most reached froms turns turn → IsClosed beyond loads most reached → IsSettled offers takers loads most reached
-is_settled offers takers n beyond loads most reached froms turns turn all h bound one reach closed = record {
+    AreReached beyond loads most search → IsClosed beyond loads most search.reached → IsSettled offers takers loads most search.reached
+is_settled offers takers n beyond loads most search all h bound one reach closed = record {
   bound = bound;
   one = one;
   relays = reach.relays;

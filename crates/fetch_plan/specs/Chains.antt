@@ -5,6 +5,7 @@ use Rattle.sharing.specs.Sharing.{is_among}
 use Rattle.sharing.specs.Offers.{AreRelays}
 use Rattle.neg_codec.specs.declared.Id.{Id}
 use Rattle.fetch_plan.specs.Takers.{at, offered}
+use Rattle.fetch_plan.specs.declared.search.Search.{Search}
 
 -- the relays at place r
 unfoldable pub set_at : List (List ℕ) → ℕ → List ℕ
@@ -28,18 +29,18 @@ abbrev pub Begins : List ℕ → ℕ → (ℕ → Bool) → Type 0
 Begins loads most test = (r : ℕ) → r < RELAYS → at loads r ≡ most → test r ≡ true
 
 -- relay r was reached from another one, in a later turn than that one
-pub record IsWay (beyond : List (List ℕ)) (reached froms turns : List ℕ) (r : ℕ) : Type 0 where
-  pub known : is_among reached (at froms r) ≡ true
-  pub earlier : at turns (at froms r) < at turns r
-  pub leads : is_among (set_at beyond (at froms r)) r ≡ true
+pub record IsWay (beyond : List (List ℕ)) (search : Search) (r : ℕ) : Type 0 where
+  pub known : is_among search.reached (at search.froms r) ≡ true
+  pub earlier : at search.turns (at search.froms r) < at search.turns r
+  pub leads : is_among (set_at beyond (at search.froms r)) r ≡ true
 
--- the busiest relays are reached, and each other one that is reached has a way to it
-pub record AreReached (beyond : List (List ℕ)) (loads : List ℕ) (most : ℕ) (reached froms turns : List ℕ) (turn : ℕ) : Type 0 where
-  pub relays : AreRelays reached
-  pub busiest : Begins loads most (is_among reached)
-  pub ways_ok : (r : ℕ) → is_among reached r ≡ true → (at loads r ≡ most) ⊎ IsWay beyond reached froms turns r
-  pub late : (r : ℕ) → is_among reached r ≡ true → at turns r ≤ turn
-  pub least : (test : ℕ → Bool) → Begins loads most test → PassesOn beyond test → (r : ℕ) → is_among reached r ≡ true → test r ≡ true
+-- the busiest relays are reached from the start, and each other one that is reached has a way to it
+pub record AreReached (beyond : List (List ℕ)) (loads : List ℕ) (most : ℕ) (search : Search) : Type 0 where
+  pub relays : AreRelays search.reached
+  pub busiest : Begins loads most (is_among search.reached)
+  pub ways_ok : (r : ℕ) → is_among search.reached r ≡ true → ((at search.turns r ≡ 0) × (at loads r ≡ most)) ⊎ IsWay beyond search r
+  pub late : (r : ℕ) → is_among search.reached r ≡ true → at search.turns r ≤ search.turn
+  pub least : (test : ℕ → Bool) → Begins loads most test → PassesOn beyond test → (r : ℕ) → is_among search.reached r ≡ true → test r ≡ true
 
 -- all that is beyond a reached relay is reached, and no reached relay has two fewer than the busiest
 pub record IsClosed (beyond : List (List ℕ)) (loads : List ℕ) (most : ℕ) (reached : List ℕ) : Type 0 where

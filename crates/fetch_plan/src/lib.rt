@@ -12,6 +12,7 @@ mod cell;
 mod chains;
 mod dealing;
 mod outcome;
+mod search;
 mod takers;
 
 pub use cell::Cell;

@@ -1,4 +1,4 @@
-use Rattle.std.proofs.Common.{◌≡◌, ◌≢◌, ◌<◌, ℕ, length, set, sym, ap, ◌∙◌, arith, inl, inr, below_more}
+use Rattle.std.proofs.Common.{◌≢◌, ◌<◌, ℕ, length, set, sym, ap, ◌∙◌, arith, inl, inr, below_more}
 use Rattle.std.proofs.lemmas.Bool.{cases_lt}
 use Rattle.std.proofs.lemmas.List.{get_or-set_same, get_or-set_other, length-set, get_or_past}
 use Rattle.sharing.specs.declared.TheConstants.{RELAYS}

@@ -1,9 +1,8 @@
-use Rattle.std.proofs.Common.{◌≡◌, ◌≢◌, ◌<◌, ◌+◌, ◌++◌, ◌==◌, ◌⊎◌, ℕ, List, [], length, take, drop, map, sym, ap, ◌∙◌, subst, arith, inl, inr}
+use Rattle.std.proofs.Common.{◌≡◌, ◌≢◌, ◌<◌, ◌+◌, ◌++◌, ℕ, List, [], length, take, drop, sym, ap, ◌∙◌, subst, arith, inl, inr}
 use Rattle.std.proofs.lemmas.List.{take-append-le, take_all}
 use Rattle.sharing.specs.declared.TheConstants.{RELAYS}
 use Rattle.sharing.specs.Bases.{base_of}
 use Rattle.sharing.proofs.Counting.{none_smaller}
-use Rattle.neg_codec.specs.declared.Id.{Id}
 use Rattle.fetch_plan.specs.Takers.{at, held}
 use Rattle.offer_table.specs.Table.{IsTable}
 use Rattle.fetch_plan.specs.Plan.{IsPlanOf}

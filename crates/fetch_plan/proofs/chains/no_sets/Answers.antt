@@ -1,4 +1,4 @@
-use Rattle.std.proofs.Common.{◌≡◌, ◌++◌, ◌∷◌, [], ℕ, zero, suc, List, false, refl, arith, length}
+use Rattle.std.proofs.Common.{◌≡◌, ◌++◌, ◌∷◌, [], ℕ, zero, suc, List, false, refl, arith}
 use Rattle.std.proofs.lemmas.List.{length_push}
 use Rattle.sharing.specs.Sharing.{is_among}
 use Rattle.fetch_plan.specs.Chains.{set_at}

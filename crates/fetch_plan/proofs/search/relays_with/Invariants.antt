@@ -1,7 +1,7 @@
 use Rattle.std.proofs.Common.{◌≡◌, ◌<◌, ℕ, true, get_or}
 use Rattle.sharing.specs.Sharing.{is_among}
 use Rattle.sharing.specs.Offers.{AreRelays}
-use Rattle.fetch_plan.proofs.chains.relays_with.Given as goal
+use Rattle.fetch_plan.proofs.search.relays_with.Given as goal
 
 abbrev pub invariant-loop-relay : goal.invariant-loop-relay
 invariant-loop-relay l = record {

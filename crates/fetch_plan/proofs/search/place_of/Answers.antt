@@ -1,8 +1,8 @@
 use Rattle.std.proofs.Common.{below_more, sym, ap, ◌∙◌, ◌<◌, length, arith, get_or, refl}
 use Rattle.sharing.specs.Sharing.{is_among}
 use Rattle.fetch_plan.proofs.Readers.{offered_is}
-use Rattle.fetch_plan.proofs.chains.place_of.Goals as goal
-use Rattle.fetch_plan.proofs.chains.place_of.Goals.{else-taker-from-via-then-taker-from+else-has, else-taker-from-via-else-taker-from}
+use Rattle.fetch_plan.proofs.search.place_of.Goals as goal
+use Rattle.fetch_plan.proofs.search.place_of.Goals.{else-taker-from-via-then-taker-from+else-has, else-taker-from-via-else-taker-from}
 
 pub loop-place-preserved : goal.loop-place-preserved
 loop-place-preserved c =

@@ -1,12 +1,10 @@
-use Rattle.std.proofs.Common.{◌≡◌, ◌<◌, ◌≤◌, ◌+◌, ℕ, true, arith, ap, get_or, set, length}
-use Rattle.std.specs.List.{count_by}
-use Rattle.std.specs.Prelude.{not}
+use Rattle.std.proofs.Common.{◌<◌, ◌≤◌, ◌+◌, arith, ap, get_or, length}
 use Rattle.fetch_plan.proofs.Readers.{count_done}
-use Rattle.fetch_plan.proofs.Reached.{searching_none, searching_step, reach_later, is_closed}
-use Rattle.fetch_plan.proofs.chains.search.Goals as goal
+use Rattle.fetch_plan.proofs.Reached.{searching_none, searching_step, is_closed}
+use Rattle.fetch_plan.proofs.search.Search.run.Goals as goal
 
 pub turns-init : goal.turns-init
-turns-init c = searching_none _ _ _ _ _ _ c.requires.reach
+turns-init c = searching_none _ _ _ _ c.requires.reach c.requires.start
 
 pub turns-smaller : goal.turns-smaller
 turns-smaller c =
@@ -20,9 +18,9 @@ turns-preserved c =
     let n = c.in-Some.ensures.next in
     let lt : c.in-Some.relay < length c.turns.done = omega (arith, n.0, inv.wide) in
     let high : c.args.most ≤ get_or c.args.loads.now c.in-Some.relay 0 + 1 = omega (arith, c.if-most-loads-gt1.false, ap (λ r. get_or c.args.loads.now r 0) c.from-slot.ensures) in
+    let found = c.reach_from.ensures in
     rw c.from-slot.ensures
-    (searching_step _ _ _ _ _ _ _ _ _ _ _ c.in-Some.relay inv lt n.2 (count_done c.turns.done c.in-Some.relay lt n.2) high
-    (c.reach_from.ensures.reach c.args.loads.now c.args.most (reach_later _ _ _ _ _ _ _ inv.reach)) c.reach_from.ensures.stay c.reach_from.ensures.closed)
+    (searching_step _ _ _ _ _ _ c.in-Some.relay inv lt n.2 (count_done c.turns.done c.in-Some.relay lt n.2) high found.turn (found.reach c.args.loads.now c.args.most inv.reach) found.stay found.closed)
 
 pub returns-clause-closed : goal.returns-clause-closed
-returns-clause-closed c = is_closed _ _ _ _ _ _ _ _ c.turns.invariant c.in_default.ensures.none
+returns-clause-closed c = is_closed _ _ _ _ _ c.turns.invariant c.in_default.ensures.none
