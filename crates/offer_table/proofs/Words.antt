@@ -1,11 +1,12 @@
 -- Membership in a set of relays, by its bits.
-use Rattle.std.proofs.Common.{append-nil, ◌≡◌, ℕ, ◌+◌, ◌-◌, ◌*◌, ◌%◌, ◌^◌, ◌<◌, ◌≤◌, ◌==◌, Bool, true, false, ◌||◌, ◌&&◌, cond, zero, suc, List, [], ◌∷◌, ◌++◌, subst, refl, sym, ap, ◌∙◌, arith, inl, inr, bit_or, bit_and, min, max, not}
+use Rattle.std.proofs.Common.{append-nil, ◌≡◌, ℕ, ◌+◌, ◌-◌, ◌*◌, ◌%◌, ◌^◌, ◌<◌, ◌≤◌, ◌==◌, Bool, true, false, ◌||◌, ◌&&◌, cond, zero, suc, List, [], ◌∷◌, ◌++◌, subst, refl, sym, ap, ◌∙◌, arith, inl, inr, bit_or, bit_and, count_ones, length, min, max, not}
 use Rattle.std.specs.Int.{bit_at, bit_not, w128}
 use Rattle.std.proofs.Math.Pow.{pow-lt}
 use Rattle.std.proofs.lemmas.Nat.{pow-add}
 use Rattle.std.proofs.Math.Nat.{mod-eq_of_lt}
-use Rattle.std.proofs.lemmas.Nat.{and_le_l}
+use Rattle.std.proofs.lemmas.Nat.{and_le_l, ones_cat, ones_le_self, zero_from_ones, mod-pow-add, mod_below, pow_pos}
 use Rattle.sharing.specs.declared.TheConstants.{RELAYS}
+use Rattle.std.proofs.lemmas.List.{length-append}
 use Rattle.std.proofs.lemmas.Bool.{false≢true, cases_lt, cases_eq, cases_Bool, eq-eqb, ne_eqb, false_from_ne_true, or_left, or_right, and_right, and_parts}
 use Rattle.std.proofs.lemmas.Nat.Bits.{bit_at_or, bit_at_and, bit_at_not, bit_at-lt, bit_at-zero, bit_at-pow_same, bit_at-pow_other, bit_at_cat_low, bit_at_cat_high}
 use Rattle.std.specs.declared.cmp.Ordering.{Ordering}
@@ -18,7 +19,7 @@ use Rattle.sharing.specs.Sharing.{is_among}
 use Rattle.sharing.specs.Offers.{AreRelays}
 use Rattle.sharing.proofs.Orders.{sorted_push, less_from, same_sorted, among_head}
 use Rattle.offer_table.specs.Relays.{those, members, bits_of, number, IsFirst}
-use Rattle.offer_table.specs.RelayBits.{among_those, those_among, bits_of-members, fits}
+use Rattle.offer_table.specs.RelayBits.{if_passes, among_those, those_among, bits_of-members, fits}
 use Rattle.offer_table.proofs.Cuts.{sorted_cons}
 
 and_true : (b : Bool) → (b && true) ≡ b
@@ -225,3 +226,28 @@ compared h l k m a b first second e g =
     words_cmp h l k m first.1 second.1
     ∙ ap (λ n. nat_cmp n (number k m)) (sym (bits_of-members (number h l) (fits h l first.0 first.1)) ∙ ap bits_of e)
     ∙ ap (nat_cmp (bits_of a)) (sym (bits_of-members (number k m) (fits k m second.0 second.1)) ∙ ap bits_of g)
+
+-- a bit as a list of one number or none
+ones_bit : (b n : ℕ) → b < 2 → length (if_passes (b == 1) n) ≡ count_ones b
+ones_bit b n lt =
+    elim (cases_eq b 1) [
+      | inl e ↦ ap (λ t. length (if_passes t n)) (eq-eqb b 1 e) ∙ sym (ap count_ones e ∙ one)
+      | inr ne ↦ ap (λ t. length (if_passes t n)) (ne_eqb b 1 ne) ∙ omega (arith, ones_le_self b)
+    ]
+  where
+    one : count_ones 1 ≡ 1
+    one = elim (cases_eq (count_ones 1) 0) [ inl e ↦ absurd (omega (arith, zero_from_ones 1 e)) | inr ne ↦ omega (arith, ones_le_self 1) ]
+
+-- there are as many members as bits that are set
+ones_below : (bits n : ℕ) → length (those (λ r. bit_at bits r == 1) n) ≡ count_ones (bits % 2 ^ n)
+unfolding those
+ones_below bits zero = omega (arith, ones_le_self (bits % 1))
+ones_below bits (suc n) =
+    let next : 1 + n ≡ suc n = omega arith in
+    let low : ℕ = bits % 2 ^ n in
+    let parts : bits % 2 ^ suc n ≡ bit_at bits n * 2 ^ n + low = sym (ap (λ k. bits % 2 ^ k) next) ∙ mod-pow-add bits 1 n in
+    length-append (those (λ r. bit_at bits r == 1) n) (if_passes (bit_at bits n == 1) n)
+    ∙ omega (arith, ones_below bits n, ones_bit (bit_at bits n) n (bit_at-lt bits n), ap count_ones parts, ones_cat n (bit_at bits n) low (mod_below bits (2 ^ n) (pow_pos n)))
+
+pub ones_members : (high low : ℕ) → high < 2 ^ 128 → low < 2 ^ 128 → count_ones high + count_ones low ≡ length (members (number high low))
+ones_members high low h l = sym (ones_below (number high low) RELAYS ∙ ap count_ones (mod-eq_of_lt (fits high low h l)) ∙ ones_cat 128 high low l)

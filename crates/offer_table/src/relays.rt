@@ -117,6 +117,13 @@ impl RelaySet {
         self.high == 0 && self.low == 0
     }
 
+    /// The number of members.
+    pub fn len(self) -> usize
+        ensures { result ≡ length self }
+    {
+        self.high.count_ones() as usize + self.low.count_ones() as usize
+    }
+
     /// Whether some relay is a member of both sets.
     pub fn meets(self, other: RelaySet) -> bool
         ensures { result ≡ list_any (is_among other) self }

@@ -65,7 +65,7 @@ fn is_set(set: RelaySet, relays: &[u16]) -> bool {
             return false;
         }
     }
-    set.iter().eq(relays.iter().copied()) && set.is_empty() == relays.is_empty()
+    set.iter().eq(relays.iter().copied()) && set.len() == relays.len() && set.is_empty() == relays.is_empty()
 }
 
 /// Whether a group has just these relays, and the ids of just these numbers.
