@@ -9,7 +9,9 @@ mod combined;
 mod faults;
 mod groups;
 mod guess;
+mod hashed;
 mod ids;
+mod ranks;
 mod relays;
 mod table;
 

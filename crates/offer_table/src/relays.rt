@@ -148,6 +148,16 @@ impl RelaySet {
         }
     }
 
+    /// The bits of 64 relays, where relay r is bit r % 64 of the word r / 64.
+    pub(crate) fn word(self, word: usize) -> u64 {
+        let half = if word < 2 { self.low } else { self.high };
+        if word % 2 == 0 {
+            (half & u128::from(u64::MAX)) as u64
+        } else {
+            (half >> 64) as u64
+        }
+    }
+
     /// The least member.
     fn first(self) -> Option<u16>
         ensures { MatchOption result (self ≡ []) (λ r. IsFirst self r) }

@@ -67,26 +67,7 @@ fn looked_up(offers: &[(Id, RelaySet)], id: &Id) -> RelaySet
 }
 
 impl OfferTable {
-    /// The table of these relays that reported, and these offers. One sort of the sets.
-    fn of_list(
-        alloc: Global,
-        reported: RelaySet,
-        offers: Vec<(Id, RelaySet)>,
-    ) -> Result<OfferTable, AllocError>
-        requires { IsTable (record { reported = reported; offers = offers.items }) }
-        ensures { IfOk result (λ t. t ≡ record { reported = reported; offers = offers.items }) }
-    {
-        let (groups, numbers) = Groups::of(alloc, &offers)?;
-        Ok(OfferTable {
-            reported,
-            offers,
-            groups,
-            numbers,
-            alloc,
-        })
-    }
-
-    /// The same, where the groups of the offers are guessed.
+    /// The table of these relays that reported, and these offers, where the groups of the offers are guessed.
     fn of_guess(
         alloc: Global,
         reported: RelaySet,
@@ -126,7 +107,7 @@ impl OfferTable {
     }
 
     /// The table of these offers: ids in order, each with the set of relays that offer it. The relays that offer
-    /// an id are those that reported. One sort of the sets.
+    /// an id are those that reported. A few passes, and a sort of the sets that differ.
     ///
     /// # Errors
     ///
@@ -142,7 +123,8 @@ impl OfferTable {
             return Err(OfferFault::TableFull);
         }
         let reported = all_of(&offers);
-        Ok(OfferTable::of_list(alloc, reported, offers)?)
+        let guess = Guess::of_sets(alloc, &offers)?;
+        Ok(OfferTable::of_guess(alloc, reported, offers, guess)?)
     }
 
     /// The table of one relay's report: it offers each of these ids.
