@@ -11,6 +11,7 @@ mod balance;
 mod cell;
 mod chains;
 mod dealing;
+mod loads;
 mod outcome;
 mod search;
 mod takers;
