@@ -12,7 +12,10 @@ has, and one that a good end tells of.
 get what was acknowledged, and so has the file. Of `sync` and `serve` every so many allocations are taken, which is printed:
 600 of each, or as many as the environment's RUNS says.
 
-It needs a C compiler, for the library that refuses (`bench/refuse.c`).
+A file that can't be read to its end is refused by `serve`, each of its reads in turn, and stays as it is. A wrong line that was
+read before is told in its place.
+
+It needs a C compiler, for the libraries that refuse (`bench/refuse.c`, `tests/reads.c`).
 """
 import collections
 import concurrent.futures
@@ -263,6 +266,36 @@ def serve(library, pool, folder):
     bites("serve", ends)
 
 
+def unread(library, folder, lines):
+    """How `serve` ended over a file of these lines, by the first of its reads that fails."""
+    with tempfile.TemporaryDirectory(dir=folder) as own:
+        file = os.path.join(own, "relay.jsonl")
+        with open(file, "w", encoding="utf-8") as text:
+            text.write("".join(lines))
+        conf = settings(own, "relay", listen="127.0.0.1:0", conns=1)
+        ends = []
+        while len(ends) == 0 or ends[-1] == "refused: read\n":
+            env = dict(os.environ, LD_PRELOAD=library, READ_AT=str(len(ends) + 1))
+            child = subprocess.Popen([program(), "serve", conf], stdout=subprocess.PIPE, stderr=subprocess.PIPE, text=True, env=env)
+            said = child.stdout.readline()
+            child.kill()
+            ends.append(said + child.communicate()[1])
+            with open(file, encoding="utf-8") as text:
+                need(text.readlines() == lines and len(os.listdir(own)) == 2, "a file that couldn't be read", len(ends))
+        return ends
+
+
+def files(library, _pool, folder):
+    """Some seven parts of the file, those of which some are read while others are put in."""
+    lines = [json.dumps(event(1700000000 + n, "%d " % n * 20_000), separators=(",", ":"), sort_keys=True) + "\n" for n in range(60)]
+    ends = unread(library, folder, lines)
+    need(ends[-1].startswith("listening ") and len(ends) > 20, "a file that could be read", ends[-1])
+    lines[10] = "{}\n"
+    wrong = unread(library, folder, lines)
+    need(wrong[-1] == "refused: file line 11\n" and 5 < len(wrong) < len(ends), "a wrong line", wrong)
+    print("serve: each of %d reads of a file, and of %d before a wrong line" % (len(ends) - 1, len(wrong) - 1), flush=True)
+
+
 def built(source, folder):
     """The library of that C source, which is made in that folder."""
     library = os.path.join(folder, os.path.basename(source)[:-len(".c")] + ".so")
@@ -276,6 +309,7 @@ def main():
         library = built("../bench/refuse.c", folder)
         for part in (jobs, sync, serve):
             part(library, pool, folder)
+        files(built("reads.c", folder), pool, folder)
 
 
 if __name__ == "__main__":

@@ -4,6 +4,8 @@ use Rattle.serde_json.specs.Data.{Data}
 use Rattle.serde_json.specs.Read.{read}
 use Rattle.nostr_event.specs.EventView.{EventView}
 use Rattle.nostr_event.specs.EventJson.{Reads}
+use Rattle.mirror_run.specs.Lines.{lines_of}
+use Rattle.event_log.specs.Text.{text_of}
 use Rattle.event_table.specs.Events.{has_id, with_event}
 
 -- the line is the JSON of this event
@@ -35,3 +37,7 @@ abbrev pub HoldEvents : List (List ℕ) → List EventView → List (List ℕ) �
 HoldEvents lines [] rest = rest ≡ lines
 HoldEvents [] (e ∷ events) rest = ⊥
 HoldEvents (line ∷ lines) (e ∷ events) rest = (line ≢ []) × IsEventOf line e × HoldEvents lines events rest
+
+-- the text is that of the events which its lines hold
+abbrev pub IsPlain : List ℕ → Type 0
+IsPlain text = (events : List EventView) × HoldEvents (lines_of text) events [] × (text ≡ text_of events)

@@ -1,12 +1,13 @@
 //! Events of a file's lines that are read before others are put into a store, as by several threads side by side.
-ghost use Rattle.std.specs.Prelude.{◌≡◌, ℕ, ◌+◌, ◌≤◌, drop, length, map, take, IfOk, OnOk, Err};
+ghost use Rattle.std.specs.Prelude.{◌≡◌, ℕ, ◌+◌, ◌≤◌, IsTrue, drop, length, map, take, IfOk, OnOk, Err};
 ghost use Rattle.std.specs.Arc.{arc_value};
 ghost use Rattle.mirror_run.specs.Lines.{lines_of};
-ghost use Rattle.event_file.specs.Lines.{HoldEvents, LinesTell, WrongBehind};
+ghost use Rattle.event_file.specs.Lines.{HoldEvents, IsPlain, LinesTell, WrongBehind};
 ghost use Rattle.event_file.specs.declared.fault.FileFault.TheVariants.{Line as line_fault, Memory as memory};
 
 use crate::fault::FileFault;
 use crate::reading::{insert_lines, next_event};
+use crate::writing::is_text_of;
 use event_store::{Desk, Naming};
 use nostr_event::Event;
 use std::alloc::{AllocError, Global};
@@ -20,12 +21,15 @@ pub struct Ahead {
     text: Vec<u8>,
     events: Vec<Arc<Event>>,
     rest: usize,
+    // Whether the text is that of the events.
+    plain: bool,
 }
 
 impl Model for Ahead {
-    ghost use Rattle.std.specs.Prelude.{ℕ, ◌+◌, ◌≤◌, List, drop, length, map};
+    ghost use Rattle.std.specs.Prelude.{◌≡◌, ℕ, ◌+◌, ◌≤◌, List, IsTrue, drop, length, map};
     ghost use Rattle.std.specs.Arc.{arc_value};
     ghost use Rattle.mirror_run.specs.Lines.{lines_of};
+    ghost use Rattle.event_log.specs.Text.{text_of};
     ghost use Rattle.event_file.specs.Lines.{HoldEvents};
 
     ghost Value = { List ℕ };
@@ -36,6 +40,7 @@ impl Model for Ahead {
       hold : HoldEvents (lines_of a.text.items) (map arc_value a.events.items) (lines_of (drop a.rest a.text.items));
       within : length a.events.items ≤ a.rest;
       inside : a.rest ≤ length a.text.items;
+      plain : IsTrue a.plain → (a.rest ≡ length a.text.items) × (a.text.items ≡ text_of (map arc_value a.events.items));
     } };
 }
 
@@ -60,7 +65,13 @@ impl Ahead {
         ensures { IfOk result (λ a. a ≡ text.items) }
     {
         let (events, rest) = read_ahead(alloc, text.as_slice())?;
-        Ok(Ahead { text, events, rest })
+        let plain = rest == text.len() && is_text_of(&text, &events);
+        Ok(Ahead {
+            text,
+            events,
+            rest,
+            plain,
+        })
     }
 
     /// The text.
@@ -68,6 +79,13 @@ impl Ahead {
         ensures { result.now ≡ self.now }
     {
         self.text.as_slice()
+    }
+
+    /// Whether each line is that of its event as the log writes it, and nothing else is there.
+    pub fn is_plain(&self) -> bool
+        ensures { IsTrue result → IsPlain self.now }
+    {
+        self.plain
     }
 }
 
@@ -82,7 +100,7 @@ pub fn insert_ahead<W: Wait, J: Naming, D: Wait + Drop>(
     ensures wrong { (n : ℕ) → result ≡ Err (line_fault n) → (before : ℕ) × (n ≡ before + 1) × WrongBehind J.most before (lines_of ahead.now) desk.old desk.new }
     ensures memory { result ≡ Err memory → (before : ℕ) × LinesTell (take before (lines_of ahead.now)) desk.old desk.new }
 {
-    let Ok(taken) = desk.insert_all(rt, &ahead.events) else {
+    let Ok(taken) = desk.load(rt, &ahead.events) else {
         return Err(FileFault::Memory);
     };
     if taken < ahead.events.len() {

@@ -12,4 +12,4 @@ pub use ahead::{Ahead, insert_ahead};
 pub use fault::FileFault;
 pub use file::EventsFile;
 pub use reading::{holds_event, insert_lines};
-pub use writing::{is_text_of, write_lines};
+pub use writing::write_lines;

@@ -1,5 +1,5 @@
 //! Writing events as lines.
-ghost use Rattle.std.specs.Prelude.{◌≡◌, ◌≤◌, ◌++◌, IsTrue, IfSome, OnOk, drop, length};
+ghost use Rattle.std.specs.Prelude.{◌≡◌, ◌++◌, IsTrue, IfSome, OnOk, map};
 ghost use Rattle.std.specs.Arc.{arc_value};
 ghost use Rattle.std.specs.Io.KnownBytes.{Appends};
 ghost use Rattle.mirror_run.specs.Waiting.{Sends};
@@ -53,14 +53,13 @@ fn behind_line<'a>(text: &'a [u8], event: &Arc<Event>) -> Option<&'a [u8]>
     rest.strip_prefix(b"\n")
 }
 
-/// Whether the text is that of the events from a place on: the line of each, and nothing else.
-pub fn is_text_of(text: &[u8], events: &EventList, start: usize) -> bool
-    requires { start ≤ length events.now }
-    ensures { IsTrue result → text.now ≡ text_of (drop start events.now) }
+/// Whether the text is that of the events: the line of each, and nothing else.
+pub fn is_text_of(text: &[u8], events: &[Arc<Event>]) -> bool
+    ensures { IsTrue result → text.now ≡ text_of (map arc_value events.now) }
 {
     let mut rest = text;
-    for place in start..events.len() {
-        match behind_line(rest, events.get(place)) {
+    for place in 0..events.len() {
+        match behind_line(rest, &events[place]) {
             Some(after) => rest = after,
             None => return false,
         }

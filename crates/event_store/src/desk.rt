@@ -180,7 +180,32 @@ impl<J: Naming, R: Wait + Drop> Desk<J, R> {
         ensures ends { IfOk result (λ n. EndsRightly J.most (map arc_value events.now) n self.new) }
         ensures err { OnErr result (self.new ≡ self.old) }
     {
-        Ok(self.insert_each(rt, events)?.len())
+        let placed = self.insert_each(rt, events)?;
+        Ok(placed.len())
+    }
+
+    /// Publishes as `insert_all` does. What finds events by other than their ids gets these only with the next `insert`, or by
+    /// `index`, so that many calls cost less in all.
+    pub fn load<W: Wait>(&mut self, rt: &W, events: &[Arc<Event>]) -> Result<usize, AllocError>
+        ensures list { IfOk result (λ n. self.new ≡ with_events (take n (map arc_value events.now)) self.old) }
+        ensures room { IfOk result (λ _. length self.new ≤ J.most) }
+        ensures ends { IfOk result (λ n. EndsRightly J.most (map arc_value events.now) n self.new) }
+        ensures err { OnErr result (self.new ≡ self.old) }
+    {
+        let state = self.pen.published().state();
+        let (state, fresh) = state.with_all(self.alloc, events, self.most)?;
+        let _ = self.show(rt, state)?;
+        Ok(fresh.len())
+    }
+
+    /// Has all that is published found as quickly as what was inserted.
+    pub fn index<W: Wait>(&mut self, rt: &W) -> Result<(), AllocError>
+        ensures { self.new ≡ self.old }
+    {
+        let state = self.pen.published().state().share()?;
+        let state = state.indexed(self.alloc)?;
+        let _ = self.show(rt, state)?;
+        Ok(())
     }
 
     /// Publishes as `insert_all` does, and tells of each event that it took that it is published, and whether it is new: it isn't
@@ -198,6 +223,7 @@ impl<J: Naming, R: Wait + Drop> Desk<J, R> {
     {
         let state = self.pen.published().state();
         let (state, fresh) = state.with_all(self.alloc, events, self.most)?;
+        let state = state.indexed(self.alloc)?;
         let mut placed = Vec::with_capacity(self.alloc, fresh.len())?;
         let front = self.show(rt, state)?;
         for at in 0..fresh.len() {

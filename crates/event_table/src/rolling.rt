@@ -51,6 +51,17 @@ fn put_items(alloc: Global, roll: &mut Roll, events: &EventList) -> Result<(), A
     Ok(())
 }
 
+// The roll of all events.
+fn roll_of(alloc: Global, events: &EventList) -> Result<Roll, AllocError>
+    ensures { IfOk result (λ r. IsPermutation (map item_of events.now) r) }
+{
+    let items = items_from(alloc, events, 0)?;
+    match Roll::from_vec(alloc, items) {
+        Ok(roll) => Ok(roll),
+        Err(_) => Err(AllocError),
+    }
+}
+
 /// A roll of all events, where one has the items of the first of them.
 pub fn roll_of_all(
     alloc: Global,
@@ -62,6 +73,9 @@ pub fn roll_of_all(
 {
     if roll.len() == events.len() {
         return Ok(Arc::try_clone(roll)?);
+    }
+    if roll.len() == 0 {
+        return Ok(Arc::new(alloc, roll_of(alloc, events)?)?);
     }
     let mut all = roll.share(alloc)?;
     put_items(alloc, &mut all, events)?;

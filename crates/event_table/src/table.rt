@@ -107,14 +107,37 @@ impl EventTable {
         self.listing.has(id)
     }
 
-    // The table of a listing that begins with these events.
-    fn grown(&self, alloc: Global, listing: Listing) -> Result<EventTable, AllocError>
-        requires begins { IsPrefix self.now listing }
-        requires few { length listing ≤ 1000000 }
+    /// The same, shared. It copies nothing.
+    pub fn share(&self) -> Result<EventTable, AllocError>
+        ensures { IfOk result (λ s. s ≡ self.now) }
+    {
+        self.longer(self.listing.share()?)
+    }
+
+    // The table of a listing that begins with these events, of which the roll and the index have those that they have here.
+    fn longer(&self, listing: Listing) -> Result<EventTable, AllocError>
+        requires { IsPrefix self.now listing }
         ensures { IfOk result (λ s. s ≡ listing) }
     {
-        let roll = roll_over(alloc, &self.roll, listing.events())?;
-        let index = index_over(alloc, &self.index, listing.events())?;
+        Ok(EventTable {
+            listing,
+            roll: Arc::try_clone(&self.roll)?,
+            index: Arc::try_clone(&self.index)?,
+        })
+    }
+
+    /// The same events, of which the roll and the index have all but less than a batch.
+    pub fn indexed(self, alloc: Global) -> Result<EventTable, AllocError>
+        requires { length self ≤ 1000000 }
+        ensures { IfOk result (λ s. s ≡ self) }
+    {
+        let EventTable {
+            listing,
+            roll,
+            index,
+        } = self;
+        let roll = roll_over(alloc, &roll, listing.events())?;
+        let index = index_over(alloc, &index, listing.events())?;
         Ok(EventTable {
             listing,
             roll,
@@ -129,11 +152,12 @@ impl EventTable {
         ensures { IfOk result (λ s. s ≡ self.now ++ arc_value event.now ∷ []) }
     {
         let listing = self.listing.share()?;
-        self.grown(alloc, listing.with(alloc, event)?)
+        self.longer(listing.with(alloc, event)?)?.indexed(alloc)
     }
 
     /// These events, and behind them the others in their order, except those whose ids are there by then. It ends before the
-    /// first new one that would be more than so many, and says of each that it took whether it is new.
+    /// first new one that would be more than so many, and says of each that it took whether it is new. The roll and the index
+    /// get none of them before `indexed`.
     pub fn with_all(
         &self,
         alloc: Global,
@@ -150,6 +174,6 @@ impl EventTable {
     {
         let listing = self.listing.share()?;
         let (listing, fresh) = listing.with_all(alloc, others, most)?;
-        Ok((self.grown(alloc, listing)?, fresh))
+        Ok((self.longer(listing)?, fresh))
     }
 }

@@ -8,7 +8,7 @@ ghost use Rattle.std.specs.Thread.{IsSend, IsSync};
 
 use crate::refusal::{Refusal, read_refusal};
 use crate::workers::{Duty, run_workers};
-use event_file::{Ahead, FileFault, holds_event, insert_ahead, is_text_of};
+use event_file::{Ahead, FileFault, holds_event, insert_ahead};
 use event_store::{Desk, Naming, Reader};
 use std::alloc::Global;
 use std::io::BufRead;
@@ -20,7 +20,7 @@ use std::thread::{Threads, available_parallelism, join};
 const MOST_PARTS: usize = 4;
 
 /// A part ends with the line that brings it to a sixtieth of the file, or to the first or the second of these numbers of bytes. The
-/// events of larger parts are put into the store fewer times, each of which costs a copy of much of its roll.
+/// events of larger parts are put into the store fewer times, each of which costs a copy of much of what finds their ids.
 const PARTS: u64 = 60;
 
 const LEAST_PART: u64 = 1 << 19;
@@ -203,9 +203,8 @@ fn take_part<J: Naming, D: Wait + Drop, R: Wait>(
         Err(FileFault::Memory) => return Err(Refusal::Memory),
     }
     let all = reader.all()?;
-    found.is_plain = found.is_plain
-        && before <= all.front()
-        && is_text_of(ahead.text(), all.events(), before);
+    let new = all.front().saturating_sub(before);
+    found.is_plain = found.is_plain && ahead.is_plain() && new == part.count;
     found.lines = found.lines.saturating_add(part.count);
     found.bytes = found.bytes.saturating_add(ahead.text().len() as u64);
     Ok(())
@@ -323,5 +322,7 @@ pub fn fill_from<J: Naming, D: Wait + Drop, R: Threads + Wait + Sync, B: BufRead
     if !unread.rest.is_empty() {
         take_end(rt, alloc, desk, reader, &mut found, unread.rest)?;
     }
+    // The parts' events weren't indexed as they were put in.
+    desk.index(rt)?;
     Ok(found)
 }

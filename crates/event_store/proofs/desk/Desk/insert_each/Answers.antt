@@ -10,7 +10,7 @@ use Rattle.event_store.proofs.desk.Desk.insert_each.Goals as goal
 pub show-requires-clause-begins : goal.show-requires-clause-begins
 show-requires-clause-begins g c =
     let published : c.deref.result.now ≡ c.args.self.now = search rules in
-    longer_begins (take (length c.in_ok-state.fresh.items) (map arc_value c.args.events.now)) c.deref.result.now c.args.self.now _ published c.in_ok-state.ensures.list
+    longer_begins (take (length c.in_ok-state.fresh.items) (map arc_value c.args.events.now)) c.deref.result.now c.args.self.now _ published (c.in_ok-state-2.ensures ∙ c.in_ok-state.ensures.list)
 
 pub new-requires : goal.new-requires
 new-requires g c =
