@@ -1,6 +1,6 @@
 //! The whole of an input.
 
-ghost use Rattle.std.specs.Prelude.{◌≡◌, ◌≤◌, ◌⊎◌, length, take, IfOk, IfErr, IfSome, string_bytes};
+ghost use Rattle.std.specs.Prelude.{◌≡◌, ◌≤◌, ◌⊎◌, length, take, IfOk, IfErr, IfSome};
 ghost use Rattle.mirror_run.specs.Refused.{IsTextRefusal};
 
 use crate::refusal::Refusal;
@@ -35,7 +35,11 @@ fn limited(bytes: Vec<u8>) -> Result<Vec<u8>, Refusal>
     Ok(bytes)
 }
 
-/// The bytes that the reader gives.
+/// The bytes that the reader gives, at most [`LONGEST_INPUT`].
+///
+/// # Errors
+///
+/// `Read`, `InputTooLong` and `Memory`.
 pub fn read_all<R: Read>(alloc: Global, reader: &mut R) -> Result<Vec<u8>, Refusal>
     ensures ok { IfOk result (λ v. IfSome (R.remaining reader.old) (λ input. v.items ≡ input)) }
     ensures short { IfOk result (λ v. length v.items ≤ 67108864) }
@@ -43,30 +47,6 @@ pub fn read_all<R: Read>(alloc: Global, reader: &mut R) -> Result<Vec<u8>, Refus
 {
     match read_bytes(alloc, reader) {
         Ok(bytes) => limited(bytes),
-        Err(refusal) => Err(refusal),
-    }
-}
-
-/// The text of bytes.
-fn text_of(bytes: Vec<u8>) -> Result<String, Refusal>
-    requires { length bytes.items ≤ 67108864 }
-    ensures ok { IfOk result (λ text. string_bytes text ≡ bytes.items) }
-    ensures err { IfErr result (IsTextRefusal bytes.items) }
-{
-    match String::from_utf8(bytes) {
-        Ok(text) => Ok(text),
-        Err(_) => Err(Refusal::NotUtf8),
-    }
-}
-
-/// The text that the reader gives.
-pub fn read_input<R: Read>(alloc: Global, reader: &mut R) -> Result<String, Refusal>
-    ensures ok { IfOk result (λ text. IfSome (R.remaining reader.old) (λ input. string_bytes text ≡ input)) }
-    ensures short { IfOk result (λ text. length (string_bytes text) ≤ 67108864) }
-    ensures err { IfErr result (λ e. IfSome (R.remaining reader.old) (λ input. IsTextRefusal input e)) }
-{
-    match read_all(alloc, reader) {
-        Ok(bytes) => text_of(bytes),
         Err(refusal) => Err(refusal),
     }
 }

@@ -12,7 +12,7 @@ mod refusal;
 mod rolls;
 pub mod waiting;
 
-pub use input::{LONGEST_INPUT, read_all, read_input};
+pub use input::{LONGEST_INPUT, read_all};
 pub use lines::cut_line;
 pub use lists::{Lists, read_lists};
 pub use output::write_recon;
