@@ -8,15 +8,13 @@ use event_store::{Blank, Desk, Naming, Reader, open_store};
 use mirror_settings::{Job, Settings, SettingsKey, read_settings, unknown_keys};
 use pass_run::run_live;
 use serve_run::{Guest, Hall, keep_in_hall, keep_meanwhile, open_hall, readers_for, serve_beside};
-use session_run::Progress;
+use session_run::{Host, Progress};
 use std::alloc::Global;
 use std::fs::File;
 use std::io::Write;
 use std::marker::Brand;
 use std::mem::ManuallyDrop;
-use std::net::{Net, TcpListener, TcpStream};
-use std::random::RandomSource;
-use std::rt::{Clock, Files};
+use std::rt::Files;
 use std::sync::{Mutex, Wait};
 use std::thread::Threads;
 use store_run::{Keeping, Refusal, begin, keeping_of};
@@ -25,13 +23,7 @@ use store_run::{Keeping, Refusal, begin, keeping_of};
 fn run_alone<
     J: Naming + Send + Sync,
     D: Wait + Drop + Send + Sync,
-    R: Net<Listener = TcpListener, Stream = TcpStream>
-        + RandomSource
-        + Threads
-        + Wait
-        + Files
-        + Clock
-        + Sync,
+    R: Host + Files,
     W: Write,
     P: Write + Send,
     E: Write + Send + Drop,
@@ -63,12 +55,7 @@ fn run_alone<
 fn run_in_hall<
     J: Naming + Send + Sync,
     D: Wait + Drop + Send + Sync,
-    R: Net<Listener = TcpListener, Stream = TcpStream>
-        + RandomSource
-        + Threads
-        + Wait
-        + Clock
-        + Sync,
+    R: Host,
     W: Write,
     P: Write + Send,
     E: Write + Send + Drop,
@@ -115,13 +102,7 @@ fn run_in_hall<
 fn run_serving<
     J: Naming + Send + Sync,
     D: Wait + Drop + Send + Sync,
-    R: Net<Listener = TcpListener, Stream = TcpStream>
-        + RandomSource
-        + Threads
-        + Wait
-        + Files<File = File>
-        + Clock
-        + Sync,
+    R: Host + Files<File = File>,
     W: Write,
     P: Write + Send,
     E: Write + Send + Drop,
@@ -169,13 +150,7 @@ fn readers_of<R: Threads>(rt: &R, settings: &Settings) -> usize {
 fn run_named<
     J: Naming + Send + Sync,
     D: Wait + Drop + Send + Sync,
-    R: Net<Listener = TcpListener, Stream = TcpStream>
-        + RandomSource
-        + Threads
-        + Wait
-        + Files<File = File>
-        + Clock
-        + Sync,
+    R: Host + Files<File = File>,
     W: Write,
     P: Write + Send,
     E: Write + Send + Drop,
@@ -252,18 +227,7 @@ fn tell_unknown<E: Write>(alloc: Global, text: &str, errors: &mut E) -> Result<(
 /// listen, it serves connections meanwhile. It ends behind as many passes as the settings say, and tells whether the last one left
 /// something or a relay isn't level. How far it is goes to `progress`; settings that are unknown, the file's faults, and what was
 /// torn off it, go to `errors`.
-pub fn run_mirror<
-    R: Net<Listener = TcpListener, Stream = TcpStream>
-        + RandomSource
-        + Threads
-        + Wait
-        + Files<File = File>
-        + Clock
-        + Sync,
-    W: Write,
-    P: Write + Send,
-    E: Write + Send + Drop,
->(
+pub fn run_mirror<R: Host + Files<File = File>, W: Write, P: Write + Send, E: Write + Send + Drop>(
     rt: &R,
     alloc: Global,
     text: &str,

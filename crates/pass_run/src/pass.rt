@@ -12,16 +12,13 @@ use crate::tally::Tally;
 use event_store::{Desk, Naming, Reader};
 use mirror_core::{SyncFault, Synced};
 use mirror_settings::{Settings, SettingsKey};
-use session_run::{Compared, Heard, Nowhere, Progress, compare, fetch_rounds};
+use session_run::{Compared, Heard, Host, Nowhere, Progress, compare, fetch_rounds};
 use sharing::SLOTS;
 use slices::{Slice, Slices};
 use std::alloc::{AllocError, Global};
 use std::io::Write;
-use std::net::{Net, TcpListener, TcpStream};
-use std::random::RandomSource;
 use std::rt::Clock;
 use std::sync::{Mutex, Wait};
-use std::thread::Threads;
 use store_run::{Keeping, Refusal};
 
 /// The number of the fault that more is listed than can be told at once.
@@ -116,11 +113,7 @@ fn set_aside(roster: &mut Roster, second: u64, heard: &[Heard]) -> Result<(), Al
 }
 
 /// Compares a slice with the relays that are asked, and plans what is to be fetched.
-fn attempted<
-    J: Naming,
-    R: Net<Listener = TcpListener, Stream = TcpStream> + RandomSource + Threads + Wait + Sync,
-    P: Write + Send,
->(
+fn attempted<J: Naming, R: Host, P: Write + Send>(
     rt: &R,
     alloc: Global,
     settings: &Settings,
@@ -158,12 +151,7 @@ fn attempted<
 fn fetched_in<
     J: Naming + Send + Sync,
     D: Wait + Drop + Send + Sync,
-    R: Net<Listener = TcpListener, Stream = TcpStream>
-        + RandomSource
-        + Threads
-        + Wait
-        + Clock
-        + Sync,
+    R: Host,
     P: Write + Send,
     E: Write + Send + Drop,
 >(
@@ -226,12 +214,7 @@ fn cut_at(slice: Slice, middle: Option<u64>, now: u64) -> u64 {
 pub fn settled<
     J: Naming + Send + Sync,
     D: Wait + Drop + Send + Sync,
-    R: Net<Listener = TcpListener, Stream = TcpStream>
-        + RandomSource
-        + Threads
-        + Wait
-        + Clock
-        + Sync,
+    R: Host,
     P: Write + Send,
     E: Write + Send + Drop,
 >(
@@ -324,12 +307,7 @@ fn tell_news<C: Clock, W: Write>(
 pub fn run_pass<
     J: Naming + Send + Sync,
     D: Wait + Drop + Send + Sync,
-    R: Net<Listener = TcpListener, Stream = TcpStream>
-        + RandomSource
-        + Threads
-        + Wait
-        + Clock
-        + Sync,
+    R: Host,
     W: Write,
     P: Write + Send,
     E: Write + Send + Drop,

@@ -11,14 +11,12 @@ use crate::roster::Roster;
 use crate::wishes::Wishes;
 use event_store::{Desk, Naming, Reader};
 use mirror_settings::Settings;
-use session_run::Progress;
+use session_run::{Host, Progress};
 use std::alloc::Global;
 use std::io::Write;
-use std::net::{Net, TcpListener, TcpStream};
-use std::random::RandomSource;
 use std::rt::Clock;
 use std::sync::{Mutex, Wait};
-use std::thread::{Threads, sleep};
+use std::thread::sleep;
 use std::time::{Duration, Instant};
 use store_run::{Keeping, Refusal};
 
@@ -49,12 +47,7 @@ fn is_short(line: &PassLine) -> bool
 fn one_pass<
     J: Naming + Send + Sync,
     D: Wait + Drop + Send + Sync,
-    R: Net<Listener = TcpListener, Stream = TcpStream>
-        + RandomSource
-        + Threads
-        + Wait
-        + Clock
-        + Sync,
+    R: Host,
     W: Write,
     P: Write + Send,
     E: Write + Send + Drop,
@@ -114,12 +107,7 @@ fn wait<J: Naming, R: Wait + Clock, E: Write + Drop>(
 fn run_passes<
     J: Naming + Send + Sync,
     D: Wait + Drop + Send + Sync,
-    R: Net<Listener = TcpListener, Stream = TcpStream>
-        + RandomSource
-        + Threads
-        + Wait
-        + Clock
-        + Sync,
+    R: Host,
     W: Write,
     P: Write + Send,
     E: Write + Send + Drop,
@@ -180,12 +168,7 @@ fn listeners(settings: &Settings) -> usize {
 pub fn run_live<
     J: Naming + Send + Sync,
     D: Wait + Drop + Send + Sync,
-    R: Net<Listener = TcpListener, Stream = TcpStream>
-        + RandomSource
-        + Threads
-        + Wait
-        + Clock
-        + Sync,
+    R: Host,
     W: Write,
     P: Write + Send,
     E: Write + Send + Drop,

@@ -4,6 +4,7 @@ ghost use Rattle.std.specs.Prelude.{◌≡◌, ◌+◌, ◌<◌, ◌^◌, ◌-�
 ghost use Rattle.fetch_plan.specs.Plan.{IsPlan};
 ghost use Rattle.session_run.specs.Rounds.{is_done, is_missed, is_left, AreCounted, IsOverIfFetched};
 
+use crate::host::Host;
 use crate::links::{SourcePlace, connect_all, name_of};
 use crate::pace::Paced;
 use crate::progress::{Progress, RelayLine};
@@ -16,9 +17,6 @@ use mirror_settings::Settings;
 use offer_table::RelaySet;
 use std::alloc::{AllocError, Global};
 use std::io::Write;
-use std::net::{Net, TcpListener, TcpStream};
-use std::random::RandomSource;
-use std::rt::Clock;
 use std::sync::{Mutex, Wait};
 use std::thread::Threads;
 use store_run::Refusal;
@@ -210,16 +208,7 @@ fn places_of<S: Drop, K: Drop>(
 }
 
 /// The source of a place, and its relay. Why there is none is told.
-fn source_in<
-    'a,
-    R: Net<Listener = TcpListener, Stream = TcpStream>
-        + RandomSource
-        + Threads
-        + Wait
-        + Clock
-        + Sync,
-    P: Write,
->(
+fn source_in<'a, R: Host, P: Write>(
     rt: &'a R,
     alloc: Global,
     settings: &Settings,
@@ -253,16 +242,7 @@ fn source_in<
 }
 
 /// Sources at the relays, which are connected to side by side, and the relay of each. Why one can't be reached is told.
-pub fn sources_of<
-    'a,
-    R: Net<Listener = TcpListener, Stream = TcpStream>
-        + RandomSource
-        + Threads
-        + Wait
-        + Clock
-        + Sync,
-    P: Write,
->(
+pub fn sources_of<'a, R: Host, P: Write>(
     rt: &'a R,
     alloc: Global,
     settings: &Settings,

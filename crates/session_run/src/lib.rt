@@ -2,6 +2,7 @@
 #![tactic(auto)]
 
 mod fetching;
+mod host;
 mod links;
 mod pace;
 mod pass;
@@ -10,6 +11,7 @@ mod text;
 mod told;
 
 pub use fetching::Counts;
+pub use host::Host;
 pub use links::{connected, name_of};
 pub use pass::{Compared, compare, fetch_rounds};
 pub use progress::{Nowhere, Progress, RelayLine};

@@ -3,6 +3,7 @@
 ghost use Rattle.std.specs.Prelude.{◌≡◌, ◌<◌, ◌^◌, ◌-◌, All, IfOk, IfSome, length, map};
 ghost use Rattle.std.specs.List.{range_with_len};
 
+use crate::host::Host;
 use crate::pace::{Pace, Paced, SharedPace};
 use crate::progress::Progress;
 use crate::told::{Heard, ToldPeer};
@@ -339,15 +340,7 @@ impl<'a, 's, R: Net<Listener = TcpListener, Stream = TcpStream> + RandomSource +
 }
 
 /// Connects to the relay of each place, side by side.
-pub fn connect_all<
-    'a,
-    R: Net<Listener = TcpListener, Stream = TcpStream>
-        + RandomSource
-        + Threads
-        + Wait
-        + Clock
-        + Sync,
->(
+pub fn connect_all<'a, R: Host>(
     rt: &'a R,
     alloc: Global,
     settings: &Settings,

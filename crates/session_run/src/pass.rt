@@ -13,6 +13,7 @@ ghost use Rattle.session_run.specs.Fetched.{IsFetched};
 use crate::fetching::{
     Counts, Round, asked_of, counts_of, fetched, finished_of, planned, sources_of,
 };
+use crate::host::Host;
 use crate::links::{finish_all, linked_all};
 use crate::progress::Progress;
 use crate::text::put_round;
@@ -30,7 +31,6 @@ use std::alloc::{AllocError, Global};
 use std::io::Write;
 use std::net::{Net, TcpListener, TcpStream};
 use std::random::RandomSource;
-use std::rt::Clock;
 use std::sync::{Mutex, Wait};
 use std::thread::Threads;
 use store_run::{Keeping, Refusal, keep_beside, say};
@@ -143,12 +143,7 @@ pub fn compare<
 fn fetch_round<
     J: Naming + Send + Sync,
     D: Wait + Drop + Send + Sync,
-    R: Net<Listener = TcpListener, Stream = TcpStream>
-        + RandomSource
-        + Threads
-        + Wait
-        + Clock
-        + Sync,
+    R: Host,
     P: Write + Send,
     E: Write + Send + Drop,
 >(
@@ -206,12 +201,7 @@ fn say_round<W: Write>(
 pub fn fetch_rounds<
     J: Naming + Send + Sync,
     D: Wait + Drop + Send + Sync,
-    R: Net<Listener = TcpListener, Stream = TcpStream>
-        + RandomSource
-        + Threads
-        + Wait
-        + Clock
-        + Sync,
+    R: Host,
     W: Write,
     P: Write + Send,
     E: Write + Send + Drop,

@@ -14,16 +14,15 @@ use mirror_settings::{Job, Settings, SettingsKey, read_settings};
 use offer_table::RelaySet;
 use serve_run::{Guest, Hall, keep_in_hall, keep_meanwhile, open_hall, readers_for, serve_beside};
 use session_run::{
-    Compared, Counts, Nowhere, Progress, compare, fetch_rounds, put_counts, put_ends, put_plan,
+    Compared, Counts, Host, Nowhere, Progress, compare, fetch_rounds, put_counts, put_ends,
+    put_plan,
 };
 use std::alloc::Global;
 use std::fs::File;
 use std::io::Write;
 use std::marker::Brand;
 use std::mem::ManuallyDrop;
-use std::net::{Net, TcpListener, TcpStream};
-use std::random::RandomSource;
-use std::rt::{Clock, Files};
+use std::rt::Files;
 use std::sync::{Mutex, Wait};
 use std::thread::Threads;
 use store_run::{Keeping, Refusal, begin, keeping_of, say};
@@ -39,11 +38,7 @@ fn refusal_of(fault: SyncFault) -> Refusal {
 }
 
 /// Sessions with the relays over the events that the filter matches, and the plan made of what they found.
-fn synced<
-    J: Naming,
-    R: Net<Listener = TcpListener, Stream = TcpStream> + RandomSource + Threads + Wait + Sync,
-    P: Write + Send,
->(
+fn synced<J: Naming, R: Host, P: Write + Send>(
     rt: &R,
     alloc: Global,
     settings: &Settings,
@@ -91,12 +86,7 @@ fn say_counts<W: Write>(alloc: Global, writer: &mut W, counts: &Counts) -> Resul
 fn run_all<
     J: Naming + Send + Sync,
     D: Wait + Drop + Send + Sync,
-    R: Net<Listener = TcpListener, Stream = TcpStream>
-        + RandomSource
-        + Threads
-        + Wait
-        + Clock
-        + Sync,
+    R: Host,
     W: Write,
     P: Write + Send,
     E: Write + Send + Drop,
@@ -124,13 +114,7 @@ fn run_all<
 fn run_alone<
     J: Naming + Send + Sync,
     D: Wait + Drop + Send + Sync,
-    R: Net<Listener = TcpListener, Stream = TcpStream>
-        + RandomSource
-        + Threads
-        + Wait
-        + Files
-        + Clock
-        + Sync,
+    R: Host + Files,
     W: Write,
     P: Write + Send,
     E: Write + Send + Drop,
@@ -162,12 +146,7 @@ fn run_alone<
 fn run_in_hall<
     J: Naming + Send + Sync,
     D: Wait + Drop + Send + Sync,
-    R: Net<Listener = TcpListener, Stream = TcpStream>
-        + RandomSource
-        + Threads
-        + Wait
-        + Clock
-        + Sync,
+    R: Host,
     W: Write,
     P: Write + Send,
     E: Write + Send + Drop,
@@ -212,13 +191,7 @@ fn run_in_hall<
 fn run_serving<
     J: Naming + Send + Sync,
     D: Wait + Drop + Send + Sync,
-    R: Net<Listener = TcpListener, Stream = TcpStream>
-        + RandomSource
-        + Threads
-        + Wait
-        + Files<File = File>
-        + Clock
-        + Sync,
+    R: Host + Files<File = File>,
     W: Write,
     P: Write + Send,
     E: Write + Send + Drop,
@@ -266,13 +239,7 @@ fn readers_of<R: Threads>(rt: &R, settings: &Settings) -> usize {
 fn run_named<
     J: Naming + Send + Sync,
     D: Wait + Drop + Send + Sync,
-    R: Net<Listener = TcpListener, Stream = TcpStream>
-        + RandomSource
-        + Threads
-        + Wait
-        + Files<File = File>
-        + Clock
-        + Sync,
+    R: Host + Files<File = File>,
     W: Write,
     P: Write + Send,
     E: Write + Send + Drop,
@@ -334,16 +301,12 @@ fn run_named<
 /// Reads settings, puts the events of the file into a store, has sessions with the relays, prints how they ended and the plan
 /// made of what they found, and fetches by it. Events are kept in the file as they come in. Where the settings say where to listen,
 /// it listens before the sessions, serves connections meanwhile, and goes on to the end of the last.
-pub fn run_sync<
-    R: Net<Listener = TcpListener, Stream = TcpStream>
-        + RandomSource
-        + Threads
-        + Wait
-        + Files<File = File>
-        + Clock
-        + Sync,
-    W: Write,
->(rt: &R, alloc: Global, text: &str, writer: &mut W) -> Result<(), Refusal>
+pub fn run_sync<R: Host + Files<File = File>, W: Write>(
+    rt: &R,
+    alloc: Global,
+    text: &str,
+    writer: &mut W,
+) -> Result<(), Refusal>
     ensures { OnOk result (IsSyncDone text.now (W.contents writer.old) (W.contents writer.new)) }
 {
     let progress: Progress<Nowhere> = Progress::none();
@@ -353,13 +316,7 @@ pub fn run_sync<
 /// The same as [`run_sync`]. How far it is goes to `progress`, whatever becomes of it there; the file's faults, and what was torn
 /// off it, go to `errors`.
 pub fn run_sync_with<
-    R: Net<Listener = TcpListener, Stream = TcpStream>
-        + RandomSource
-        + Threads
-        + Wait
-        + Files<File = File>
-        + Clock
-        + Sync,
+    R: Host + Files<File = File>,
     W: Write,
     P: Write + Send,
     E: Write + Send + Drop,
