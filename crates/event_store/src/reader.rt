@@ -5,7 +5,7 @@ ghost use mathlib.Core.List.{IsPrefix};
 ghost use Rattle.left_right.specs.Sides.{view};
 ghost use Rattle.nostr_event.specs.EventView.{item_of};
 ghost use Rattle.item_roll.specs.Parts.{IsRoll};
-ghost use Rattle.event_table.specs.Events.{matching, Distinct};
+ghost use Rattle.event_table.specs.Events.{matching, DistinctIds};
 
 use crate::all::AllEvents;
 use crate::blank::Front;
@@ -93,7 +93,7 @@ impl<J: Naming> Reader<J> {
     pub fn pin(&mut self, alloc: Global, filter: &Filter) -> Result<Snapshot, PinFault>
         ensures kept { IsPrefix self.old self.new }
         ensures all { IfOk result (λ s. s.all ≡ self.new) }
-        ensures distinct { IfOk result (λ s. Distinct s.all) }
+        ensures distinct { IfOk result (λ s. DistinctIds s.all) }
         ensures events { IfOk result (λ s. s.events ≡ matching filter.now self.new) }
         ensures items { IfOk result (λ s. IsPermutation (map item_of s.events) s.roll) }
         ensures sorted { IfOk result (λ s. IsRoll s.roll) }
@@ -114,7 +114,7 @@ impl<J: Naming> Reader<J> {
         ensures many { IfOk result (λ o. o ≡ None → most < length (matching filter.now self.new)) }
         ensures few { IfOk result (λ o. IfSome o (λ s. length s.events ≤ most)) }
         ensures all { IfOk result (λ o. IfSome o (λ s. s.all ≡ self.new)) }
-        ensures distinct { IfOk result (λ o. IfSome o (λ s. Distinct s.all)) }
+        ensures distinct { IfOk result (λ o. IfSome o (λ s. DistinctIds s.all)) }
         ensures events { IfOk result (λ o. IfSome o (λ s. s.events ≡ matching filter.now self.new)) }
         ensures items { IfOk result (λ o. IfSome o (λ s. IsPermutation (map item_of s.events) s.roll)) }
         ensures sorted { IfOk result (λ o. IfSome o (λ s. IsRoll s.roll)) }

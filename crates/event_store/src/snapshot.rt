@@ -3,7 +3,7 @@ ghost use Rattle.std.specs.Prelude.{◌≡◌, ◌<◌, ◌≤◌, None, length,
 ghost use Rattle.std.specs.Arc.{arc_value};
 ghost use Rattle.nostr_event.specs.EventView.{item_of};
 ghost use Rattle.item_roll.specs.Parts.{IsRoll};
-ghost use Rattle.event_table.specs.Events.{matching, Distinct};
+ghost use Rattle.event_table.specs.Events.{matching, DistinctIds};
 
 use event_list::EventList;
 use event_table::{EventTable, leaves_none_out, matching_events};
@@ -37,7 +37,7 @@ impl Snapshot {
         filter: &Filter,
     ) -> Result<Snapshot, AllocError>
         ensures all { IfOk result (λ s. s.all ≡ arc_value state) }
-        ensures distinct { IfOk result (λ s. Distinct s.all) }
+        ensures distinct { IfOk result (λ s. DistinctIds s.all) }
         ensures events { IfOk result (λ s. s.events ≡ matching filter.now (arc_value state)) }
         ensures items { IfOk result (λ s. IsPermutation (map item_of s.events) s.roll) }
         ensures sorted { IfOk result (λ s. IsRoll s.roll) }
@@ -64,7 +64,7 @@ impl Snapshot {
         events: EventList,
     ) -> Result<Snapshot, AllocError>
         ensures all { IfOk result (λ s. s.all ≡ arc_value state) }
-        ensures distinct { IfOk result (λ s. Distinct s.all) }
+        ensures distinct { IfOk result (λ s. DistinctIds s.all) }
         ensures events { IfOk result (λ s. s.events ≡ events) }
         ensures items { IfOk result (λ s. IsPermutation (map item_of s.events) s.roll) }
         ensures sorted { IfOk result (λ s. IsRoll s.roll) }
@@ -90,7 +90,7 @@ impl Snapshot {
         ensures many { IfOk result (λ o. o ≡ None → most < length (matching filter.now (arc_value state))) }
         ensures few { IfOk result (λ o. IfSome o (λ s. length s.events ≤ most)) }
         ensures all { IfOk result (λ o. IfSome o (λ s. s.all ≡ arc_value state)) }
-        ensures distinct { IfOk result (λ o. IfSome o (λ s. Distinct s.all)) }
+        ensures distinct { IfOk result (λ o. IfSome o (λ s. DistinctIds s.all)) }
         ensures events { IfOk result (λ o. IfSome o (λ s. s.events ≡ matching filter.now (arc_value state))) }
         ensures items { IfOk result (λ o. IfSome o (λ s. IsPermutation (map item_of s.events) s.roll)) }
         ensures sorted { IfOk result (λ o. IfSome o (λ s. IsRoll s.roll)) }

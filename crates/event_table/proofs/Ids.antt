@@ -7,7 +7,7 @@ use Rattle.std.proofs.lemmas.Slice.Eq.{bytes_eq-Decides}
 use mathlib.Core.List.{IsPrefix}
 use Rattle.neg_codec.specs.declared.Id.{Id}
 use Rattle.nostr_event.specs.EventView.{EventView}
-use Rattle.event_table.specs.Events.{has_id, place_from, Distinct}
+use Rattle.event_table.specs.Events.{has_id, place_from, DistinctIds}
 
 same_bytes : (xs : List ℕ) → bytes_eq xs xs ≡ true
 same_bytes xs = (bytes_eq-Decides xs xs).1 refl
@@ -45,7 +45,7 @@ lacked_at : (id : Id) (events : List EventView) → has_id id events ≡ false �
 lacked_at id events none k d within same =
     true≢false (sym (list_any_at (λ (x : EventView). bytes_eq x.id.0 id.0) events k d within ((bytes_eq-Decides _ _).1 (ap (λ (i : Id). i.0) same))) ∙ none)
 
-pub distinct_push : (events : List EventView) (e : EventView) → Distinct events → has_id e.id events ≡ false → Distinct (events ++ e ∷ [])
+pub distinct_push : (events : List EventView) (e : EventView) → DistinctIds events → has_id e.id events ≡ false → DistinctIds (events ++ e ∷ [])
 distinct_push events e h none = all_pairs_push (λ (x y : EventView). x.id ≢ y.id) events e h (lacked_at e.id events none)
 
 or_false : (a b : Bool) → (a || b) ≡ false → (a ≡ false) × (b ≡ false)
@@ -81,7 +81,7 @@ place_push n m id e (x ∷ events) is none =
 -- ---- the places of events
 
 -- each event stands where its id is found
-pub place_at : (n m : ℕ) (events : List EventView) (i : ℕ) (d : EventView) → Distinct events → i < length events → m ≡ n + i → place_from n (get_or events i d).id events ≡ Some m
+pub place_at : (n m : ℕ) (events : List EventView) (i : ℕ) (d : EventView) → DistinctIds events → i < length events → m ≡ n + i → place_from n (get_or events i d).id events ≡ Some m
 place_at n m [] i d apart lt is = absurd (omega arith)
 place_at n m (e ∷ events) zero d apart lt is =
     let same : n ≡ m = omega (arith, is) in

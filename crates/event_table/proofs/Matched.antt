@@ -22,7 +22,7 @@ use Rattle.nostr_filter.specs.Matching.{matches_of}
 use Rattle.nostr_filter.specs.Choice.{placed, in_order}
 use Rattle.nostr_filter.proofs.Orders.{any_in_order}
 use Rattle.event_list.proofs.Chunked.{took_more}
-use Rattle.event_table.specs.Events.{matching, place_in, places_in, Distinct}
+use Rattle.event_table.specs.Events.{matching, place_in, places_in, DistinctIds}
 use Rattle.event_table.specs.Places.{AreAsked, Rise, HaveMatching}
 use Rattle.event_table.proofs.Ids.{one_id, place_at, place_within}
 
@@ -145,7 +145,7 @@ pub asked_found : (events : List EventView) (ids : List Id) (id : Id) (i : ℕ) 
 asked_found events [] id i is any = absurd (true≢false (sym any))
 asked_found events (x ∷ ids) id i is any = asked_at (bytes_eq x.0 id.0) x id events ids i refl is any (asked_found events ids id i is)
 
-pub have_matching : (f : Filter) (events : List EventView) (ids : List Id) → Distinct events → AreAsked f events ids → HaveMatching f events (in_order nat_cmp (places_in events ids))
+pub have_matching : (f : Filter) (events : List EventView) (ids : List Id) → DistinctIds events → AreAsked f events ids → HaveMatching f events (in_order nat_cmp (places_in events ids))
 have_matching f events ids apart asked = record {
   rise = rise_in_order (length events) (places_in events ids) (found_within events ids);
   whole = λ i e lt yes. any_in_order nat_cmp_total nat_cmp-IsAntisymmetric (λ p. p == i) (places_in events ids)

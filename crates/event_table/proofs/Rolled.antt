@@ -17,7 +17,7 @@ use Rattle.nostr_filter.specs.declared.filter.Filter.{Filter}
 use Rattle.nostr_filter.specs.Matching.{matches_of}
 use Rattle.nostr_filter.specs.Choice.{in_order}
 use Rattle.nostr_filter.proofs.Orders.{any_in_order}
-use Rattle.event_table.specs.Events.{places_in, Distinct}
+use Rattle.event_table.specs.Events.{places_in, DistinctIds}
 use Rattle.event_table.specs.Places.{HaveMatching, AreWithin}
 use Rattle.event_table.specs.States.{IsRolled}
 use Rattle.event_table.proofs.Asked.{within_asked}
@@ -31,7 +31,7 @@ place_below events ids found at =
     subst (λ (ps : List ℕ). (k d : ℕ) → k < length ps → get_or ps k d < length events) (sym at) all
 
 -- the places of what stands in the roll between the filter's times, and of all that doesn't stand there
-pub within_matching : (f : Filter) (events : List EventView) (roll : List Item) (ids : List Id) (found places more : List ℕ) (n : ℕ) → Distinct events → n ≡ length roll → IsRolled events roll
+pub within_matching : (f : Filter) (events : List EventView) (roll : List Item) (ids : List Id) (found places more : List ℕ) (n : ℕ) → DistinctIds events → n ≡ length roll → IsRolled events roll
     → AreWithin f roll ids → found ≡ places_in events ids → (All (λ p. p < length events) found → All (λ p. p < length events) places) → ((i : ℕ) → Contains found i → Contains places i)
     → ((i : ℕ) → n ≤ i → i < length events → Contains places i) → more ≡ in_order nat_cmp places → HaveMatching f events more
 within_matching f events roll ids found places more n apart len h within at below kept put is =

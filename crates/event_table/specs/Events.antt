@@ -29,8 +29,8 @@ freshness [] events = []
 freshness (e ∷ more) events = not (has_id e.id events) ∷ freshness more (with_event e events)
 
 -- no two have one id
-abbrev pub Distinct : List EventView → Type 0
-Distinct events = AllPairs (λ (x y : EventView). x.id ≢ y.id) events
+abbrev pub DistinctIds : List EventView → Type 0
+DistinctIds events = AllPairs (λ (x y : EventView). x.id ≢ y.id) events
 
 -- the place of the first event with this id, where the first event stands at the place n
 abbrev pub place_from : ℕ → Id → List EventView → Option ℕ

@@ -7,7 +7,7 @@ use Rattle.id_map.specs.declared.map.IdMap.{IdMap}
 use Rattle.id_map.specs.Places.{place_of}
 use Rattle.newest.specs.Newest.{AreOf}
 use Rattle.event_index.specs.Postings.{Covered, Covers}
-use Rattle.event_table.specs.Events.{Distinct, place_in}
+use Rattle.event_table.specs.Events.{DistinctIds, place_in}
 
 -- the index is of the first of the events
 pub record IsIndexed (events : List EventView) (index : Covered) : Type 0 where
@@ -21,7 +21,7 @@ pub record IsRolled (events : List EventView) (roll : List Item) : Type 0 where
 
 -- the map finds each event at its place, and the order has each event with its place
 pub record IsListing (events : List EventView) (ids : IdMap) (newest : List (ℕ × EventView)) : Type 0 where
-  pub distinct : Distinct events
+  pub distinct : DistinctIds events
   pub finds : (id : Id) → place_of ids id ≡ place_in events id
   pub ordered : AreOf events newest
   pub counted : length newest ≡ length events

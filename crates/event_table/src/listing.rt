@@ -2,7 +2,7 @@
 ghost use Rattle.std.specs.Prelude.{◌≡◌, ◌<◌, ◌≤◌, false, [], ◌∷◌, ◌++◌, length, map, take, IfOk};
 ghost use Rattle.std.specs.Arc.{arc_value};
 ghost use Rattle.newest.specs.Newest.{AreOf};
-ghost use Rattle.event_table.specs.Events.{has_id, place_in, Distinct, freshness, with_events, EndsRightly};
+ghost use Rattle.event_table.specs.Events.{has_id, place_in, DistinctIds, freshness, with_events, EndsRightly};
 
 use event_list::EventList;
 use id_map::IdMap;
@@ -47,7 +47,7 @@ impl Listing {
 
     pub fn events(&self) -> &EventList
         ensures list { result.now ≡ self.now }
-        ensures distinct { Distinct self.now }
+        ensures distinct { DistinctIds self.now }
     {
         &self.events
     }

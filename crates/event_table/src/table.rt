@@ -3,7 +3,7 @@ ghost use Rattle.std.specs.Prelude.{◌≡◌, ◌<◌, ◌≤◌, false, [], �
 ghost use mathlib.Core.List.{IsPrefix};
 ghost use Rattle.nostr_event.specs.EventView.{item_of};
 ghost use Rattle.std.specs.Arc.{arc_value};
-ghost use Rattle.event_table.specs.Events.{has_id, place_in, Distinct, freshness, with_events, EndsRightly};
+ghost use Rattle.event_table.specs.Events.{has_id, place_in, DistinctIds, freshness, with_events, EndsRightly};
 ghost use Rattle.newest.specs.Newest.{AreOf};
 ghost use Rattle.event_table.specs.States.{IsRolled, IsIndexed};
 
@@ -60,7 +60,7 @@ impl EventTable {
     /// The events, in their order.
     pub fn events(&self) -> &EventList
         ensures list { result.now ≡ self.now }
-        ensures distinct { Distinct self.now }
+        ensures distinct { DistinctIds self.now }
     {
         self.listing.events()
     }

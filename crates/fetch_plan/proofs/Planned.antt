@@ -14,7 +14,7 @@ use Rattle.sharing.specs.Offers.{Ascend, AreRelays, relay_in}
 use Rattle.sharing.specs.Reached.{KeepsTo, IsLeast}
 use Rattle.sharing.proofs.Counting.{shows_from_closed}
 use Rattle.sharing.proofs.Looks.{gives_agree, load_by_gives}
-use Rattle.sharing.proofs.Orders.{distinct_sorted}
+use Rattle.sharing.proofs.Orders.{once_sorted}
 use Rattle.fetch_plan.specs.Plan.{Planned, IsPlan, IsPlanOf, planned_load}
 use Rattle.fetch_plan.specs.Takers.{at, offered, held, AreOffered, no_offer}
 use Rattle.fetch_plan.specs.Chains.{IsSettled}
@@ -89,7 +89,7 @@ module _ (bases : List ℕ) (offers : List (Id × List ℕ)) (takers : List ℕ)
     least_over some = record {
       sharing = sharing;
       greatest = greatest;
-      shows = shows_from_closed (base_of bases) f offers group most h.one.0 (distinct_sorted group h.relays.ascend) keeps (λ r m. omega (arith, h.high r m, load_at r (small_in group r h.relays m))) some (h.busiest h.one.0 h.one.1 h.one.2) (load_at h.one.0 h.one.1 ∙ h.one.2);
+      shows = shows_from_closed (base_of bases) f offers group most h.one.0 (once_sorted group h.relays.ascend) keeps (λ r m. omega (arith, h.high r m, load_at r (small_in group r h.relays m))) some (h.busiest h.one.0 h.one.1 h.one.2) (load_at h.one.0 h.one.1 ∙ h.one.2);
       reached = λ _. record {
         busiest = λ r e. elim (cases_lt r RELAYS) [ inl lt ↦ h.busiest r lt (sym (load_at r lt) ∙ e) | inr ge ↦ absurd (omega (arith, load_past r ge, e)) ];
         keeps = keeps;

@@ -19,10 +19,11 @@ use Rattle.neg_codec.specs.declared.Item.{Item}
 use Rattle.neg_codec.specs.Keys.{endless, least}
 use Rattle.neg_codec.specs.contracts.ItemOrd.TheImpl as item_ord
 use Rattle.neg_codec.specs.contracts.ItemOrd.TheImpl.Laws as item_laws
+use Rattle.neg_initiator.specs.Listed.{Distinct}
 use Rattle.item_roll.specs.declared.roll.RollFault.{RollFault}
 use Rattle.item_roll.specs.declared.roll.RollFault.TheVariants.{Infinity, Present as Repeated, Full as Crowded, Memory}
 use Rattle.item_roll.specs.Repeats.{HasRepeat, HasEndless}
-use Rattle.mirror_run.specs.Placing.{Distinct, IsTaken, IsFirstRefused}
+use Rattle.mirror_run.specs.Placing.{IsTaken, IsFirstRefused}
 use Rattle.mirror_run.specs.declared.refusal.LineFault.TheVariants.{Present, Full}
 
 -- the order of a set of items

@@ -1,14 +1,10 @@
 -- Items that are placed in their order: which one isn't taken, and why.
-use Rattle.std.specs.Prelude.{◌≡◌, ◌≢◌, ℕ, ◌≤◌, ◌<◌, List, [], ◌∷◌, Some, length, take, slice_get, All, Contains}
+use Rattle.std.specs.Prelude.{◌≡◌, ◌≢◌, ℕ, ◌≤◌, ◌<◌, List, Some, length, take, slice_get, All, Contains}
 use Rattle.neg_codec.specs.declared.Item.{Item}
 use Rattle.neg_codec.specs.Keys.{endless}
+use Rattle.neg_initiator.specs.Listed.{Distinct}
 use Rattle.mirror_run.specs.declared.refusal.LineFault.{LineFault}
 use Rattle.mirror_run.specs.declared.refusal.LineFault.TheVariants.{Form, Infinity, Present, Full, Order}
-
--- no item stands twice
-abbrev pub Distinct : List Item → Type 0
-Distinct [] = Unit {0}
-Distinct (x ∷ xs) = (¬ Contains xs x) × Distinct xs
 
 -- a list takes all of these items
 pub record IsTaken (items : List Item) : Type 0 where

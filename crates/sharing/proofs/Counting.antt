@@ -5,7 +5,7 @@ use Rattle.std.proofs.lemmas.List.Sums.{sum_by-cons, sum_by-le}
 use Rattle.std.proofs.lemmas.List.Elements.{All-head, All-tail}
 use Rattle.std.proofs.lemmas.Bool.{false≢true, cases_lt, or_parts, or_left, or_right, and_from, eq-eqb}
 use Rattle.std.proofs.Math.Nat.{mul-le-mul_left, mul_comm}
-use Rattle.sharing.specs.Sharing.{is_among, IsSharing, taken, load, alone, Shows, Distinct, IsGreatest, NoneSmaller}
+use Rattle.sharing.specs.Sharing.{is_among, IsSharing, taken, load, alone, Shows, IsGreatest, NoneSmaller}
 
 -- a sum of sums
 pub sum_by-add : {X : Type 0} (g h : X → ℕ) (xs : List X) → sum_by (λ x. g x + h x) xs ≡ sum_by g xs + sum_by h xs
@@ -106,14 +106,19 @@ count_absent r (x ∷ xs) h =
     let parts : ((r == x) ≡ false) × (is_among xs r ≡ false) = or_parts (r == x) (is_among xs r) h in
     omega (arith, sum_by-cons (λ y. unit (r == y)) x xs, ap unit parts.0, count_absent r xs parts.1)
 
-pub count_distinct : (r : ℕ) (group : List ℕ) → Distinct group → count_by (λ x. r == x) group ≤ 1
-count_distinct r [] h = omega arith
-count_distinct r (x ∷ xs) h =
+-- no relay twice
+abbrev pub NoneTwice : List ℕ → Type 0
+NoneTwice [] = Unit {0}
+NoneTwice (x ∷ xs) = (is_among xs x ≡ false) × NoneTwice xs
+
+pub count_once : (r : ℕ) (group : List ℕ) → NoneTwice group → count_by (λ x. r == x) group ≤ 1
+count_once r [] h = omega arith
+count_once r (x ∷ xs) h =
     elim (true_or_false (r == x)) [
       | inl e ↦
           (let absent : is_among xs r ≡ false = ap (is_among xs) (eqb_same r x e) ∙ h.0 in
           omega (arith, sum_by-cons (λ y. unit (r == y)) x xs, ap unit e, count_absent r xs absent))
-      | inr e ↦ omega (arith, sum_by-cons (λ y. unit (r == y)) x xs, ap unit e, count_distinct r xs h.1)
+      | inr e ↦ omega (arith, sum_by-cons (λ y. unit (r == y)) x xs, ap unit e, count_once r xs h.1)
     ]
 
 -- all of a list pass a test that each member passes
@@ -126,14 +131,14 @@ all_from_among test (x ∷ xs) h =
 abbrev pub KeepsWithin : {A : Type 0} → List ℕ → (A → ℕ) → List (A × List ℕ) → Type 0
 KeepsWithin group f offers = All (λ p. is_among group (f p.0) ≡ true → (r : ℕ) → is_among p.1 r ≡ true → is_among group r ≡ true) offers
 
-pub loads-le-alone : {A : Type 0} (f : A → ℕ) (offers : List (A × List ℕ)) (group : List ℕ) → Distinct group → KeepsWithin group f offers → sum_by (taken f offers) group ≤ alone group offers
-loads-le-alone f [] group distinct keeps = omega (arith, sum_by-zero group)
-loads-le-alone {A} f (p ∷ offers) group distinct keeps =
+pub loads-le-alone : {A : Type 0} (f : A → ℕ) (offers : List (A × List ℕ)) (group : List ℕ) → NoneTwice group → KeepsWithin group f offers → sum_by (taken f offers) group ≤ alone group offers
+loads-le-alone f [] group once keeps = omega (arith, sum_by-zero group)
+loads-le-alone {A} f (p ∷ offers) group once keeps =
     let P : A × List ℕ → Type 0 = λ p. is_among group (f p.0) ≡ true → (r : ℕ) → is_among p.1 r ≡ true → is_among group r ≡ true in
-    let rest : sum_by (taken f offers) group ≤ alone group offers = loads-le-alone f offers group distinct (All-tail P p offers keeps) in
+    let rest : sum_by (taken f offers) group ≤ alone group offers = loads-le-alone f offers group once (All-tail P p offers keeps) in
     let here : count_by (λ r. f p.0 == r) group ≤ unit (list_all (is_among group) p.1) =
     elim (true_or_false (is_among group (f p.0))) [
-      | inl e ↦ omega (arith, count_distinct (f p.0) group distinct, unit_of_true (list_all (is_among group) p.1) (all_from_among (is_among group) p.1 (All-head P p offers keeps e)))
+      | inl e ↦ omega (arith, count_once (f p.0) group once, unit_of_true (list_all (is_among group) p.1) (all_from_among (is_among group) p.1 (All-head P p offers keeps e)))
       | inr e ↦ omega (arith, count_absent (f p.0) group e)
     ] in
     omega (arith, loads-cons f p offers group, sum_by-cons (λ q. unit (list_all (is_among group) q.1)) p offers)
@@ -159,14 +164,14 @@ some_among [] r h = absurd (false≢true h)
 some_among (x ∷ xs) r h = omega arith
 
 -- a group that moves do not leave, whose relays have almost as much as the busiest one in it, shows that number
-pub shows_from_closed : {A : Type 0} (base : ℕ → ℕ) (f : A → ℕ) (offers : List (A × List ℕ)) (group : List ℕ) (most one : ℕ) → Distinct group → KeepsWithin group f offers →
+pub shows_from_closed : {A : Type 0} (base : ℕ → ℕ) (f : A → ℕ) (offers : List (A × List ℕ)) (group : List ℕ) (most one : ℕ) → NoneTwice group → KeepsWithin group f offers →
     ((r : ℕ) → is_among group r ≡ true → most ≤ load base f offers r + 1) → 0 < most → is_among group one ≡ true → load base f offers one ≡ most → Shows base group offers most
-shows_from_closed base f offers group most one distinct keeps high some m e =
+shows_from_closed base f offers group most one once keeps high some m e =
     inr (
       some_among group one m,
       omega (
         arith,
-        loads-le-alone f offers group distinct keeps,
+        loads-le-alone f offers group once keeps,
         sum_by-add base (taken f offers) group,
         sum_over (load base f offers) (most - 1) group one (λ r m. omega (arith, high r m)) m (omega (arith, e)),
       ),

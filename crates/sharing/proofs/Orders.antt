@@ -11,8 +11,9 @@ use Rattle.std.proofs.lemmas.Bool.{ne_eqb, eq-eqb, or_from, or_left, cases_lt, c
 use Rattle.std.proofs.lemmas.Cmp.{ranked, nat_list_cmp_total, on_total, tied_itself}
 use Rattle.std.proofs.lemmas.List.Elements.{All-from_recursion, recursion_from_All, All-push, All-tail, All-head, All-nil, All-cons, All-weaker}
 use Rattle.neg_codec.specs.declared.Id.{Id}
-use Rattle.sharing.specs.Sharing.{is_among, Distinct}
+use Rattle.sharing.specs.Sharing.{is_among}
 use Rattle.sharing.specs.Offers.{id_cmp, is_id}
+use Rattle.sharing.proofs.Counting.{NoneTwice}
 
 -- ids are totally ordered
 pub id_total : IsTotalOrder id_cmp
@@ -41,11 +42,11 @@ absent_above x (y ∷ ys) h =
     let lt : x < y = lt_from_less x y (All-head (λ y. nat_cmp x y ≡ Less) y ys h) in
     or_from (x == y) (is_among ys x) (ne_eqb x y (λ e. absurd (omega arith))) (absent_above x ys (All-tail (λ y. nat_cmp x y ≡ Less) y ys h))
 
--- relays in order are distinct
-pub distinct_sorted : (xs : List ℕ) → IsStrictlySortedBy nat_cmp xs → Distinct xs
+-- of relays in order none stands twice
+pub once_sorted : (xs : List ℕ) → IsStrictlySortedBy nat_cmp xs → NoneTwice xs
 unfolding IsStrictlySortedBy
-distinct_sorted [] h = tt
-distinct_sorted (x ∷ xs) h = (absent_above x xs (All-from_recursion (λ y. nat_cmp x y ≡ Less) xs h.0), distinct_sorted xs h.1)
+once_sorted [] h = tt
+once_sorted (x ∷ xs) h = (absent_above x xs (All-from_recursion (λ y. nat_cmp x y ≡ Less) xs h.0), once_sorted xs h.1)
 
 pub head_sorted : {K : Type 0} (c : K → K → Ordering) (x : K) (xs : List K) → IsStrictlySortedBy c (x ∷ xs) → All (λ y. c x y ≡ Less) xs
 unfolding IsStrictlySortedBy

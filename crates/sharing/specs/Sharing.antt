@@ -1,6 +1,6 @@
 -- Sharing ids out among relays. Offers are pairs of an id and the relays that offer it. A relay is a number, and
 -- its load begins at its base.
-use Rattle.std.specs.Prelude.{◌≡◌, ℕ, ◌+◌, ◌-◌, ◌*◌, ◌<◌, ◌≤◌, ◌==◌, Bool, true, false, ◌⊎◌, List, [], ◌∷◌, length, count_by, sum_by}
+use Rattle.std.specs.Prelude.{◌≡◌, ℕ, ◌+◌, ◌-◌, ◌*◌, ◌<◌, ◌≤◌, ◌==◌, Bool, true, ◌⊎◌, List, length, count_by, sum_by}
 use Rattle.std.specs.List.{All, list_any, list_all}
 
 -- whether this relay is among these
@@ -35,8 +35,3 @@ alone group offers = count_by (λ p. list_all (is_among group) p.1) offers
 abbrev pub Shows : {A : Type 0} → (ℕ → ℕ) → List ℕ → List (A × List ℕ) → ℕ → Type 0
 Shows base group offers most =
     (most ≡ 0) ⊎ ((0 < length group) × ((most - 1) * length group < sum_by base group + alone group offers))
-
--- no relay twice
-abbrev pub Distinct : List ℕ → Type 0
-Distinct [] = Unit {0}
-Distinct (x ∷ xs) = (is_among xs x ≡ false) × Distinct xs
