@@ -3,3 +3,4 @@ pub mod Reached
 pub mod Walks
 pub mod Moves
 pub mod Planned
+pub mod Gone

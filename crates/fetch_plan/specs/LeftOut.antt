@@ -1,9 +1,9 @@
 -- What the cells of a plan leave out of later plans.
-use Rattle.std.specs.Prelude.{ℕ, zero, suc, ◌==◌, ◌&&◌, Bool, false, List, [], ◌∷◌, ◌++◌}
+use Rattle.std.specs.Prelude.{ℕ, zero, suc, ◌==◌, ◌&&◌, Bool, false, List, [], ◌∷◌, ◌++◌, length, slice_index_or}
 use Rattle.neg_codec.specs.declared.Id.{Id}
 use Rattle.sharing.specs.Offers.{is_id, relays_of}
 use Rattle.fetch_plan.specs.declared.cell.Cell.{Cell}
-use Rattle.fetch_plan.specs.declared.cell.Cell.TheVariants.{Done, Missed}
+use Rattle.fetch_plan.specs.declared.cell.Cell.TheVariants.{Free, Done, Missed}
 
 -- what is read beyond the gives
 abbrev pub no_give : Id × ℕ
@@ -26,3 +26,7 @@ gone_beside offers c g = []
 abbrev pub first_of : {A : Type 0} → (ℕ → A) → ℕ → List A
 first_of f zero = []
 first_of f (suc n) = first_of f n ++ f n ∷ []
+
+-- what cells with these gives leave out: beside each id its relays
+abbrev pub gone_of : List (Id × List ℕ) → List (Id × ℕ) → List Cell → List (Id × List ℕ)
+gone_of offers gives cells = first_of (λ k. ((slice_index_or gives k no_give).0, gone_beside offers (slice_index_or cells k Free) (slice_index_or gives k no_give))) (length gives)

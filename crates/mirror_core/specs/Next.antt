@@ -5,7 +5,7 @@ use Rattle.sharing.specs.Bases.{base_of}
 use Rattle.sharing.specs.Sharing.{is_among, NoneSmaller}
 use Rattle.sharing.specs.Offers.{relays_of, StandsFor}
 use Rattle.fetch_plan.specs.Plan.{Planned, IsPlanOf}
-use Rattle.fetch_plan.specs.LeftOut.{no_give, leaves_out, gone_beside, first_of}
+use Rattle.fetch_plan.specs.LeftOut.{no_give, leaves_out}
 use Rattle.fetch_plan.specs.declared.cell.Cell.{Cell}
 use Rattle.fetch_plan.specs.declared.cell.Cell.TheVariants.{Free, Done, Missed}
 
@@ -24,10 +24,6 @@ pub record IsNextPlan (bases : List ℕ) (old : List (Id × List ℕ)) (gives : 
 pub record IsLess (old : List (Id × List ℕ)) (gives : List (Id × ℕ)) (cells : List Cell) (new : List (Id × List ℕ)) : Type 0 where
   pub sound : (r : ℕ) (i : Id) → is_among (relays_of new i) r ≡ true → is_among (relays_of old i) r ≡ true
   pub whole : (r : ℕ) (i : Id) → IsLeft old gives cells r i → is_among (relays_of new i) r ≡ true
-
--- what the cells with these gives strike
-abbrev pub struck_of : List (Id × List ℕ) → List (Id × ℕ) → List Cell → List (Id × List ℕ)
-struck_of offers gives cells = first_of (λ k. ((slice_index_or gives k no_give).0, gone_beside offers (slice_index_or cells k Free) (slice_index_or gives k no_give))) (length gives)
 
 -- the cell's relay was asked for its id, and gave it or didn't
 abbrev pub is_asked : Cell → Bool

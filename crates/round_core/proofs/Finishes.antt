@@ -20,10 +20,10 @@ use Rattle.round_core.specs.declared.events.Answer.{Answer}
 use Rattle.round_core.specs.declared.events.Answer.TheVariants.{Taken, Finished, Refused}
 use Rattle.round_core.specs.History.{History, seals, is_sealed, sealings, gives_of, gives_so_far, gives_before, no_give, cell_after, is_placed, finishes, has_finished, leaves_out, Stands}
 use Rattle.round_core.specs.Legal.{barred_after, or_refused, is_held_by, MakesPlan, Right, legal_after}
-use Rattle.round_core.specs.Left.{first_of}
+use Rattle.fetch_plan.specs.LeftOut.{first_of}
 use Rattle.round_core.proofs.Histories.{or_false, finished_push, sealings_push, legal_push, by_right}
 use Rattle.round_core.proofs.Touches.{range_right, refused_seals, touch_seals}
-use Rattle.round_core.proofs.Gone.{found, first_all, apart}
+use Rattle.fetch_plan.proofs.Gone.{found, first_all, apart}
 use Rattle.round_core.proofs.Holders.{held_if, holder_is, done_cell}
 
 -- what stands in a legal history was right, and what stands before it was legal

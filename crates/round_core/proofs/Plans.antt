@@ -20,7 +20,7 @@ use Rattle.round_core.specs.declared.events.Answer.{Answer}
 use Rattle.round_core.specs.declared.events.Answer.TheVariants.{Sealed, Refused}
 use Rattle.round_core.specs.History.{History, Stands, TableOf, seals, is_sealed, sealings, gives_of, gives_before, changes, left_cell, cell_after, places, is_placed, wants_in, reports}
 use Rattle.round_core.specs.Legal.{is_held, IsLowestHeld, MakesPlan, Right, legal_after}
-use Rattle.round_core.specs.Left.{State, plans_of, Leaves, Plans, SealsTo, gone_of, AreWithout, Replans, AgainTo}
+use Rattle.round_core.specs.Left.{State, plans_of, Leaves, Plans, SealsTo, gone_at_last, AreWithout, Replans, AgainTo}
 use Rattle.round_core.proofs.Histories.{or_false, sealed_push, placed_push, sealings_push, cell_push, so_far, before_last, before_none, gives_push, plans_push, get_seam, legal_push}
 use Rattle.round_core.proofs.Touches.{table_kept}
 use Rattle.round_core.proofs.Left.{leaves_same, right_true, right_false}
@@ -106,7 +106,7 @@ module _ (lanes : List ℕ) (h : History) (s : State) (l : Leaves lanes h s) (ba
   refused_again : (a : Answer) → seals a ≡ false → ((later : List Planned) → Right lanes (plans_of l.earlier s.plan ++ later) h (Again bases) a) → Leaves lanes (h ++ (Again bases, a) ∷ []) s
   refused_again a unsealed right = leaves_same lanes h s (Again bases) a l unsealed (λ k. refl) (λ r i. refl) (λ r. refl) (λ id. refl) right
 
-  left_offers : (p : Planned) (offered : List (Id × List ℕ)) → s.plan ≡ Some p → Ascend (map (λ g. g.0) p.gives) → IsOffers offered → AreWithout s.table.offers (gone_of s.table.offers p.gives s.cells) offered → StandsFor offered (Stands h (gives_of (plans_of l.earlier s.plan)))
+  left_offers : (p : Planned) (offered : List (Id × List ℕ)) → s.plan ≡ Some p → Ascend (map (λ g. g.0) p.gives) → IsOffers offered → AreWithout s.table.offers (gone_at_last s.table.offers p.gives s.cells) offered → StandsFor offered (Stands h (gives_of (plans_of l.earlier s.plan)))
   left_offers p offered e ascend ok left =
       let past : gives_before (plans_of l.earlier s.plan) h ≡ gives_of l.earlier =
       ap (λ o. gives_before (plans_of l.earlier o) h) e ∙ before_last l.earlier (p ∷ []) h (l.count ∙ ap (λ o. length (plans_of l.earlier o)) e ∙ plans_push l.earlier p) in
@@ -114,7 +114,7 @@ module _ (lanes : List ℕ) (h : History) (s : State) (l : Leaves lanes h s) (ba
       (again_offers h (gives_of l.earlier) p.gives s.cells s.table.offers offered (subst (λ gs. StandsFor s.table.offers (Stands h gs)) past l.table.offers) left ok ascend
       (omega (arith, l.long, ap length (gives_with l.earlier s.plan p e), length-append (gives_of l.earlier) p.gives)) l.cell)
 
-  left_table : (p : Planned) (table : Table) → s.plan ≡ Some p → Ascend (map (λ g. g.0) p.gives) → IsTable table → AreWithout s.table.offers (gone_of s.table.offers p.gives s.cells) table.offers → table.reported ≡ s.table.reported → TableOf h (gives_of (plans_of l.earlier s.plan)) table
+  left_table : (p : Planned) (table : Table) → s.plan ≡ Some p → Ascend (map (λ g. g.0) p.gives) → IsTable table → AreWithout s.table.offers (gone_at_last s.table.offers p.gives s.cells) table.offers → table.reported ≡ s.table.reported → TableOf h (gives_of (plans_of l.earlier s.plan)) table
   left_table p table e ascend ok left same = record {
     offers = left_offers p table.offers e ascend ok.offers_ok left;
     relays = subst AreRelays (sym same) l.table.relays;

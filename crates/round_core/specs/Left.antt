@@ -1,5 +1,5 @@
 -- The round that a history leaves.
-use Rattle.std.specs.Prelude.{◌≡◌, ℕ, ◌+◌, ◌-◌, ◌<◌, ◌≤◌, ◌==◌, ◌&&◌, ◌||◌, ◌⊎◌, not, Bool, true, false, List, [], ◌∷◌, ◌++◌, zero, suc, length, map, slice_index_or, slice_set, Option, Some, None, Result, Ok, Err, MatchResult, MatchOption, replicate, alloc_error, is_some}
+use Rattle.std.specs.Prelude.{◌≡◌, ℕ, ◌+◌, ◌-◌, ◌<◌, ◌≤◌, ◌==◌, ◌&&◌, ◌||◌, ◌⊎◌, not, Bool, true, false, List, [], ◌∷◌, ◌++◌, length, map, drop, slice_index_or, slice_set, Option, Some, None, Result, Ok, Err, MatchResult, MatchOption, replicate, alloc_error, is_some}
 use Rattle.std.specs.declared.alloc.AllocError.{AllocError}
 use Rattle.std.specs.List.{list_any}
 use Rattle.neg_codec.specs.declared.Id.{Id}
@@ -10,7 +10,7 @@ use Rattle.offer_table.specs.Table.{Table, IsTable}
 use Rattle.offer_table.specs.declared.faults.OfferFault.{OfferFault}
 use Rattle.offer_table.specs.declared.faults.OfferFault.TheVariants as fault
 use Rattle.fetch_plan.specs.Plan.{Planned, IsPlanOf}
-pub use Rattle.fetch_plan.specs.LeftOut.{gone_beside, first_of}
+use Rattle.fetch_plan.specs.LeftOut.{gone_of}
 use Rattle.fetch_plan.specs.declared.cell.Cell.{Cell}
 use Rattle.fetch_plan.specs.declared.cell.Cell.TheVariants.{Free, Held, Done, Missed}
 use Rattle.round_core.specs.declared.events.Refusal.TheVariants as why
@@ -146,10 +146,9 @@ SealsTo old bases result new =
     MatchOption old.plan (MatchResult result (λ a. Plans bases old.table.offers old old.table a new) (λ _. new ≡ old))
     (λ _. (result ≡ Ok (Refused why.Sealed)) × (new ≡ old))
 
--- what the cells from the first on leave out, which have these gives
-abbrev pub gone_of : List (Id × List ℕ) → List (Id × ℕ) → List Cell → List (Id × List ℕ)
-gone_of offers gives cells =
-    first_of (λ k. ((slice_index_or gives k no_give).0, gone_beside offers (slice_index_or cells (length cells - length gives + k) Free) (slice_index_or gives k no_give))) (length gives)
+-- what the last cells leave out, which have these gives
+abbrev pub gone_at_last : List (Id × List ℕ) → List (Id × ℕ) → List Cell → List (Id × List ℕ)
+gone_at_last offers gives cells = gone_of offers gives (drop (length cells - length gives) cells)
 
 -- the offers but those that are gone
 abbrev pub AreWithout : List (Id × List ℕ) → List (Id × List ℕ) → List (Id × List ℕ) → Type 0
@@ -167,10 +166,10 @@ pub record PlansWithout (bases : List ℕ) (offers gone : List (Id × List ℕ))
 pub record Replans (bases : List ℕ) (old : State) (last : Planned) (a : Answer) (new : State) : Type 0 where
   pub plan : Planned
   pub ascend : Ascend (map (λ g. g.0) last.gives)
-  pub planned : PlansWithout bases old.table.offers (gone_of old.table.offers last.gives old.cells) plan
+  pub planned : PlansWithout bases old.table.offers (gone_at_last old.table.offers last.gives old.cells) plan
   pub table : Table
   pub table_ok : IsTable table
-  pub left : AreWithout old.table.offers (gone_of old.table.offers last.gives old.cells) table.offers
+  pub left : AreWithout old.table.offers (gone_at_last old.table.offers last.gives old.cells) table.offers
   pub reported : table.reported ≡ old.table.reported
   pub answer : a ≡ Sealed plan.least_max
   pub after : new ≡ record old { table = table; plan = Some plan; cells = old.cells ++ replicate (length plan.gives) Free }

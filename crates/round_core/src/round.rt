@@ -8,11 +8,9 @@ ghost use Rattle.round_core.specs.History.{History, holds, has_finished, has_mis
 ghost use Rattle.round_core.specs.Legal.{Legal, legal_after};
 ghost use Rattle.round_core.specs.Left.{Leaves, is_on_cell, ReportsTo, SealsTo, AgainTo, InsertsTo, answer_in, cells_then};
 
-use crate::rules::{
-    add_report, answer_at, left_out, lowest_held, more_cells, plan_without, write_cell,
-};
+use crate::rules::{add_report, answer_at, lowest_held, more_cells, plan_without, write_cell};
 use crate::{Answer, Refusal, RoundEvent, Touch};
-use fetch_plan::{Cell, Plan, plan};
+use fetch_plan::{Cell, Plan, left_out, plan};
 use neg_codec::Id;
 use offer_table::{Bases, OfferTable};
 use std::alloc::{AllocError, Global};
@@ -134,7 +132,8 @@ impl Round {
             return Ok(Answer::Refused(Refusal::Busy(cell)));
         }
         // The table itself changes last, where nothing can be refused any more.
-        let gone = left_out(self.alloc, &self.table, last, &self.cells)?;
+        let first = self.cells.len() - last.len();
+        let gone = left_out(self.alloc, &self.table, last, &self.cells[first..])?;
         let made = plan_without(self.alloc, &self.table, &gone, bases)?;
         let least_max = made.least_max();
         let cells = more_cells(self.alloc, &self.cells, made.len())?;

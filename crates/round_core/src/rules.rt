@@ -6,7 +6,7 @@ ghost use Rattle.sharing.specs.declared.TheConstants.{RELAYS};
 ghost use Rattle.sharing.specs.Offers.{is_id, Ascend};
 ghost use Rattle.fetch_plan.specs.declared.cell.Cell.TheVariants.{Free};
 ghost use Rattle.round_core.specs.Legal.{barred, claim_answer, end_answer, is_held, is_held_by, IsLowestHeld};
-ghost use Rattle.round_core.specs.Left.{gives_in, first_in, give_in, answer_in, cells_then, IsInRange, Adds, refused_by, gone_beside, gone_of, PlansWithout};
+ghost use Rattle.round_core.specs.Left.{gives_in, first_in, give_in, answer_in, cells_then, IsInRange, Adds, refused_by, PlansWithout};
 
 use crate::{Answer, Refusal, Touch};
 use fetch_plan::{Cell, Plan, plan};
@@ -160,38 +160,6 @@ pub(crate) fn lowest_held(cells: &[Cell]) -> Option<usize>
         }
     }
     None
-}
-
-/// The relays whose offers of its id a cell leaves out of later plans: all where it is done, its own where it is missed.
-fn gone_relays(table: &OfferTable, cell: Cell, give: (Id, u16)) -> RelaySet
-    requires { give.1 < RELAYS }
-    ensures { result ≡ gone_beside table.now.offers cell give }
-{
-    match cell {
-        Cell::Done => table.offers(&give.0),
-        Cell::Missed => RelaySet::one(give.1),
-        _ => RelaySet::empty(),
-    }
-}
-
-/// What the cells of the last plan leave out of later ones: beside each of its ids those relays.
-pub(crate) fn left_out(
-    alloc: Global,
-    table: &OfferTable,
-    last: &Plan,
-    cells: &[Cell],
-) -> Result<Vec<(Id, RelaySet)>, AllocError>
-    requires { length last.now.gives ≤ length cells.now }
-    ensures gone { IfOk result (λ gone. gone.items ≡ gone_of table.now.offers last.now.gives cells.now) }
-    ensures ascend { IfOk result (λ gone. Ascend (map (λ o. o.0) gone.items)) }
-{
-    let first = cells.len() - last.len();
-    let mut gone = Vec::new(alloc);
-    for at in 0..last.len() {
-        let give = last.cell(at);
-        gone.push((give.0, gone_relays(table, cells[first + at], give)))?;
-    }
-    Ok(gone)
 }
 
 /// The plan of the table's offers without those that are gone. The table keeps them, so that it is as it was where

@@ -1,4 +1,4 @@
-use Rattle.mirror_core.proofs.Struck.{less_of, next_of, on_err}
+use Rattle.mirror_core.proofs.Left.{less_of, next_of, on_err}
 use Rattle.mirror_core.proofs.next.next_plan.Goals as goal
 
 pub returns-clause-planned : goal.returns-clause-planned

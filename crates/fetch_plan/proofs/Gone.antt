@@ -1,22 +1,18 @@
--- What the cells of a plan strike.
-use Rattle.std.proofs.Common.{◌≡◌, ℕ, zero, suc, ◌<◌, ◌==◌, true, false, Bool, ◌||◌, cond, not, ◌&&◌, List, [], ◌∷◌, ◌++◌, length, map, get_or, refl, sym, ap, ◌∙◌, arith, inl, inr, ◌⊎◌, Some, None}
-use Rattle.std.specs.Prelude.{unwrap_or, Result, Ok, Err, IfOk, OnErr}
-use Rattle.std.specs.declared.alloc.AllocError.{AllocError}
+-- What the cells of a plan leave out of later plans.
+use Rattle.std.proofs.Common.{◌≡◌, ℕ, zero, suc, ◌<◌, ◌==◌, ◌||◌, Bool, true, false, cond, List, [], ◌∷◌, ◌++◌, length, map, get_or, refl, sym, ap, ◌∙◌, arith, inl, inr, ◌⊎◌, Some, None}
+use Rattle.std.specs.Prelude.{unwrap_or}
 use Rattle.std.specs.declared.cmp.Ordering.TheVariants.{Less}
 use Rattle.std.specs.Ordering.{is_eq}
 use Rattle.std.proofs.lemmas.List.{map-append, get_or-map, length-map}
 use Rattle.std.proofs.lemmas.Map.Keys.{Less-from_sorted}
-use Rattle.std.proofs.lemmas.Bool.{false≢true, cases_lt, cases_eq, cases_Bool, and_parts, and_from, false_from_ne_true, not_from_false}
+use Rattle.std.proofs.lemmas.Bool.{false≢true, cases_lt, cases_eq, cases_Bool, and_parts, and_from}
 use Rattle.neg_codec.specs.declared.Id.{Id}
-use Rattle.sharing.specs.Bases.{base_of}
-use Rattle.sharing.specs.Sharing.{is_among, NoneSmaller}
-use Rattle.sharing.specs.Offers.{id_cmp, is_id, beside, relays_of, Ascend, IsOffers, StandsFor}
+use Rattle.sharing.specs.Sharing.{is_among}
+use Rattle.sharing.specs.Offers.{id_cmp, is_id, beside, relays_of, Ascend}
 use Rattle.sharing.proofs.Orders.{same_id, id_itself}
-use Rattle.fetch_plan.specs.Plan.{Planned, IsPlanOf}
 use Rattle.fetch_plan.specs.declared.cell.Cell.{Cell}
 use Rattle.fetch_plan.specs.declared.cell.Cell.TheVariants.{Free, Held, Done, Missed}
-use Rattle.fetch_plan.specs.LeftOut.{no_give, leaves_out, gone_beside, first_of}
-use Rattle.mirror_core.specs.Next.{IsLeft, IsLess, IsNextPlan, struck_of}
+use Rattle.fetch_plan.specs.LeftOut.{no_give, leaves_out, gone_beside, first_of, gone_of}
 
 or_false : (b : Bool) → (b || false) ≡ b
 or_false true = refl
@@ -77,38 +73,38 @@ found f (suc n) i =
       ]
     ]
 
--- ---- what one cell strikes
-strikes_id : (c : Cell) (g : Id × ℕ) (r : ℕ) (i : Id) → leaves_out c g r i ≡ true → is_id i g.0 ≡ true
-strikes_id Done g r i h = h
-strikes_id Missed g r i h = (and_parts (is_id i g.0) (r == g.1) h).0
-strikes_id Free g r i h = absurd (false≢true h)
-strikes_id (Held w) g r i h = absurd (false≢true h)
+-- ---- what one cell leaves out
+leaves_id : (c : Cell) (g : Id × ℕ) (r : ℕ) (i : Id) → leaves_out c g r i ≡ true → is_id i g.0 ≡ true
+leaves_id Done g r i h = h
+leaves_id Missed g r i h = (and_parts (is_id i g.0) (r == g.1) h).0
+leaves_id Free g r i h = absurd (false≢true h)
+leaves_id (Held w) g r i h = absurd (false≢true h)
 
-struck_strikes : (offers : List (Id × List ℕ)) (c : Cell) (g : Id × ℕ) (r : ℕ) (i : Id) → is_id i g.0 ≡ true → is_among (gone_beside offers c g) r ≡ true → leaves_out c g r i ≡ true
-struck_strikes offers Done g r i t h = t
-struck_strikes offers Missed g r i t h = and_from (is_id i g.0) (r == g.1) t (sym (or_false (r == g.1)) ∙ h)
-struck_strikes offers Free g r i t h = absurd (false≢true h)
-struck_strikes offers (Held w) g r i t h = absurd (false≢true h)
+gone_leaves : (offers : List (Id × List ℕ)) (c : Cell) (g : Id × ℕ) (r : ℕ) (i : Id) → is_id i g.0 ≡ true → is_among (gone_beside offers c g) r ≡ true → leaves_out c g r i ≡ true
+gone_leaves offers Done g r i t h = t
+gone_leaves offers Missed g r i t h = and_from (is_id i g.0) (r == g.1) t (sym (or_false (r == g.1)) ∙ h)
+gone_leaves offers Free g r i t h = absurd (false≢true h)
+gone_leaves offers (Held w) g r i t h = absurd (false≢true h)
 
-strikes_struck : (offers : List (Id × List ℕ)) (c : Cell) (g : Id × ℕ) (r : ℕ) (i : Id) → leaves_out c g r i ≡ true → is_among (relays_of offers i) r ≡ true → is_among (gone_beside offers c g) r ≡ true
-strikes_struck offers Done g r i h m = ap (λ (k : Id). is_among (relays_of offers k) r) (sym (same_id i g.0 h)) ∙ m
-strikes_struck offers Missed g r i h m = or_false (r == g.1) ∙ (and_parts (is_id i g.0) (r == g.1) h).1
-strikes_struck offers Free g r i h m = absurd (false≢true h)
-strikes_struck offers (Held w) g r i h m = absurd (false≢true h)
+leaves_gone : (offers : List (Id × List ℕ)) (c : Cell) (g : Id × ℕ) (r : ℕ) (i : Id) → leaves_out c g r i ≡ true → is_among (relays_of offers i) r ≡ true → is_among (gone_beside offers c g) r ≡ true
+leaves_gone offers Done g r i h m = ap (λ (k : Id). is_among (relays_of offers k) r) (sym (same_id i g.0 h)) ∙ m
+leaves_gone offers Missed g r i h m = or_false (r == g.1) ∙ (and_parts (is_id i g.0) (r == g.1) h).1
+leaves_gone offers Free g r i h m = absurd (false≢true h)
+leaves_gone offers (Held w) g r i h m = absurd (false≢true h)
 
--- ---- what all of them strike
+-- ---- what all of them leave out
 module _ (offers : List (Id × List ℕ)) (gives : List (Id × ℕ)) (cells : List Cell) where
-  pub struck_ids : map (λ o. o.0) (struck_of offers gives cells) ≡ map (λ g. g.0) gives
-  struck_ids = first_map (λ (o : Id × List ℕ). o.0) (λ k. ((get_or gives k no_give).0, gone_beside offers (get_or cells k Free) (get_or gives k no_give))) (length gives) ∙ first_get (λ (g : Id × ℕ). g.0) no_give gives
+  pub gone_ids : map (λ o. o.0) (gone_of offers gives cells) ≡ map (λ g. g.0) gives
+  gone_ids = first_map (λ (o : Id × List ℕ). o.0) (λ k. ((get_or gives k no_give).0, gone_beside offers (get_or cells k Free) (get_or gives k no_give))) (length gives) ∙ first_get (λ (g : Id × ℕ). g.0) no_give gives
 
   looked : (i : Id) → Found (λ k. ((get_or gives k no_give).0, gone_beside offers (get_or cells k Free) (get_or gives k no_give))) (length gives) i
   looked i = found (λ k. ((get_or gives k no_give).0, gone_beside offers (get_or cells k Free) (get_or gives k no_give))) (length gives) i
 
-  pub struck_from : (i : Id) (r : ℕ) → is_among (relays_of (struck_of offers gives cells) i) r ≡ true → (j : ℕ) × (j < length gives) × (leaves_out (get_or cells j Free) (get_or gives j no_give) r i ≡ true)
-  struck_from i r m =
+  pub gone_from : (i : Id) (r : ℕ) → is_among (relays_of (gone_of offers gives cells) i) r ≡ true → (j : ℕ) × (j < length gives) × (leaves_out (get_or cells j Free) (get_or gives j no_give) r i ≡ true)
+  gone_from i r m =
       elim (looked i) [
         | inl e ↦ absurd (false≢true (ap (λ o. is_among (unwrap_or o []) r) (sym e.1) ∙ m))
-        | inr e ↦ (e.0, e.1, struck_strikes offers (get_or cells e.0 Free) (get_or gives e.0 no_give) r i e.2 (sym (ap (λ o. is_among (unwrap_or o []) r) e.3) ∙ m))
+        | inr e ↦ (e.0, e.1, gone_leaves offers (get_or cells e.0 Free) (get_or gives e.0 no_give) r i e.2 (sym (ap (λ o. is_among (unwrap_or o []) r) e.3) ∙ m))
       ]
 
   less_apart : (j k : ℕ) → Ascend (map (λ g. g.0) gives) → j < k → k < length gives → (i : Id) → is_id i (get_or gives j no_give).0 ≡ true → is_id i (get_or gives k no_give).0 ≡ true → ⊥
@@ -130,47 +126,14 @@ module _ (offers : List (Id × List ℕ)) (gives : List (Id × ℕ)) (cells : Li
         ]
       ]
 
-  pub struck_has : (j : ℕ) (i : Id) (r : ℕ) → Ascend (map (λ g. g.0) gives) → j < length gives → leaves_out (get_or cells j Free) (get_or gives j no_give) r i ≡ true → is_among (relays_of offers i) r ≡ true → is_among (relays_of (struck_of offers gives cells) i) r ≡ true
-  struck_has j i r ascend lt leaves m =
-      let t : is_id i (get_or gives j no_give).0 ≡ true = strikes_id (get_or cells j Free) (get_or gives j no_give) r i leaves in
+  pub gone_has : (j : ℕ) (i : Id) (r : ℕ) → Ascend (map (λ g. g.0) gives) → j < length gives → leaves_out (get_or cells j Free) (get_or gives j no_give) r i ≡ true → is_among (relays_of offers i) r ≡ true → is_among (relays_of (gone_of offers gives cells) i) r ≡ true
+  gone_has j i r ascend lt leaves m =
+      let t : is_id i (get_or gives j no_give).0 ≡ true = leaves_id (get_or cells j Free) (get_or gives j no_give) r i leaves in
       elim (looked i) [
         | inl e ↦ absurd (false≢true (sym (e.0 j lt) ∙ t))
         | inr e ↦
             (let same : e.0 ≡ j = apart e.0 j ascend e.1 lt i e.2 t in
             ap (λ o. is_among (unwrap_or o []) r) e.3
             ∙ ap (λ k. is_among (gone_beside offers (get_or cells k Free) (get_or gives k no_give)) r) same
-            ∙ strikes_struck offers (get_or cells j Free) (get_or gives j no_give) r i leaves m)
+            ∙ leaves_gone offers (get_or cells j Free) (get_or gives j no_give) r i leaves m)
       ]
-
--- The offers but those that are struck are just those that are left.
-pub left_of : (old new : List (Id × List ℕ)) (gives : List (Id × ℕ)) (cells : List Cell) → IsOffers new → Ascend (map (λ g. g.0) gives)
-    → ((i : Id) (r : ℕ) → is_among (relays_of new i) r ≡ (is_among (relays_of old i) r && not (is_among (relays_of (struck_of old gives cells) i) r)))
-    → StandsFor new (IsLeft old gives cells)
-left_of old new gives cells ok ascend left = record {
-  ordered = ok;
-  sound = λ r i m. (
-      let parts : (is_among (relays_of old i) r ≡ true) × (not (is_among (relays_of (struck_of old gives cells) i) r) ≡ true) = and_parts (is_among (relays_of old i) r) (not (is_among (relays_of (struck_of old gives cells) i) r)) (sym (left i r) ∙ m) in
-      record {
-        offered = parts.0;
-        kept = λ k lt. false_from_ne_true _ (λ e. false≢true (sym (ap not (struck_has old gives cells k i r ascend lt e parts.0)) ∙ parts.1));
-      });
-  whole = λ r i s. (
-      let gone : is_among (relays_of (struck_of old gives cells) i) r ≡ false = false_from_ne_true _ (λ e.
-      (let x = struck_from old gives cells i r e in
-      false≢true (sym (s.kept x.0 x.1) ∙ x.2))) in
-      left i r ∙ and_from (is_among (relays_of old i) r) (not (is_among (relays_of (struck_of old gives cells) i) r)) s.offered (not_from_false _ gone));
-}
-
-pub less_of : (old new : List (Id × List ℕ)) (gives : List (Id × ℕ)) (cells : List Cell) → StandsFor new (IsLeft old gives cells) → IsLess old gives cells new
-less_of old new gives cells s = record { sound = λ r i m. (s.sound r i m).offered; whole = s.whole }
-
-pub less_none : (offers : List (Id × List ℕ)) (gives : List (Id × ℕ)) (cells : List Cell) → IsLess offers gives cells offers
-less_none offers gives cells = record { sound = λ r i m. m; whole = λ r i s. s.offered }
-
-pub next_of : (bases : List ℕ) (old new : List (Id × List ℕ)) (gives : List (Id × ℕ)) (cells : List Cell) (result : Result Planned AllocError) → StandsFor new (IsLeft old gives cells) → IfOk result (IsPlanOf bases new) → IfOk result (λ plan. NoneSmaller (base_of bases) new plan.least_max) → IfOk result (IsNextPlan bases old gives cells new)
-next_of bases old new gives cells (Ok plan) s planned least = record { left = s; planned = planned; least = least }
-next_of bases old new gives cells (Err e) s planned least = tt
-
-pub on_err : {X : Type 0} (result : Result Planned AllocError) → X → OnErr result X
-on_err (Ok plan) x = tt
-on_err (Err e) x = x
