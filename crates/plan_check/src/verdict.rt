@@ -12,7 +12,6 @@ ghost use Rattle.plan_check.specs.Verdict.{given_load, IsSharedOut, GroupShows, 
 use crate::{PlanFault, PlanFile};
 use neg_codec::Id;
 use sharing::SLOTS;
-use std::cmp::Ordering;
 
 /// Whether this relay is among these.
 fn is_one_of(relays: &[u16], relay: u16) -> bool
@@ -29,17 +28,10 @@ fn relays_at<'a>(offers: &'a [(Id, Vec<u16>)], place: usize, id: &Id) -> Option<
     if place < offers.len() && id.cmp(&offers[place].0).is_eq() {
         return Some(&offers[place].1);
     }
-    let mut low = 0;
-    let mut high = offers.len();
-    while low < high {
-        let middle = low + (high - low) / 2;
-        match id.cmp(&offers[middle].0) {
-            Ordering::Less => high = middle,
-            Ordering::Equal => return Some(&offers[middle].1),
-            Ordering::Greater => low = middle + 1,
-        }
+    match offers.binary_search_by_key(id, |offer| offer.0) {
+        Ok(found) => Some(&offers[found].1),
+        Err(_) => None,
     }
-    None
 }
 
 /// Whether an id is among the gives, where it is looked for at this place first.
@@ -50,17 +42,7 @@ fn is_given(gives: &[(Id, u16)], place: usize, id: &Id) -> bool
     if place < gives.len() && id.cmp(&gives[place].0).is_eq() {
         return true;
     }
-    let mut low = 0;
-    let mut high = gives.len();
-    while low < high {
-        let middle = low + (high - low) / 2;
-        match id.cmp(&gives[middle].0) {
-            Ordering::Less => high = middle,
-            Ordering::Equal => return true,
-            Ordering::Greater => low = middle + 1,
-        }
-    }
-    false
+    gives.binary_search_by_key(id, |give| give.0).is_ok()
 }
 
 /// Whether an offered id is given to a relay that does not offer it. The offer is looked for at this place first.

@@ -1,28 +1,31 @@
-use Rattle.std.proofs.Common.{◌+◌, ◌-◌, ◌/◌, ℕ, sym, ap, ◌∙◌, arith}
-use Rattle.std.specs.Prelude.{is_some}
-use Rattle.sharing.proofs.Orders.{is_equal}
-use Rattle.sharing.proofs.Searched.{go_down, go_up, found_at, not_found}
+use Rattle.std.proofs.Common.{◌≡◌, ℕ, List, [], Result, Some, None, get_or, rules, sym, ap, ◌∙◌}
+use Rattle.std.specs.Prelude.{MatchResult, is_some, is_ok, Ok, Err}
+use Rattle.std.specs.Ordering.{is_eq}
+use Rattle.std.proofs.lemmas.List.Sorted.{answers_always}
+use Rattle.neg_codec.specs.declared.Id.{Id}
+use Rattle.sharing.specs.Offers.{beside}
+use Rattle.sharing.proofs.Orders.{same_id}
+use Rattle.sharing.proofs.Looks.{found_itself}
+use Rattle.sharing.proofs.Searched.{looked}
 use Rattle.plan_check.proofs.verdict.is_given.Goals as goal
 
-pub loop-low-preserved-in-Less : goal.loop-low-preserved-in-Less
-loop-low-preserved-in-Less c =
-    let middle : ℕ = c.loop-low.low + (c.loop-low.high - c.loop-low.low) / 2 in
-    go_down 0 c.args.gives.now c.args.id.now c.loop-low.low c.loop-low.high middle c.loop-low.invariant c.requires (omega arith) (omega (arith, c.loop-low-test.true)) (sym c.cmp-in-loop-low.ensures ∙ c.in-Less.is)
+abbrev id_of : Id × ℕ → Id
+id_of g = g.0
 
-pub loop-low-preserved : goal.loop-low-preserved
-loop-low-preserved c =
-    let middle : ℕ = c.loop-low.low + (c.loop-low.high - c.loop-low.low) / 2 in
-    go_up 0 c.args.gives.now c.args.id.now c.loop-low.low c.loop-low.high middle c.loop-low.invariant c.requires (omega arith) (omega (arith, c.loop-low-test.true)) (sym c.cmp-in-loop-low.ensures ∙ c.in-Greater.is)
-
-pub returns-in-Equal : goal.returns-in-Equal
-returns-in-Equal c =
-    let middle : ℕ = c.loop-low.low + (c.loop-low.high - c.loop-low.low) / 2 in
-    sym (ap is_some (found_at 0 c.args.gives.now c.args.id.now middle c.requires (omega (arith, c.loop-low-test.true, c.loop-low.invariant.within)) (sym c.cmp-in-loop-low.ensures ∙ c.in-Equal.is)))
+-- a search answers Ok where the id is among the gives
+told : (gives : List (Id × ℕ)) (id : Id) (r : Result ℕ ℕ) → MatchResult r (λ i. (d : Id × ℕ) → beside gives id ≡ Some (get_or gives i d).1) (λ i. beside gives id ≡ None) → is_ok r ≡ is_some (beside gives id)
+told gives id (Ok i) found = sym (ap is_some (found (id, 0)))
+told gives id (Err i) none = sym (ap is_some none)
 
 pub returns : goal.returns
-returns c = sym (ap is_some (not_found 0 c.args.gives.now c.args.id.now c.loop-low.low c.loop-low.high c.loop-low.invariant c.loop-low-test.false))
+returns c =
+    let e = c.binary_search_by_key.ensures in
+    c.is_ok.ensures.value ∙ told c.args.gives.now c.args.id.now c.binary_search_by_key.result (looked 0 c.args.gives.now c.requires c.args.id.now c.binary_search_by_key.result e.bound (e.position id_of (answers_always _ _ _ (λ f a r g called. search rules))))
 
 pub returns-then-is_eq : goal.returns-then-is_eq
 returns-then-is_eq c =
-    let is = is_equal c.cmp.result (sym c.is_eq.ensures ∙ c.if-is_eq.true) in
-    sym (ap is_some (found_at 0 c.args.gives.now c.args.id.now c.args.place c.requires c.if-place-gives.true (sym c.cmp.ensures ∙ is)))
+    let gives = c.args.gives.now in
+    let place : ℕ = c.args.place in
+    let none : Id × ℕ = (record { 0 = [] }, 0) in
+    let same = same_id c.args.id.now (get_or gives place none).0 (ap is_eq (sym c.cmp.ensures) ∙ sym c.is_eq.ensures ∙ c.if-is_eq.true) in
+    sym (ap is_some (ap (beside gives) same ∙ found_itself gives c.requires place none c.if-place-gives.true))
