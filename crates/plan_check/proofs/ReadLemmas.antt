@@ -1,5 +1,5 @@
 -- What a text is read as.
-use Rattle.std.proofs.Common.{◌≡◌, ◌≢◌, ◌⊎◌, ◌<◌, ◌≤◌, ◌-◌, ◌++◌, [], append_assoc, take, ℕ, inl, inr, List, length, drop, Option, Some, None, Result, Ok, Err, refl, ap, sym, ◌∙◌, subst, arith, take-append-drop}
+use Rattle.std.proofs.Common.{◌≡◌, ◌<◌, ◌≤◌, ◌-◌, ◌++◌, append_assoc, take, ℕ, inl, inr, List, length, drop, Some, None, Ok, Err, refl, ap, sym, ◌∙◌, subst, arith, take-append-drop}
 use Rattle.std.proofs.lemmas.Bool.{cases_lt}
 use Rattle.plan_check.specs.declared.faults.PlanFault.{PlanFault}
 use Rattle.plan_check.specs.declared.faults.PlanFault.TheVariants.{Line, Order, NotOffered, Missing, Stranger, GroupTooSmall, Memory}
@@ -8,7 +8,7 @@ use Rattle.plan_check.specs.Lines.{misplaced_at, misplaced_fault}
 use Rattle.plan_check.specs.TextLines.{lines_of}
 use Rattle.plan_check.specs.PlanText.{plan_lines, plan_text, IsOfForm, IsTextOf}
 use Rattle.std.proofs.lemmas.List.{take-take}
-use Rattle.plan_check.specs.PlanReading.{Begins, IsFirstWrong, IsOutOfOrder, IsTextFault, Reads, RoundTrip, OneFault}
+use Rattle.plan_check.specs.PlanReading.{Begins, IsFirstWrong, IsOutOfOrder, IsTextFault, RoundTrip, OneFault}
 use Rattle.plan_check.proofs.InOrder.{in_order}
 use Rattle.plan_check.proofs.TextLemmas.{lines_of-plan}
 use Rattle.plan_check.proofs.OneText.{one_file_each}

@@ -7,9 +7,9 @@ use Rattle.sharing.specs.Offers.{id_cmp}
 use Rattle.plan_check.specs.declared.faults.PlanFault.{PlanFault}
 use Rattle.plan_check.specs.declared.faults.PlanFault.TheVariants.{Order}
 use Rattle.plan_check.specs.File.{File}
-use Rattle.plan_check.specs.Lines.{first_out, first_place, rises, misplaced_at, misplaced_fault, malformed_at, number_of}
+use Rattle.plan_check.specs.Lines.{first_out, first_place, rises, misplaced_at, misplaced_fault, number_of}
 use Rattle.plan_check.specs.TextLines.{lines_of, ended, FirstIsNot}
-use Rattle.plan_check.specs.PlanText.{header_line, give_line, plan_lines, plan_text, IsGive, IsOfForm, IsTextOf}
+use Rattle.plan_check.specs.PlanText.{header_line, give_line, plan_text, IsGive, IsOfForm, IsTextOf}
 use Rattle.plan_check.specs.PlanParts.{IsHead, AreOfferLines, AreGiveLines, IsBaseLine, IsOfferLine, IsGiveLine, IsGroupLine, IsTail}
 use Rattle.plan_check.specs.PlanReading.{IsFirstWrong, IsOutOfOrder, IsTextFault}
 use Rattle.plan_check.proofs.Files.{file_ok, risen, gives_ascend, place_same}

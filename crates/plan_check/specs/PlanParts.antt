@@ -7,7 +7,7 @@ use Rattle.sharing.specs.declared.TheConstants.{RELAYS}
 use Rattle.sharing.specs.Offers.{id_cmp, Ascend, AreRelays}
 use Rattle.plan_check.specs.File.{IsBase}
 use Rattle.plan_check.specs.Lines.{first_out, rises}
-use Rattle.plan_check.specs.TextLines.{lines_of, ended, FirstIsNot}
+use Rattle.plan_check.specs.TextLines.{ended, FirstIsNot}
 use Rattle.plan_check.specs.PlanText.{relays_text, header_line, base_line, offer_line, give_line, group_line, IsOffer, IsGive}
 
 -- nothing is left, or a space comes

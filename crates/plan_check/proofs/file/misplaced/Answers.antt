@@ -1,9 +1,7 @@
-use Rattle.std.proofs.Common.{◌≡◌, ◌||◌, not, true, ℕ, None, Vec, Global, length, ap, sym, ◌∙◌, arith}
-use Rattle.std.specs.Prelude.{nat_lt}
+use Rattle.std.proofs.Common.{true, ℕ, None, Vec, Global, ap, ◌∙◌}
 use Rattle.std.specs.Ordering.{nat_cmp}
-use Rattle.sharing.specs.declared.TheConstants.{RELAYS}
 use Rattle.sharing.specs.Offers.{id_cmp}
-use Rattle.plan_check.specs.Lines.{first_at, first_out, first_place, is_base, is_empty, are_relays, rises}
+use Rattle.plan_check.specs.Lines.{first_out, rises}
 use Rattle.plan_check.proofs.Files.{misplaced_is, place_same}
 use Rattle.plan_check.proofs.file.misplaced.Goals as goal
 

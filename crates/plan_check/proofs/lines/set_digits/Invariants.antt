@@ -1,4 +1,4 @@
-use Rattle.std.proofs.Common.{◌≡◌, ◌+◌, ◌<◌, ◌≤◌, ◌^◌, ◌++◌, length, drop, decimal}
+use Rattle.std.proofs.Common.{◌≡◌, ◌+◌, ◌<◌, ◌^◌, ◌++◌, length, drop, decimal}
 use Rattle.plan_check.proofs.lines.set_digits.Given as goal
 
 abbrev pub invariant-loop-rest : goal.invariant-loop-rest

@@ -1,4 +1,4 @@
-use Rattle.std.proofs.Common.{◌≡◌, ◌&&◌, Bool, true, false, refl, sym, ◌∙◌, arith}
+use Rattle.std.proofs.Common.{◌≡◌, ◌&&◌, Bool, true, false, refl, ◌∙◌, arith}
 use Rattle.plan_check.specs.File.{IsBase}
 use Rattle.plan_check.specs.PlanText.{base_line}
 use Rattle.plan_check.proofs.Runs.{passed_none, passed_more, run_of, note_within}

@@ -1,12 +1,9 @@
-use Rattle.std.proofs.Common.{ℕ, ◌+◌, ◌<◌, ◌≤◌, List, true, length, All}
+use Rattle.std.proofs.Common.{ℕ, ◌+◌, ◌<◌, ◌≤◌, true, length}
 use Rattle.std.specs.Prelude.{IfSome}
-use Rattle.std.specs.Ordering.{nat_cmp}
 use Rattle.neg_codec.specs.declared.Id.{Id}
 use Rattle.sharing.specs.Offers.{id_cmp}
-use Rattle.plan_check.specs.File.{IsBase}
-use Rattle.plan_check.specs.Lines.{rises}
 use Rattle.plan_check.specs.TextLines.{lines_of}
-use Rattle.plan_check.specs.PlanText.{base_line, offer_line, give_line, IsOffer, IsGive}
+use Rattle.plan_check.specs.PlanText.{give_line, IsGive}
 use Rattle.plan_check.proofs.Runs.{Passed}
 use Rattle.plan_check.proofs.scanning.scan_gives.Given as goal
 

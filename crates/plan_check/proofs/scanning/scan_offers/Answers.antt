@@ -1,4 +1,4 @@
-use Rattle.std.proofs.Common.{◌≡◌, ◌&&◌, ap, ◌∙◌, arith}
+use Rattle.std.proofs.Common.{◌&&◌, ap, ◌∙◌, arith}
 use Rattle.sharing.specs.Offers.{id_cmp}
 use Rattle.plan_check.specs.Lines.{is_behind}
 use Rattle.plan_check.specs.PlanText.{offer_line, IsOffer}

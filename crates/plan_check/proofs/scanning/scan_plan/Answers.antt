@@ -1,7 +1,3 @@
-use Rattle.std.proofs.Common.{ℕ, List, ◌≡◌, length, IfOk, IfErr, subst, ap, sym}
-use Rattle.plan_check.specs.File.{File}
-use Rattle.plan_check.specs.PlanText.{IsTextOf}
-use Rattle.plan_check.specs.PlanReading.{IsTextFault}
 use Rattle.plan_check.proofs.Scanned.{only_count, only_fault}
 use Rattle.plan_check.proofs.scanning.scan_plan.Goals as goal
 

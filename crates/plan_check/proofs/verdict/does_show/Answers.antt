@@ -1,10 +1,8 @@
-use Rattle.std.proofs.Common.{◌≡◌, ◌+◌, ◌-◌, ◌*◌, ◌<◌, ℕ, length, get_or, ap, ◌∙◌, inl, inr, arith}
+use Rattle.std.proofs.Common.{◌≡◌, ◌-◌, ◌*◌, ◌<◌, ℕ, length, get_or, ap, ◌∙◌, inl, inr, arith}
 use Rattle.std.specs.Prelude.{sum_by}
 use Rattle.std.proofs.lemmas.Bool.{ltb-true, lt-ltb}
 use Rattle.std.proofs.lemmas.Bool.Decides.{nat_tests}
-use Rattle.sharing.specs.Sharing.{alone}
 use Rattle.sharing.specs.Bases.{base_in}
-use Rattle.plan_check.specs.File.{pairs_of}
 use Rattle.plan_check.proofs.Given.{sum_same}
 use Rattle.plan_check.proofs.verdict.does_show.Goals as goal
 

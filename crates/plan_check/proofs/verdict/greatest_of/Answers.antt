@@ -1,4 +1,4 @@
-use Rattle.std.proofs.Common.{◌≡◌, ℕ, refl, sym, ap, ◌∙◌, get_or, inl, inr, arith}
+use Rattle.std.proofs.Common.{ℕ, refl, ap, get_or, inl, inr, arith}
 use Rattle.std.proofs.lemmas.List.{get_or_past}
 use Rattle.std.proofs.lemmas.Bool.{cases_eq, cases_lt}
 use Rattle.plan_check.proofs.verdict.greatest_of.Goals as goal

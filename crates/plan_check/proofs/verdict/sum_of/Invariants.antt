@@ -1,4 +1,4 @@
-use Rattle.std.proofs.Common.{◌≡◌, ◌*◌, ◌≤◌, ◌^◌, ℕ, take, get_or}
+use Rattle.std.proofs.Common.{◌≡◌, ◌*◌, ◌≤◌, ◌^◌, take, get_or}
 use Rattle.std.specs.Prelude.{sum_by}
 use Rattle.plan_check.proofs.verdict.sum_of.Given as goal
 

@@ -1,4 +1,4 @@
-use Rattle.std.proofs.Common.{◌<◌, ◌^◌, sym, ◌∙◌, arith}
+use Rattle.std.proofs.Common.{sym, ◌∙◌, arith}
 use Rattle.plan_check.proofs.NumberLemmas.{same_number}
 use Rattle.plan_check.proofs.words.cut_load.Goals as goal
 
