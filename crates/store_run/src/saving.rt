@@ -15,7 +15,8 @@ use std::thread::Threads;
 /// So many bytes of the file are read at once.
 const READ: usize = 1 << 16;
 
-/// Puts the events of the file at a path into a store. A file that isn't there has none.
+/// Puts the events of the file at a path into a store. A file that isn't there has none, and pipes and devices, which may have no
+/// end, aren't read.
 fn fill<J: Naming, D: Wait + Drop, R: Threads + Wait + Sync + Files<File = File>>(
     rt: &R,
     alloc: Global,
@@ -23,6 +24,10 @@ fn fill<J: Naming, D: Wait + Drop, R: Threads + Wait + Sync + Files<File = File>
     reader: &mut Reader<J>,
     path: &str,
 ) -> Result<(), Refusal> {
+    match fs::metadata(rt, path) {
+        Ok(found) if !found.is_file() && !found.is_dir() => return Ok(()),
+        _ => {}
+    }
     let file = match fs::open(rt, path) {
         Ok(file) => file,
         Err(error) if error.kind() == ErrorKind::NotFound => return Ok(()),
