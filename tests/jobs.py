@@ -396,6 +396,15 @@ def no_other_file_is_written(path, folder):
     same(done(path, "serve", conf), (1, "", "refused: write\n"))
 
 
+def what_may_have_no_end_is_not_read(path, folder):
+    """A pipe that nobody writes into, a device that goes on for ever, and a folder, are refused at once."""
+    pipe = os.path.join(folder, "it.jsonl")
+    os.mkfifo(pipe)
+    for events, told in [(pipe, "write"), ("/dev/zero", "write"), (folder, "read")]:
+        conf = settings(folder, "it", events=events, listen="127.0.0.1:0", conns=1)
+        same((events, *done(path, "serve", conf)), (events, 1, "", "refused: %s\n" % told))
+
+
 def a_missing_folder_is_told_first(path, folder):
     """Nothing is listened on, since that would be refused, and no relay is connected to."""
     events = os.path.join(folder, "none", "it.jsonl")
@@ -424,7 +433,8 @@ def main():
                  two_workers_fetch_side_by_side, what_is_no_event_asked_for_is_missed, a_client_learns_what_it_lacks,
                  connections_wait_for_descriptors, hosts_have_names, refusals_say_what_and_where,
                  long_files_are_read_piece_by_piece, the_first_wrong_line_is_told, one_run_has_an_events_file,
-                 no_other_file_is_written, a_missing_folder_is_told_first, wrong_settings_are_told):
+                 no_other_file_is_written, what_may_have_no_end_is_not_read, a_missing_folder_is_told_first,
+                 wrong_settings_are_told):
         with tempfile.TemporaryDirectory() as folder:
             part(path, folder)
         print(part.__name__.replace("_", " "))
