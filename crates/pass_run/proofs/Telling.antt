@@ -1,5 +1,6 @@
 -- Lines put one behind another.
-use Rattle.std.proofs.Common.{◌≡◌, ◌+◌, ◌++◌, [], ◌∷◌, ◌∙◌, ℕ, List, Option, Some, None, Bool, false, All, length, fold, refl, sym, ap, subst, arith, flat_map}
+use Rattle.std.proofs.Common.{◌≡◌, ◌+◌, ◌-◌, ◌^◌, ◌++◌, [], ◌∷◌, ◌∙◌, ℕ, List, Option, Some, None, Bool, false, All, length, fold, refl, sym, ap, subst, arith, flat_map}
+use Rattle.std.specs.Prelude.{unwrap_or}
 use Rattle.std.specs.List.{enumerate_from}
 use Rattle.std.proofs.lemmas.List.{append_assoc, append-nil, length_push}
 use Rattle.std.proofs.lemmas.List.Sums.{fold_push}
@@ -78,8 +79,9 @@ one_more_told settings old mid new count before after p number told one is short
       (append_both old mid new (flat_map pass_text_of (enumerate_from 1 told.passes)) (told_text number p) told.printed one.printed);
 }
 
-pub all_told : (settings : Settings) (old new : Option (List ℕ)) (count : ℕ) (short : Bool) → AreTold settings old new count short → TellsPasses settings old new short
-all_told settings old new count short told = record { passes = told.passes; each = told.each; short_is = told.short_is; printed = told.printed }
+pub all_told : (settings : Settings) (old new : Option (List ℕ)) (count : ℕ) (short : Bool) → AreTold settings old new count short
+    → count ≡ unwrap_or settings.mirroring.passes (2 ^ 64 - 1) → TellsPasses settings old new short
+all_told settings old new count short told all = record { passes = told.passes; as_many = told.count_is ∙ all; each = told.each; short_is = told.short_is; printed = told.printed }
 
 -- a pass, and its line
 pub tells_pass : (settings : Settings) (old mid new : Option (List ℕ)) (number level relays millis : ℕ) (tally : Tally) → ToldPass settings old mid tally

@@ -1,5 +1,5 @@
 -- What a pass over slices of time comes to, and what is told of it.
-use Rattle.std.specs.Prelude.{◌≡◌, ℕ, ◌+◌, ◌⊎◌, Bool, false, ◌||◌, nat_lt, List, ◌++◌, length, map, flat_map, fold, Option, All}
+use Rattle.std.specs.Prelude.{◌≡◌, ℕ, ◌+◌, ◌⊎◌, Bool, false, ◌||◌, nat_lt, List, ◌++◌, length, map, flat_map, fold, Option, All, ◌-◌, ◌^◌, unwrap_or}
 use Rattle.std.specs.List.{sum_by, enumerate_from}
 use Rattle.std.specs.Io.KnownBytes.{Appends}
 use Rattle.nostr_event.specs.EventView.{EventView}
@@ -154,9 +154,10 @@ pub record TellsPass (settings : Settings) (number : ℕ) (old new : Option (Lis
   pub is_pass : IsPassOf settings told
   pub printed : Appends old new (told_text number told)
 
--- Passes were told, numbered from 1 on.
+-- Passes were told, numbered from 1 on: as many as the settings say, and 2^64-1, more than there is time for, where they don't.
 pub record TellsPasses (settings : Settings) (old new : Option (List ℕ)) (short : Bool) : Type 0 where
   pub passes : List Told
+  pub as_many : length passes ≡ unwrap_or settings.mirroring.passes (2 ^ 64 - 1)
   pub each : All (IsPassOf settings) passes
   pub short_is : short ≡ last_falls_short passes
   pub printed : Appends old new (flat_map (λ p. told_text p.0 p.1) (enumerate_from 1 passes))

@@ -1,4 +1,5 @@
-use Rattle.std.proofs.Common.{◌≡◌, ◌+◌, ◌∙◌, arith}
+use Rattle.std.proofs.Common.{◌≡◌, ◌+◌, ◌-◌, ◌^◌, ◌∙◌, arith}
+use Rattle.std.specs.Prelude.{unwrap_or}
 use Rattle.pass_run.specs.Passes.{falls_short}
 use Rattle.pass_run.proofs.Telling.{none_told, one_more_told, all_told}
 use Rattle.pass_run.proofs.passes.run_passes.Goals as goal
@@ -14,4 +15,6 @@ loop-number-preserved g c =
     one_more_told _ _ _ _ _ _ _ one.0 c.saturating_add-pass.result c.loop-number.invariant one.1 number short
 
 pub returns : goal.returns
-returns g c = all_told _ _ _ _ _ c.loop-number.invariant
+returns g c =
+    let all : c.loop-number.number ≡ unwrap_or c.args.settings.now.mirroring.passes (2 ^ 64 - 1) = omega (arith, c.loop-number-test.false, c.loop-number.auto.number-end, c.unwrap_or-most.ensures) in
+    all_told _ _ _ _ _ c.loop-number.invariant all
