@@ -6,11 +6,12 @@ ghost use Rattle.mirror_app.specs.Jobs.{settled, levelled};
 use crate::jobs::End;
 use level_run::run_mirror;
 use serve_run::run_serve;
-use session_run::{Host, Progress};
+use session_run::Progress;
 use std::alloc::Global;
 use std::fs::File;
 use std::io::{ErrorKind, Write};
 use std::net::{Net, TcpListener, TcpStream};
+use std::random::RandomSource;
 use std::rt::{Clock, Files};
 use std::sync::Wait;
 use std::thread::Threads;
@@ -58,7 +59,14 @@ pub fn serve<
 
 /// Synchronises by the settings of the file at a path.
 pub fn sync<
-    R: Host + Files<File = File> + AllocGlobal,
+    R: Net<Listener = TcpListener, Stream = TcpStream>
+        + RandomSource
+        + Threads
+        + Wait
+        + Files<File = File>
+        + Clock
+        + AllocGlobal
+        + Sync,
     W: Write,
     P: Write + Send,
     E: Write + Send + Drop,
@@ -78,7 +86,14 @@ pub fn sync<
 
 /// Keeps a store level by the settings of the file at a path, and tells whether a relay failed or an id is left in the end.
 pub fn mirror<
-    R: Host + Files<File = File> + AllocGlobal,
+    R: Net<Listener = TcpListener, Stream = TcpStream>
+        + RandomSource
+        + Threads
+        + Wait
+        + Files<File = File>
+        + Clock
+        + AllocGlobal
+        + Sync,
     W: Write,
     P: Write + Send,
     E: Write + Send + Drop,
