@@ -1,4 +1,5 @@
-// What sessions need of the machine that they run on.
+//! What sessions need of the machine that they run on.
+
 use std::net::{Net, TcpListener, TcpStream};
 use std::random::RandomSource;
 use std::rt::Clock;
