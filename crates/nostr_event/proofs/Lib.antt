@@ -8,3 +8,4 @@ pub mod Utf8
 pub mod Bytes
 pub mod Plain
 pub mod Halves
+pub mod Parting

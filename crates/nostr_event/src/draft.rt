@@ -1,5 +1,6 @@
 // What an event says.
-use crate::texts::{Tags, Text};
+use crate::tags::Tags;
+use crate::texts::Text;
 
 /// How control characters that have no short escape stand in an id's text.
 #[derive(Clone, Copy, Debug, PartialEq, Eq)]

@@ -1,5 +1,5 @@
 // The fields of an event's object.
-ghost use Rattle.std.specs.Prelude.{◌≡◌, ◌⊎◌, List, ℕ, IfOk, IfErr, OnOk, unwrap_or, option_map, nat_lt, ◌<◌, Some, is_some, true, false, is_ok, codes};
+ghost use Rattle.std.specs.Prelude.{◌≡◌, map, ◌⊎◌, List, ℕ, IfOk, IfErr, OnOk, unwrap_or, option_map, nat_lt, ◌<◌, Some, is_some, true, false, is_ok, codes};
 ghost use Rattle.std.specs.List.{list_all};
 ghost use Rattle.serde_json.specs.Data.{string, number, array, unsigned};
 ghost use Rattle.serde_json.specs.Find.{get, as_str, as_array, as_u64};
@@ -7,7 +7,7 @@ ghost use Rattle.serde_json.specs.View.{view, number_view, items_view};
 ghost use Rattle.nostr_event.specs.EventJson.{is_text_at, is_number_at, is_tags_at, is_tag, are_texts, are_tags, tag_items, tags_items, HasShapes, Refuses};
 
 use crate::fault::{EventFault, EventField};
-use crate::texts::{Tag, Tags, Text};
+use crate::tags::Tags;
 use serde_json::{Number, Value};
 use std::alloc::{AllocError, Global};
 
@@ -75,66 +75,60 @@ fn has_tags(value: &Value) -> bool
     }
 }
 
-// The text of a string.
-fn text_of(value: Value) -> Option<Text>
-    ensures { result ≡ as_str (view value) }
-{
-    match value {
-        Value::String(text) => Some(Text::new(text)),
-        _ => None,
-    }
-}
-
 // The values of an array.
-fn values_of(value: Value) -> Option<Vec<Value>>
-    ensures { option_map (λ values. items_view values.items) result ≡ as_array (view value) }
+fn values_of(value: &Value) -> &[Value]
+    requires { is_some (as_array (view value.now)) ≡ true }
+    ensures { as_array (view value.now) ≡ Some (items_view result.now) }
 {
-    match value {
-        Value::Array(values) => Some(values),
-        _ => None,
+    match value.as_array() {
+        Some(values) => values.as_slice(),
+        None => unreachable!(),
     }
 }
 
-// The tag of an array of strings, whose texts it takes.
-fn tag_of(alloc: Global, values: Vec<Value>) -> Result<Tag, AllocError>
-    requires { are_texts (items_view values.items) ≡ true }
-    ensures { IfOk result (λ t. items_view values.items ≡ tag_items t) }
+// The text of a string.
+fn text_of(value: &Value) -> &str
+    requires { is_some (as_str (view value.now)) ≡ true }
+    ensures { as_str (view value.now) ≡ Some result.now }
+{
+    match value.as_str() {
+        Some(text) => text,
+        None => unreachable!(),
+    }
+}
+
+// The texts of strings.
+fn texts_of(alloc: Global, values: &[Value]) -> Result<Vec<&str>, AllocError>
+    requires { are_texts (items_view values.now) ≡ true }
+    ensures { IfOk result (λ texts. items_view values.now ≡ tag_items (map (λ t. t.now) texts.items)) }
 {
     let mut texts = Vec::with_capacity(alloc, values.len())?;
     for value in values {
-        let Some(text) = text_of(value) else {
-            unreachable!();
-        };
-        texts.push(text)?;
+        texts.push(text_of(value))?;
     }
-    Ok(Tag::new(texts))
+    Ok(texts)
 }
 
-// The tags of an array of arrays of strings, whose texts they take.
-fn tags_of(alloc: Global, values: Vec<Value>) -> Result<Tags, AllocError>
-    requires { are_tags (items_view values.items) ≡ true }
-    ensures { IfOk result (λ t. items_view values.items ≡ tags_items t) }
+// The tags of arrays of strings.
+fn tags_in(alloc: Global, values: &[Value]) -> Result<Tags, AllocError>
+    requires { are_tags (items_view values.now) ≡ true }
+    ensures { IfOk result (λ t. items_view values.now ≡ tags_items t) }
 {
-    let mut tags = Vec::with_capacity(alloc, values.len())?;
+    let mut tags = Tags::new(alloc);
     for value in values {
-        let Some(texts) = values_of(value) else {
-            unreachable!();
-        };
-        tags.push(tag_of(alloc, texts)?)?;
+        let texts = texts_of(alloc, values_of(value))?;
+        tags = tags.with(texts.as_slice())?;
     }
-    Ok(Tags::new(tags))
+    Ok(tags.fitted())
 }
 
-// The tags of the field `tags`, whose texts they take.
-pub fn take_tags(alloc: Global, value: &mut Value) -> Result<Tags, AllocError>
-    requires { is_tags_at (codes "tags") (view value.old) ≡ true }
-    ensures { IfOk result (λ t. get (codes "tags") (view value.old) ≡ Some (array (tags_items t))) }
+/// The tags of the field `tags`.
+pub fn tags_of(alloc: Global, value: &Value) -> Result<Tags, AllocError>
+    requires { is_tags_at (codes "tags") (view value.now) ≡ true }
+    ensures { IfOk result (λ t. get (codes "tags") (view value.now) ≡ Some (array (tags_items t))) }
 {
-    match value.get_mut("tags") {
-        Some(tags) => match values_of(tags.take()) {
-            Some(values) => tags_of(alloc, values),
-            None => unreachable!(),
-        },
+    match value.get("tags") {
+        Some(tags) => tags_in(alloc, values_of(tags)),
         None => unreachable!(),
     }
 }

@@ -8,7 +8,7 @@ ghost use Rattle.nostr_event.specs.IdText.{escape_letter, byte_text, string_text
 use crate::draft::{Draft, Spelling};
 use crate::hexes::digits32_of;
 use crate::runs::plain_len;
-use crate::texts::{Tag, Tags, Text};
+use crate::tags::{Iter, Tag, Tags};
 use itoa::Buffer;
 use neg_codec::Id;
 use sha2::{Digest, Sha256};
@@ -114,34 +114,34 @@ pub fn put_string(out: &mut Vec<u8>, text: &str, spelling: Spelling) -> Result<(
     put_quoted(out, text.as_bytes(), spelling)
 }
 
-fn put_others(out: &mut Vec<u8>, values: &[Text], spelling: Spelling) -> Result<(), AllocError>
+fn put_others(out: &mut Vec<u8>, values: Tag<'_>, spelling: Spelling) -> Result<(), AllocError>
     ensures text { OnOk result (out.new.items
-        ≡ out.old.items ++ flat_map (λ v. 44 ∷ string_text spelling v) values.now) }
+        ≡ out.old.items ++ flat_map (λ v. 44 ∷ string_text spelling v) values.entry) }
     ensures utf8 { OnOk result (IsUtf8 out.old.items → IsUtf8 out.new.items) }
 {
-    for value in values {
+    for value in values.texts() {
         out.push(b',')?;
-        put_string(out, value.as_str(), spelling)?;
+        put_string(out, value, spelling)?;
     }
     Ok(())
 }
 
-fn put_tag(out: &mut Vec<u8>, tag: &Tag, spelling: Spelling) -> Result<(), AllocError>
-    ensures text { OnOk result (out.new.items ≡ out.old.items ++ tag_text spelling tag.now) }
+fn put_tag(out: &mut Vec<u8>, tag: Tag<'_>, spelling: Spelling) -> Result<(), AllocError>
+    ensures text { OnOk result (out.new.items ≡ out.old.items ++ tag_text spelling tag.entry) }
     ensures utf8 { OnOk result (IsUtf8 out.old.items → IsUtf8 out.new.items) }
 {
     out.push(b'[')?;
-    if let Some((first, others)) = tag.texts().split_first() {
-        put_string(out, first.as_str(), spelling)?;
+    if let Some((first, others)) = tag.split_first() {
+        put_string(out, first, spelling)?;
         put_others(out, others, spelling)?;
     }
     out.push(b']')?;
     Ok(())
 }
 
-fn put_other_tags(out: &mut Vec<u8>, tags: &[Tag], spelling: Spelling) -> Result<(), AllocError>
+fn put_other_tags(out: &mut Vec<u8>, tags: Iter<'_>, spelling: Spelling) -> Result<(), AllocError>
     ensures text { OnOk result (out.new.items
-        ≡ out.old.items ++ flat_map (λ v. 44 ∷ tag_text spelling v) tags.now) }
+        ≡ out.old.items ++ flat_map (λ v. 44 ∷ tag_text spelling v) tags.entry) }
     ensures utf8 { OnOk result (IsUtf8 out.old.items → IsUtf8 out.new.items) }
 {
     for tag in tags {
@@ -157,9 +157,10 @@ pub fn put_tags(out: &mut Vec<u8>, tags: &Tags, spelling: Spelling) -> Result<()
     ensures utf8 { OnOk result (IsUtf8 out.old.items → IsUtf8 out.new.items) }
 {
     out.push(b'[')?;
-    if let Some((first, others)) = tags.as_slice().split_first() {
+    let mut tags = tags.iter();
+    if let Some(first) = tags.next() {
         put_tag(out, first, spelling)?;
-        put_other_tags(out, others, spelling)?;
+        put_other_tags(out, tags, spelling)?;
     }
     out.push(b']')?;
     Ok(())

@@ -10,9 +10,11 @@ mod fault;
 mod fields;
 mod hexes;
 mod ids;
+mod parts;
 mod printing;
 mod reading;
 mod runs;
+mod tags;
 mod texts;
 mod writing;
 
@@ -21,4 +23,5 @@ pub use event::Event;
 pub use fault::{EventFault, EventField};
 pub use hexes::{bytes32_of, bytes64_of};
 pub use ids::{id_of, id_text};
-pub use texts::{Tag, Tags, Text};
+pub use tags::{Iter, Tag, Tags, Texts};
+pub use texts::Text;

@@ -7,7 +7,7 @@ ghost use Rattle.nostr_event.specs.EventJson.{HasBare, HasFields, Passes, Reads,
 use crate::draft::Draft;
 use crate::event::Event;
 use crate::fault::{EventFault, EventField};
-use crate::fields::{below, shapes_of, take_tags};
+use crate::fields::{below, shapes_of, tags_of};
 use crate::hexes::{hex32_at, hex64_at};
 use crate::texts::Text;
 use neg_codec::Id;
@@ -55,39 +55,32 @@ fn bare_of<'v>(value: &'v Value) -> Result<Bare<'v>, EventFault>
     })
 }
 
-fn parts_of(alloc: Global, value: &mut Value) -> Result<Parts, EventFault>
-    ensures ok { IfOk result (λ p. HasFields (view value.old)
+fn parts_of(alloc: Global, value: &Value) -> Result<Parts, EventFault>
+    ensures ok { IfOk result (λ p. HasFields (view value.now)
         (record { id = p.id; draft = p.draft; sig = p.sig })) }
-    ensures err { IfErr result (λ f. Refuses (view value.old) f) }
+    ensures err { IfErr result (λ f. Refuses (view value.now) f) }
 {
+    // Only what passes the tests takes memory, so that want of it is told of nothing else.
     let bare = bare_of(value)?;
     let content = Text::new(String::from_str(alloc, bare.content)?);
-    let Bare {
-        id,
-        pubkey,
-        created_at,
-        kind,
-        content: _,
-        sig,
-    } = bare;
-    let tags = take_tags(alloc, value)?;
+    let tags = tags_of(alloc, value)?;
     let draft = Draft {
-        pubkey,
-        created_at,
-        kind,
+        pubkey: bare.pubkey,
+        created_at: bare.created_at,
+        kind: bare.kind,
         tags,
         content,
     };
     Ok(Parts {
-        id: Id(id),
+        id: Id(bare.id),
         draft,
-        sig,
+        sig: bare.sig,
     })
 }
 
-fn read_event(alloc: Global, value: &mut Value) -> Result<Event, EventFault>
-    ensures ok { IfOk result (λ e. Reads (view value.old) e) }
-    ensures err { IfErr result (λ f. Refuses (view value.old) f) }
+fn read_event(alloc: Global, value: &Value) -> Result<Event, EventFault>
+    ensures ok { IfOk result (λ e. Reads (view value.now) e) }
+    ensures err { IfErr result (λ f. Refuses (view value.now) f) }
 {
     let Parts { id, draft, sig } = parts_of(alloc, value)?;
     match Event::from_parts(alloc, id, draft, sig)? {
@@ -103,20 +96,6 @@ impl Event {
         ensures no_other { IfOk result (λ e. (other : EventView) → Reads (view value.now) other → other ≡ e) }
         ensures fault { IfErr result (λ f. Refuses (view value.now) f) }
         ensures no_event { IfErr result (λ f. f ≢ EventFault.Memory → (e : EventView) → ¬ Reads (view value.now) e) }
-    {
-        // Only what passes the tests is copied, so that want of memory is told of nothing else.
-        let _bare = bare_of(value)?;
-        let mut copy = value.clone()?;
-        let read = Event::take_json(alloc, &mut copy);
-        read
-    }
-
-    /// The same, of which the texts of the tags are taken from the value rather than copied.
-    pub fn take_json(alloc: Global, value: &mut Value) -> Result<Event, EventFault>
-        ensures event { IfOk result (λ e. Reads (view value.old) e) }
-        ensures no_other { IfOk result (λ e. (other : EventView) → Reads (view value.old) other → other ≡ e) }
-        ensures fault { IfErr result (λ f. Refuses (view value.old) f) }
-        ensures no_event { IfErr result (λ f. f ≢ EventFault.Memory → (e : EventView) → ¬ Reads (view value.old) e) }
     {
         let read = read_event(alloc, value);
         read

@@ -5,26 +5,26 @@ ghost use Rattle.serde_json.specs.View.{view, items_view};
 ghost use Rattle.nostr_event.specs.EventJson.{Reads, object_of, tag_items, tags_items};
 
 use crate::event::Event;
-use crate::texts::{Tag, Text};
+use crate::tags::{Tag, Tags};
 use serde_json::{Value, json};
 use std::alloc::{AllocError, Global};
 
-fn tag_values(alloc: Global, texts: &[Text]) -> Result<Vec<Value>, AllocError>
-    ensures { IfOk result (λ v. items_view v.items ≡ tag_items texts.now) }
+fn tag_values(alloc: Global, tag: Tag<'_>) -> Result<Vec<Value>, AllocError>
+    ensures { IfOk result (λ v. items_view v.items ≡ tag_items tag.entry) }
 {
     let mut out = Vec::new(alloc);
-    for text in texts {
-        out.push(Value::try_from_str(alloc, text.as_str())?)?;
+    for text in tag.texts() {
+        out.push(Value::try_from_str(alloc, text)?)?;
     }
     Ok(out)
 }
 
-fn tags_values(alloc: Global, tags: &[Tag]) -> Result<Vec<Value>, AllocError>
+fn tags_values(alloc: Global, tags: &Tags) -> Result<Vec<Value>, AllocError>
     ensures { IfOk result (λ v. items_view v.items ≡ tags_items tags.now) }
 {
     let mut out = Vec::new(alloc);
-    for tag in tags {
-        out.push(Value::Array(tag_values(alloc, tag.texts())?))?;
+    for tag in tags.iter() {
+        out.push(Value::Array(tag_values(alloc, tag)?))?;
     }
     Ok(out)
 }
@@ -36,7 +36,7 @@ fn object_value(alloc: Global, event: &Event) -> Result<Value, AllocError>
     let draft = event.draft();
     let pubkey = hex::encode(alloc, draft.pubkey.as_slice())?;
     let sig = hex::encode(alloc, event.sig().as_slice())?;
-    let tags = Value::Array(tags_values(alloc, draft.tags.as_slice())?);
+    let tags = Value::Array(tags_values(alloc, &draft.tags)?);
     let (created_at, kind) = (draft.created_at, draft.kind);
     json!(in alloc; {
         "content": draft.content.as_str(),

@@ -6,7 +6,7 @@ use Rattle.nostr_event.proofs.ids.put_tags.Goals.{in-Some+in_ok-put_tag+in_ok-pu
 pub returns-clause-utf8 : goal.returns-clause-utf8
 returns-clause-utf8 c = λ u.
     let begun = after_ascii _ _ 91 c.in_ok-push.ensures.items (omega arith) u in
-    let inner : IsUtf8 c.match-split_first.out.items = elim c.match-split_first.branch [
+    let inner : IsUtf8 c.match-next.out.items = elim c.match-next.branch [
       | in-Some+in_ok-put_tag+in_ok-put_other_tags w ↦ rw w.out-is (w.in_ok-put_other_tags.ensures.utf8 (w.in_ok-put_tag.ensures.utf8 begun))
       | in_default w ↦ rw w.out-is begun
     ] in

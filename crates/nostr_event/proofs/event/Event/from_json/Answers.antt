@@ -1,14 +1,12 @@
-use Rattle.std.proofs.Common.{IfErr, subst}
-use Rattle.std.proofs.lemmas.Result.{err_from_is_err_and}
+use Rattle.std.proofs.lemmas.Result.{IfOk-weaker, IfErr-weaker}
 use Rattle.serde_json.specs.View.{view}
-use Rattle.nostr_event.specs.EventJson.{Refuses}
-use Rattle.nostr_event.proofs.Laws.{refused_none}
+use Rattle.nostr_event.proofs.Laws.{one_event, refused_none}
 use Rattle.nostr_event.proofs.event.Event.from_json.Goals as goal
 
-pub returns-in_err-_bare-clause-no_event : goal.returns-in_err-_bare-clause-no_event
-returns-in_err-_bare-clause-no_event c =
-    let p = err_from_is_err_and c.from_residual.result c.from_residual.ensures.1 in
-    rw (p.1, p.2) (refused_none (view c.args.value.now) _ c.in_err-_bare.ensures.err)
+pub returns-clause-no_other : goal.returns-clause-no_other
+returns-clause-no_other c =
+    IfOk-weaker c.read_event-read.result _ _ (λ e reads other also. one_event (view c.args.value.now) e other reads.0 also.0) c.read_event-read.ensures.ok
 
-pub returns-clause-fault : goal.returns-clause-fault
-returns-clause-fault c = subst (λ d. IfErr c.take_json-read.result (Refuses d)) c.in_ok-copy.ensures.cases c.take_json-read.ensures.fault
+pub returns-clause-no_event : goal.returns-clause-no_event
+returns-clause-no_event c =
+    IfErr-weaker c.read_event-read.result _ _ (λ f refused. refused_none (view c.args.value.now) f refused) c.read_event-read.ensures.err
