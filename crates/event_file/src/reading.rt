@@ -25,12 +25,12 @@ fn event_of_value(alloc: Global, line: &[u8]) -> Result<Arc<Event>, LineFault>
     ensures event { IfOk result (λ e. IsEventOf line.now (arc_value e)) }
     ensures none { result ≡ Err wrong → (e : EventView) → ¬ IsEventOf line.now e }
 {
-    let mut value = match Value::from_slice(alloc, line) {
+    let value = match Value::from_slice(alloc, line) {
         Ok(value) => value,
         Err(error) if error.is_memory() => return Err(LineFault::Memory),
         Err(_) => return Err(LineFault::Wrong),
     };
-    match Event::take_json(alloc, &mut value) {
+    match Event::from_json(alloc, &value) {
         Ok(event) => Ok(Arc::new(alloc, event)?),
         Err(EventFault::Memory) => Err(LineFault::Memory),
         Err(_) => Err(LineFault::Wrong),

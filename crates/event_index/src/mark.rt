@@ -40,15 +40,14 @@ pub fn value_mark(letter: u8, value: &str) -> u64
 }
 
 /// The mark of a tag, if its name is one byte and a value stands behind it.
-pub fn tag_mark(tag: &Tag) -> Option<u64>
+pub fn tag_mark(tag: &Tag<'_>) -> Option<u64>
     ensures value { result ≡ tag_mark tag.now }
     ensures below { IfSome result (λ m. m < 2 ^ 44) }
 {
-    let [name, value, ..] = tag.texts() else {
-        return None;
-    };
-    match name.as_str().as_bytes() {
-        [letter] => Some(value_mark(*letter, value.as_str())),
+    let (name, values) = tag.split_first()?;
+    let (value, _) = values.split_first()?;
+    match name.as_bytes() {
+        [letter] => Some(value_mark(*letter, value)),
         _ => None,
     }
 }

@@ -43,8 +43,8 @@ fn put_event(postings: &mut Vec<u64>, event: &Event, place: usize) -> Result<(),
     let draft = event.draft();
     put_posting(postings, author_mark(&draft.pubkey), place)?;
     put_posting(postings, draft.kind as u64, place)?;
-    for tag in draft.tags.as_slice() {
-        put_marked(postings, tag_mark(tag), place)?;
+    for tag in draft.tags.iter() {
+        put_marked(postings, tag_mark(&tag), place)?;
     }
     Ok(())
 }

@@ -1,7 +1,7 @@
 //! Nostr events read straight from the text of their JSON, with no value between.
 //!
 //! Read so is an object of an event's seven fields (NIP-01) in any order, and of nothing else. What isn't is left to
-//! [`Event::take_json`](nostr_event::Event::take_json), which tells its fault.
+//! [`Event::from_json`](nostr_event::Event::from_json), which tells its fault.
 #![tactic(auto)]
 
 mod fields;

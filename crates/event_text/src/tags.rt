@@ -5,62 +5,58 @@ ghost use Rattle.nostr_event.specs.EventJson.{tags_items};
 ghost use Rattle.event_text.specs.Tokens.{IsNext, Gives, tag_data};
 
 use json::{Reader, Token};
-use nostr_event::{Tag, Tags, Text};
+use nostr_event::Tags;
 use std::alloc::Global;
 
-// As many texts as most tags have, and as many tags as most events have. No more room is kept than is needed.
-const MOST_TEXTS: usize = 2;
-
-const MOST_TAGS: usize = 4;
+// As many texts as most tags have.
+const MOST_TEXTS: usize = 4;
 
 // The text of a string.
-fn text_in(alloc: Global, reader: &mut Reader<'_>) -> Option<Text>
-    ensures ok { IfSome result (λ s. (depth : ℕ) → IsNext depth reader.old (string s) reader.new) }
+fn text_in<'a>(reader: &mut Reader<'a>) -> Option<&'a str>
+    ensures ok { IfSome result (λ s. (depth : ℕ) → IsNext depth reader.old (string s.now) reader.new) }
     ensures shorter { IfSome result (λ s. length reader.new < length reader.old) }
 {
     match reader.next()? {
-        Token::String(text) => Some(Text::new(String::from_str(alloc, text).ok()?)),
+        Token::String(text) => Some(text),
         _ => None,
     }
 }
 
 // The texts up to the end of an array of strings.
-fn texts_in(alloc: Global, reader: &mut Reader<'_>, depth: usize) -> Option<Vec<Text>>
-    ensures ok { IfSome result (λ texts. Gives depth reader.old (map string texts.items) reader.new) }
+fn texts_in<'a>(alloc: Global, reader: &mut Reader<'a>, depth: usize) -> Option<Vec<&'a str>>
+    ensures ok { IfSome result (λ texts. Gives depth reader.old (map string (map (λ t. t.now) texts.items)) reader.new) }
     ensures shorter { IfSome result (λ texts. length reader.new < length reader.old) }
 {
     let mut texts = Vec::with_capacity(alloc, MOST_TEXTS).ok()?;
     'texts: while !reader.take_end_array() {
-        let text = text_in(alloc, reader)?;
+        let text = text_in(reader)?;
         texts.push(text).ok()?;
     }
-    texts.shrink_to_fit();
     Some(texts)
 }
 
-// A tag, which is an array of strings.
-fn tag_in(alloc: Global, reader: &mut Reader<'_>, depth: usize) -> Option<Tag>
-    ensures ok { IfSome result (λ tag. IsNext depth reader.old (tag_data tag) reader.new) }
-    ensures shorter { IfSome result (λ tag. length reader.new < length reader.old) }
+// The texts of a tag, which is an array of strings.
+fn tag_in<'a>(alloc: Global, reader: &mut Reader<'a>, depth: usize) -> Option<Vec<&'a str>>
+    ensures ok { IfSome result (λ texts. IsNext depth reader.old (tag_data (map (λ t. t.now) texts.items)) reader.new) }
+    ensures shorter { IfSome result (λ texts. length reader.new < length reader.old) }
 {
     match reader.next()? {
-        Token::BeginArray if depth > 0 => Some(Tag::new(texts_in(alloc, reader, depth - 1)?)),
+        Token::BeginArray if depth > 0 => texts_in(alloc, reader, depth - 1),
         _ => None,
     }
 }
 
 // The tags up to the end of an array of arrays of strings.
-fn each_tag_in(alloc: Global, reader: &mut Reader<'_>, depth: usize) -> Option<Vec<Tag>>
-    ensures ok { IfSome result (λ tags. Gives depth reader.old (map tag_data tags.items) reader.new) }
+fn each_tag_in(alloc: Global, reader: &mut Reader<'_>, depth: usize) -> Option<Tags>
+    ensures ok { IfSome result (λ tags. Gives depth reader.old (map tag_data tags) reader.new) }
     ensures shorter { IfSome result (λ tags. length reader.new < length reader.old) }
 {
-    let mut tags = Vec::with_capacity(alloc, MOST_TAGS).ok()?;
+    let mut tags = Tags::new(alloc);
     'tags: while !reader.take_end_array() {
-        let tag = tag_in(alloc, reader, depth)?;
-        tags.push(tag).ok()?;
+        let texts = tag_in(alloc, reader, depth)?;
+        tags = tags.with(texts.as_slice()).ok()?;
     }
-    tags.shrink_to_fit();
-    Some(tags)
+    Some(tags.fitted())
 }
 
 /// The tags, where an array of arrays of strings is next, which may nest so deep.
@@ -69,7 +65,7 @@ pub fn tags_in(alloc: Global, reader: &mut Reader<'_>, depth: usize) -> Option<T
     ensures shorter { IfSome result (λ tags. length reader.new < length reader.old) }
 {
     match reader.next()? {
-        Token::BeginArray if depth > 0 => Some(Tags::new(each_tag_in(alloc, reader, depth - 1)?)),
+        Token::BeginArray if depth > 0 => each_tag_in(alloc, reader, depth - 1),
         _ => None,
     }
 }

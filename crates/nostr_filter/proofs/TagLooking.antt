@@ -1,7 +1,7 @@
 -- Tags that are looked up by their keys.
-use Rattle.std.proofs.Common.{◌≡◌, ℕ, Bool, true, false, ◌&&◌, ◌||◌, nat_eq, List, [], ◌∷◌, map, refl, sym, ap, ap₂, ◌∙◌, arith}
-use Rattle.std.specs.Prelude.{bytes_eq}
-use Rattle.std.specs.List.{list_any}
+use Rattle.std.proofs.Common.{◌≡◌, ℕ, zero, suc, None, Bool, true, false, ◌&&◌, ◌||◌, nat_eq, List, [], ◌∷◌, map, refl, sym, ap, ap₂, ◌∙◌, arith}
+use Rattle.std.specs.Prelude.{bytes_eq, slice_index_or}
+use Rattle.std.specs.List.{list_any, slice_get}
 use Rattle.std.proofs.lemmas.Bool.Decides.{nat_tests}
 use Rattle.nostr_filter.specs.declared.conditions.TagCondition.{TagCondition}
 use Rattle.nostr_filter.specs.Matching.{tag_meets, tags_meet}
@@ -44,6 +44,12 @@ any_under true p xs = refl
 any_under false p xs = never xs
 
 -- ---- keys
+
+-- past the last tag stands no key
+pub no_key : (tags : List (List (List ℕ))) (place : ℕ) → slice_get tags place ≡ None → slice_index_or (keys_of tags) place [] ≡ []
+no_key [] place missing = refl
+no_key (t ∷ tags) zero missing = cc
+no_key (t ∷ tags) (suc place) missing = no_key tags place missing
 
 nat_eq_sym : (a b : ℕ) → nat_eq a b ≡ nat_eq b a
 nat_eq_sym a b = grind (arith, nat_tests)

@@ -5,7 +5,7 @@ ghost use Rattle.std.specs.List.{list_any, list_all};
 
 use crate::conditions::{Bytes32List, Kinds, TagCondition, TagConditions};
 use neg_codec::Id;
-use nostr_event::{Event, Tag};
+use nostr_event::{Event, Tag, Tags};
 
 /// What an event has to meet (NIP-01). An absent condition is met by each event, an empty list by none.
 #[derive(Debug, Drop)]
@@ -71,10 +71,10 @@ impl Filter {
     pub fn meets_tags(&self, event: &Event) -> bool
         ensures value { result ≡ list_all (tags_meet event.now.draft.tags) self.now.tags }
     {
-        self.tags.as_slice().iter().all(|condition| condition_met(
-            condition,
-            event.draft().tags.as_slice(),
-        ))
+        self.tags
+            .as_slice()
+            .iter()
+            .all(|condition| condition_met(condition, &event.draft().tags))
     }
 
     fn is_within(&self, time: u64) -> bool
@@ -93,19 +93,27 @@ impl Filter {
 }
 
 // Whether the tag has the condition's name, and its first value is one of the condition's.
-fn tag_met(condition: &TagCondition, tag: &Tag) -> bool
+fn tag_met(condition: &TagCondition, tag: &Tag<'_>) -> bool
     ensures { result ≡ tag_meets condition.now tag.now }
 {
-    match tag.texts() {
-        [name, value, ..] => name.as_str().as_bytes() == [condition.letter].as_slice()
-            && condition.values.has(value.as_str()),
-        _ => false,
+    let Some((name, values)) = tag.split_first() else {
+        return false;
+    };
+    match values.split_first() {
+        Some((value, _)) => name.as_bytes() == [condition.letter].as_slice()
+            && condition.values.has(value),
+        None => false,
     }
 }
 
 // Whether some tag meets the condition.
-pub fn condition_met(condition: &TagCondition, tags: &[Tag]) -> bool
+pub fn condition_met(condition: &TagCondition, tags: &Tags) -> bool
     ensures { result ≡ tags_meet tags.now condition.now }
 {
-    tags.iter().any(|tag| tag_met(condition, tag))
+    for tag in tags.iter() {
+        if tag_met(condition, &tag) {
+            return true;
+        }
+    }
+    false
 }

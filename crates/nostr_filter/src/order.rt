@@ -10,7 +10,7 @@ ghost use Rattle.nostr_filter.specs.TagOrders.{key_is, key_of, keys_of, IsOrderO
 use crate::conditions::TagCondition;
 use crate::filter::{Filter, condition_met};
 use crate::members::places_to;
-use nostr_event::{Event, Tag, Text};
+use nostr_event::{Event, Tag, Tags, Text};
 use std::alloc::{AllocError, Global};
 use std::cmp::Ordering;
 
@@ -25,27 +25,24 @@ pub struct TagOrder {
 }
 
 // How the tag's key stands to another.
-fn compare_key(tag: &Tag, letter: u8, value: &str) -> Ordering
+fn compare_key(tag: &Tag<'_>, letter: u8, value: &str) -> Ordering
     ensures { result ≡ slice_cmp nat_cmp (key_of tag.now) (letter ∷ value.now) }
 {
-    match tag.texts() {
-        [name, own, ..] => match name.as_str().as_bytes() {
-            [first] => match first.cmp(&letter) {
-                Ordering::Equal => own.as_str().cmp(value),
-                other => other,
-            },
-            _ => Ordering::Less,
+    match key_at(tag) {
+        Key::Tagged(first, own) => match first.cmp(&letter) {
+            Ordering::Equal => own.cmp(value),
+            other => other,
         },
-        _ => Ordering::Less,
+        Key::None => Ordering::Less,
     }
 }
 
 // How the key of the tag at the place stands to another.
-fn compare(tags: &[Tag], place: usize, letter: u8, value: &str) -> Ordering
+fn compare(tags: &Tags, place: usize, letter: u8, value: &str) -> Ordering
     ensures { result ≡ slice_cmp nat_cmp (at_place (keys_of tags.now) place) (letter ∷ value.now) }
 {
     match tags.get(place) {
-        Some(tag) => compare_key(tag, letter, value),
+        Some(tag) => compare_key(&tag, letter, value),
         None => Ordering::Less,
     }
 }
@@ -59,25 +56,25 @@ pub enum Key<'t> {
     None,
 }
 
-fn key_at(tag: &Tag) -> Key<'_>
+fn key_at<'t>(tag: &Tag<'t>) -> Key<'t>
     ensures { key_is result ≡ key_of tag.now }
 {
-    match tag.texts() {
-        [name, own, ..] => match name.as_str().as_bytes() {
-            [letter] => Key::Tagged(*letter, own.as_str()),
-            _ => Key::None,
-        },
+    let Some((name, values)) = tag.split_first() else {
+        return Key::None;
+    };
+    match (name.as_bytes(), values.split_first()) {
+        ([letter], Some((own, _))) => Key::Tagged(*letter, own),
         _ => Key::None,
     }
 }
 
-// What the tags are looked up by. It is read once, as a tag's texts lie apart from it.
-fn keys_in(alloc: Global, tags: &[Tag]) -> Result<Vec<Key<'_>>, AllocError>
+// What the tags are looked up by.
+fn keys_in(alloc: Global, tags: &Tags) -> Result<Vec<Key<'_>>, AllocError>
     ensures { IfOk result (λ k. map key_is k.items ≡ keys_of tags.now) }
 {
     let mut keys = Vec::with_capacity(alloc, tags.len())?;
-    for tag in tags {
-        keys.push(key_at(tag))?;
+    for tag in tags.iter() {
+        keys.push(key_at(&tag))?;
     }
     Ok(keys)
 }
@@ -114,7 +111,7 @@ fn compare_at(keys: &[Key<'_>], a: usize, b: usize) -> Ordering
 }
 
 // The places of the tags, in the order of their keys.
-fn ordered(alloc: Global, tags: &[Tag]) -> Result<Vec<usize>, AllocError>
+fn ordered(alloc: Global, tags: &Tags) -> Result<Vec<usize>, AllocError>
     ensures { IfOk result (λ p. AreInOrder (keys_of tags.now) p.items) }
 {
     let keys = keys_in(alloc, tags)?;
@@ -125,7 +122,7 @@ fn ordered(alloc: Global, tags: &[Tag]) -> Result<Vec<usize>, AllocError>
 }
 
 // Whether a tag has the letter for its name, and the value behind it.
-fn is_tagged(tags: &[Tag], places: &[usize], letter: u8, value: &str) -> bool
+fn is_tagged(tags: &Tags, places: &[usize], letter: u8, value: &str) -> bool
     requires { AreInOrder (keys_of tags.now) places.now }
     ensures { result ≡ has_text (keys_of tags.now) (letter ∷ value.now) }
 {
@@ -134,7 +131,7 @@ fn is_tagged(tags: &[Tag], places: &[usize], letter: u8, value: &str) -> bool
 }
 
 // Whether one of the values is behind the letter in some tag.
-fn any_tagged(letter: u8, values: &[Text], tags: &[Tag], places: &[usize]) -> bool
+fn any_tagged(letter: u8, values: &[Text], tags: &Tags, places: &[usize]) -> bool
     requires { AreInOrder (keys_of tags.now) places.now }
     ensures { result ≡ list_any (λ v. has_text (keys_of tags.now) (letter ∷ v)) values.now }
 {
@@ -147,7 +144,7 @@ fn any_tagged(letter: u8, values: &[Text], tags: &[Tag], places: &[usize]) -> bo
 }
 
 // Whether some tag meets the condition, each of whose values is looked up.
-fn condition_found(condition: &TagCondition, tags: &[Tag], places: &[usize]) -> bool
+fn condition_found(condition: &TagCondition, tags: &Tags, places: &[usize]) -> bool
     requires { AreInOrder (keys_of tags.now) places.now }
     ensures { result ≡ tags_meet tags.now condition.now }
 {
@@ -166,7 +163,7 @@ impl TagOrder {
     pub fn new(alloc: Global, event: &Event) -> Result<TagOrder, AllocError>
         ensures { IfOk result (λ o. IsOrderOf event.now.draft.tags o) }
     {
-        let tags = event.draft().tags.as_slice();
+        let tags = &event.draft().tags;
         if tags.len() < MANY_TAGS {
             return Ok(TagOrder { places: None });
         }
@@ -177,7 +174,7 @@ impl TagOrder {
 }
 
 // Whether some tag meets the condition. What is more, values or tags, isn't passed over where the tags are in order.
-fn condition_by(condition: &TagCondition, tags: &[Tag], order: &TagOrder) -> bool
+fn condition_by(condition: &TagCondition, tags: &Tags, order: &TagOrder) -> bool
     requires { IsOrderOf tags.now order.now }
     ensures { result ≡ tags_meet tags.now condition.now }
 {
@@ -190,7 +187,7 @@ fn condition_by(condition: &TagCondition, tags: &[Tag], order: &TagOrder) -> boo
 }
 
 // Whether each condition is met by some tag.
-fn all_by(conditions: &[TagCondition], tags: &[Tag], order: &TagOrder) -> bool
+fn all_by(conditions: &[TagCondition], tags: &Tags, order: &TagOrder) -> bool
     requires { IsOrderOf tags.now order.now }
     ensures { result ≡ list_all (tags_meet tags.now) conditions.now }
 {
@@ -210,6 +207,6 @@ impl Filter {
     {
         let draft = event.draft();
         self.meets(&event.id(), &draft.pubkey, draft.kind, draft.created_at)
-            && all_by(self.tags.as_slice(), draft.tags.as_slice(), order)
+            && all_by(self.tags.as_slice(), &draft.tags, order)
     }
 }

@@ -226,7 +226,7 @@ impl Element for Arc<Event> {
 
     fn read(alloc: Global, value: &mut Value) -> Result<Arc<Event>, WireFault> {
         let id = id_in(value);
-        match Event::take_json(alloc, value) {
+        match Event::from_json(alloc, value) {
             Ok(event) => Ok(Arc::new(alloc, event)?),
             Err(EventFault::Memory) => Err(WireFault::Memory),
             Err(fault) => Err(WireFault::Event(fault, id)),

@@ -368,7 +368,7 @@ fn ends_so(alloc: Global, draft: &Draft, spelling: Spelling, end: &str) -> Resul
 #[test]
 fn a_control_character(rt: HostRuntime) -> Result<(), Fail> {
     let alloc = rt.alloc();
-    let draft = control_draft(alloc, Tags::new(Vec::new(alloc)))?;
+    let draft = control_draft(alloc, Tags::new(alloc))?;
     for (spelling, hex, len, end) in [
         (Spelling::Plain, CONTROL_PLAIN, 81, "1\",1,1,[],\"\u{1}\"]"),
         (
@@ -385,24 +385,52 @@ fn a_control_character(rt: HostRuntime) -> Result<(), Fail> {
     Ok(())
 }
 
-// The one text of the one tag.
-fn only_text(tags: Tags) -> Option<String> {
-    let tag = tags.into_vec().pop()?;
-    let text = tag.into_vec().pop()?;
-    Some(text.into_string())
+// Tags with no text, with an empty one, and with texts of several bytes a character.
+const TAGGED: &[&[&str]] = &[&["t"], &[], &[""], &["e", "", "caf\u{e9}", "\u{1f980}"], &["", "x"]];
+
+// Whether the tag has just these texts, in their order.
+fn has_texts(tag: Tag<'_>, wanted: &[&str]) -> bool {
+    let mut left = wanted;
+    for text in tag.texts() {
+        match left.split_first() {
+            Some((first, others)) if *first == text => left = others,
+            _ => return false,
+        }
+    }
+    left.is_empty()
+}
+
+// Whether the tags are those of TAGGED, walked over and looked up.
+fn are_tagged(tags: &Tags) -> bool {
+    let mut place = 0;
+    for tag in tags.iter() {
+        let Some(wanted) = TAGGED.get(place) else {
+            return false;
+        };
+        let Some(same) = tags.get(place) else {
+            return false;
+        };
+        if !has_texts(tag, wanted) || !has_texts(same, wanted) {
+            return false;
+        }
+        place += 1;
+    }
+    place == TAGGED.len() && tags.len() == place && tags.get(place).is_none()
 }
 
 #[test]
 fn tags_of_a_draft(rt: HostRuntime) -> Result<(), Fail> {
     let alloc = rt.alloc();
-    let mut texts = Vec::new(alloc);
-    texts.push(Text::new(String::from_str(alloc, "t")?))?;
-    let mut tags = Vec::new(alloc);
-    tags.push(Tag::new(texts))?;
-    let draft = control_draft(alloc, Tags::new(tags))?;
-    let is_spelled = ends_so(alloc, &draft, Spelling::Plain, ",[[\"t\"]],\"\u{1}\"]")?;
-    let text = only_text(draft.tags).ok_or("no text")?;
-    assert!(rt; is_spelled && text.as_str() == "t");
+    let mut tags = Tags::new(alloc);
+    assert!(rt; tags.is_empty() && tags.get(0).is_none());
+    for texts in TAGGED {
+        tags = tags.with(texts)?;
+    }
+    assert!(rt; are_tagged(&tags));
+    let draft = control_draft(alloc, tags.fitted())?;
+    let end = ",[[\"t\"],[],[\"\"],[\"e\",\"\",\"caf\u{e9}\",\"\u{1f980}\"],[\"\",\"x\"]],\"\u{1}\"]";
+    let is_spelled = ends_so(alloc, &draft, Spelling::Plain, end)?;
+    assert!(rt; is_spelled && are_tagged(&draft.tags));
     Ok(())
 }
 
@@ -414,7 +442,7 @@ fn is_control(event: &Event, id: Id) -> bool {
         && *event.sig() == [0x5a; 64]
         && draft.pubkey == [0x11; 32]
         && draft.kind == 1
-        && draft.tags.as_slice().is_empty()
+        && draft.tags.is_empty()
         && draft.content.as_str() == "\u{1}"
 }
 

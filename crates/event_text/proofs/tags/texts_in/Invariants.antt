@@ -6,7 +6,7 @@ use Rattle.event_text.proofs.tags.texts_in.Given as goal
 
 abbrev pub invariant-texts : goal.invariant-texts
 invariant-texts l =
-    ((more : List Data) (rest : List Token) → Gives l.depth l.reader more rest → Gives l.depth l.initial.reader (map string l.texts.items ++ more) rest)
+    ((more : List Data) (rest : List Token) → Gives l.depth l.reader more rest → Gives l.depth l.initial.reader (map string (map (λ t. t.now) l.texts.items) ++ more) rest)
     × (length l.reader ≤ length l.initial.reader)
 
 abbrev pub decreases-texts : goal.decreases-texts

@@ -14,6 +14,6 @@ pub returns : goal.returns
 returns c =
     let keys = keys_of c.args.tags.now in
     record {
-      all = λ text. sym (list_any-IsPermutation (λ p. bytes_eq (text_at keys p) text) c.in_ok-places.places.items c.sort_unstable_by.new.self.items c.sort_unstable_by.ensures.permutation) ∙ c.in_ok-places.ensures keys (length-map c.args.tags.now key_of) text;
+      all = λ text. sym (list_any-IsPermutation (λ p. bytes_eq (text_at keys p) text) c.in_ok-places.places.items c.sort_unstable_by.new.self.items c.sort_unstable_by.ensures.permutation) ∙ c.in_ok-places.ensures keys (length-map c.args.tags.now key_of ∙ sym c.len.ensures) text;
       ascend = c.sort_unstable_by.ensures.sorted (λ a b. is_lt (slice_cmp nat_cmp (text_at keys a) (text_at keys b))) (ranks_by nat_list_cmp_total (text_at keys)) (always_returns_same _ _ _ (λ a r g called. search (rules, c.in_ok-keys.ensures)));
     }
