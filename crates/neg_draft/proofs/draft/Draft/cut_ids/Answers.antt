@@ -7,7 +7,8 @@ use Rattle.item_roll.specs.Parts.{part, ids_of, count_below}
 use Rattle.item_roll.proofs.Truths.{piece_is}
 use Rattle.neg_draft.specs.Coverage.{Written, told_more, all_left, Cut}
 use Rattle.neg_draft.proofs.Covering.{edge_low}
-use Rattle.neg_draft.proofs.Telling.{before_most, may_be_cut, neighbours, bound_behind, ids_count, listed_cut}
+use Rattle.neg_draft.proofs.Telling.{before_most, may_be_cut}
+use Rattle.neg_draft.proofs.Listing.{neighbours, bound_behind, ids_count, listed_cut}
 use Rattle.neg_draft.proofs.draft.Draft.cut_ids.Goals as goal
 
 pub close-requires : goal.close-requires

@@ -7,7 +7,7 @@ use Rattle.item_roll.specs.Parts.{part, ids_of}
 use Rattle.item_roll.proofs.Truths.{piece_is}
 use Rattle.neg_draft.specs.Coverage.{told_more}
 use Rattle.neg_draft.proofs.Owning.{count_up, edge_key, listed, tells_ids, ids_between}
-use Rattle.neg_draft.proofs.Telling.{ids_count, listed_fits}
+use Rattle.neg_draft.proofs.Listing.{ids_count, listed_fits}
 use Rattle.neg_draft.proofs.draft.Draft.list_ids.Goals as goal
 
 pub ids-requires : goal.ids-requires

@@ -6,7 +6,8 @@ use Rattle.neg_codec.specs.Ranges.{IsEdge, edge_of}
 use Rattle.neg_draft.specs.Coverage.{told_more, Cut, Told}
 use Rattle.neg_draft.proofs.Covering.{edge_low}
 use Rattle.neg_draft.proofs.Owning.{count_up}
-use Rattle.neg_draft.proofs.Telling.{before_most, end_key, may_be_cut, listed_part, listed_whole}
+use Rattle.neg_draft.proofs.Telling.{before_most, end_key, may_be_cut}
+use Rattle.neg_draft.proofs.Listing.{listed_part, listed_whole}
 use Rattle.neg_draft.proofs.draft.Draft.tell_ids_at.Goals as goal
 
 pub room-requires : goal.room-requires

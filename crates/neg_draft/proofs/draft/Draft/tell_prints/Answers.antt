@@ -1,7 +1,7 @@
 use Rattle.std.proofs.Common.{◌≤◌, inl, inr, refl, length, map, arith}
 use Rattle.std.proofs.lemmas.List.{take_all}
 use Rattle.neg_codec.specs.Ranges.{IsEdge, edge_of, span_of}
-use Rattle.neg_draft.proofs.Telling.{over_at, ahead_at, own_at, more_at, print_at, going_all}
+use Rattle.neg_draft.proofs.Going.{over_at, ahead_at, own_at, more_at, print_at, going_all}
 use Rattle.neg_draft.proofs.draft.Draft.tell_prints.Goals as goal
 
 pub loop-range-init : goal.loop-range-init

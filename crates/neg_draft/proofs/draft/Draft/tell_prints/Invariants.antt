@@ -1,6 +1,6 @@
 use Rattle.std.proofs.Common.{take, map}
 use Rattle.neg_codec.specs.Ranges.{edge_of, span_of}
-use Rattle.neg_draft.proofs.Telling.{Going}
+use Rattle.neg_draft.proofs.Going.{Going}
 use Rattle.neg_draft.proofs.draft.Draft.tell_prints.Given as goal
 
 abbrev pub invariant-loop-range : goal.invariant-loop-range

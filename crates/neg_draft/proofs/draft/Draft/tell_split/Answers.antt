@@ -11,7 +11,7 @@ use Rattle.item_roll.proofs.Truths.{split_printed}
 use Rattle.neg_draft.specs.Coverage.{told_more, IsPrint, Cut, Told}
 use Rattle.neg_draft.proofs.Covering.{edge_low}
 use Rattle.neg_draft.proofs.Owning.{count_up, edge_key, tells_split}
-use Rattle.neg_draft.proofs.Telling.{split_is_listed, all_prints, split_full}
+use Rattle.neg_draft.proofs.Listing.{split_is_listed, all_prints, split_full}
 use Rattle.neg_draft.proofs.draft.Draft.tell_split.Goals as goal
 
 pub overflow_sub-hi : goal.overflow_sub-hi
