@@ -1,2 +1,4 @@
+pub mod Logs
+pub mod Beginning
 pub mod Driver
 pub mod Answering

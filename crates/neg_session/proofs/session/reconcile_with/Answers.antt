@@ -8,7 +8,8 @@ use Rattle.neg_codec.specs.declared.Item.{Item}
 use Rattle.neg_initiator.specs.Session.{IsAskDue}
 use Rattle.neg_session.specs.Ran.{Ran}
 use Rattle.neg_session.specs.declared.fault.SessionFault.TheVariants.{Bad}
-use Rattle.neg_session.proofs.Driver.{next_resumes, asks_for_few, going_first, going_more, ran_rounds, ran_log_full, ran_unanswered, ran_quiet, ran_done, ran_fault}
+use Rattle.neg_session.proofs.Beginning.{going_first, ran_unanswered, ran_quiet}
+use Rattle.neg_session.proofs.Driver.{next_resumes, asks_for_few, going_more, ran_rounds, ran_log_full, ran_done, ran_fault}
 use Rattle.neg_session.proofs.session.reconcile_with.Goals as goal
 
 is_bad : (e : InitFault) (c f : CodecFault) → e ≡ initiator.Bad c → Bad c ≡ Bad f → ◌≡◌ {A = Result Next InitFault} (Err e) (Err (initiator.Bad f))

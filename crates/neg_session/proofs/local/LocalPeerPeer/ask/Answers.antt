@@ -1,5 +1,4 @@
-use Rattle.std.proofs.Common.{rules, arith, ◌≡◌, ℕ, ◌++◌, ◌∷◌, [], List, Err, ap, ◌∙◌, subst}
-use Rattle.neg_codec.specs.declared.Item.{Item}
+use Rattle.std.proofs.Common.{rules, arith, ◌≡◌, ℕ, ◌++◌, ◌∷◌, [], Err, ap, ◌∙◌, subst}
 use Rattle.neg_session.specs.Exchange.{exchange}
 use Rattle.neg_session.specs.Explaining.{AnswersBy}
 use Rattle.neg_session.specs.Local.{Local, IsAnswered}
