@@ -1,4 +1,4 @@
-use Rattle.std.proofs.Common.{◌≡◌, ◌<◌, ◌∷◌, ◌++◌, [], List, length, map, None, Some, arith, rules}
+use Rattle.std.proofs.Common.{◌≡◌, ◌<◌, ◌∷◌, ◌++◌, [], length, map, None, Some, arith, rules}
 use Rattle.std.proofs.lemmas.List.{map-append}
 use Rattle.json.specs.Json.{after_end_array}
 use Rattle.serde_json.specs.Data.{string}
@@ -18,7 +18,7 @@ texts-preserved c =
     let found : IsNext c.args.depth l.reader (string x) r = rw (← stood) (c.in_ok-text.ensures.ok c.args.depth) in
     let pushed : c.push.new.self.items ≡ l.texts.items ++ c.in_ok-text.text ∷ [] = search rules in
     let step = turn_gives string c.args.depth c.args.reader.now l.reader r read x going found less l.invariant.0 in
-    (λ more rest gives. rw (pushed, map-append l.texts.items (c.in_ok-text.text ∷ []) (λ t. t.now)) (step more rest gives), omega (arith, less, l.invariant.1))
+    (λ more rest gives. rw (pushed, map-append (λ t. t.now) l.texts.items (c.in_ok-text.text ∷ [])) (step more rest gives), omega (arith, less, l.invariant.1))
 
 pub returns-clause-ok : goal.returns-clause-ok
 returns-clause-ok c =
