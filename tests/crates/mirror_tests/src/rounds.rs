@@ -2,18 +2,20 @@
 
 ghost use Rattle.std.specs.Prelude.{◌≡◌, ℕ, ◌+◌, ◌<◌, ◌^◌, ◌-◌, List, [], ◌∷◌, All, IfOk, IfErr, IfSome};
 
+use super::events::event;
 use event_store::{Blank, Naming, open_store};
 use item_roll::Roll;
-use mirror_core::{End, SyncFault, Synced, sync_plan, sync_roll};
+use mirror_core::{End, SyncFault, Synced, sync_plan};
 use neg_codec::{Id, Item};
 use neg_session::{LocalPeer, Outcome, Pair, Peer, PeerFault, SessionFault, SessionLimits};
+use nostr_event::Event;
 use nostr_filter::Filter;
 use offer_table::Bases;
 use sharing::RELAYS;
 use std::alloc::Global;
 use std::marker::Brand;
 use std::rt::Clock;
-use std::sync::Wait;
+use std::sync::{Arc, Wait};
 use std::sync::atomic::{AtomicU64, Ordering};
 use std::test::Fail;
 use std::thread;
@@ -24,15 +26,27 @@ use std::time::Duration;
 const LISTS_ONE: &[u8] =
     b"\x61\x00\x00\x02\x01\x01\x01\x01\x01\x01\x01\x01\x01\x01\x01\x01\x01\x01\x01\x01\x01\x01\x01\x01\x01\x01\x01\x01\x01\x01\x01\x01\x01\x01\x01\x01\x01";
 
+/// The event whose item is item 1.
+fn first_event(alloc: Global) -> Option<Arc<Event>> {
+    event(alloc, 1, 1)
+}
+
+/// The item of a byte, which is its time. Each item but 1 has it for all bytes of its id too.
+fn item_of(alloc: Global, byte: u8) -> Option<Item> {
+    if byte == 1 {
+        return Some(first_event(alloc)?.item());
+    }
+    Some(Item {
+        time: u64::from(byte),
+        id: Id([byte; 32]),
+    })
+}
+
 /// The roll of an item for each of these bytes, in order.
 fn roll_of(alloc: Global, bytes: &[u8]) -> Option<Roll> {
     let mut items = Vec::with_capacity(alloc, bytes.len()).ok()?;
     for byte in bytes {
-        let item = Item {
-            time: u64::from(*byte),
-            id: Id([*byte; 32]),
-        };
-        items.push(item).ok()?;
+        items.push(item_of(alloc, *byte)?).ok()?;
     }
     Roll::from_items(alloc, &items).ok()
 }
@@ -120,60 +134,29 @@ fn is_as_told(done: &Synced, case: &Case) -> bool {
         && done.plan.least_max() == case.least_max
 }
 
-/// Brings a mirror with items of these bytes level with such relays.
-fn synced<R: Threads + Sync>(
-    rt: &R,
-    alloc: Global,
-    relays: &[&[u8]],
-    mine: &[u8],
-    bases: &[u64],
-) -> Option<Synced> {
-    let mine = roll_of(alloc, mine)?;
-    let mut peers = peers_of(alloc, relays)?;
-    let bases = bases_of(bases)?;
-    sync_roll(
-        rt,
-        alloc,
-        &mut peers,
-        &mine,
-        &bases,
-        &SessionLimits::default(),
-    )
-    .ok()
-}
-
-#[test]
-fn needed_ids_are_shared_out(rt: HostRuntime) -> Result<(), Fail> {
-    for case in CASES {
-        let done = synced(&rt, rt.alloc(), case.relays, b"\x01", case.bases);
-        assert!(rt; done.is_some_and(|done| is_as_told(&done, case)));
-    }
-    Ok(())
-}
-
-/// More peers than there may be, with the item 1 each.
-static MANY: [&[u8]; 257] = [b"\x01"; 257];
-
-/// Brings an empty store level with such relays.
-fn planned<J: Naming, D: Wait + Drop, R: Threads + Sync, P: Peer + Send>(
+/// Brings a store of these events level with such relays.
+fn planned<J: Naming, D: Wait + Drop, R: Threads + Wait + Sync, P: Peer + Send>(
     rt: &R,
     keep: D,
     alloc: Global,
     blank: Blank,
+    held: &[Arc<Event>],
     peers: &mut [P],
+    bases: &Bases,
 ) -> Option<Result<Synced, SyncFault>>
     requires book { blank ≡ J.book }
     requires most { J.most ≡ 1000000 }
     requires ready { All (λ p. P.faults p < 2 ^ 64 - 1) peers.old }
 {
-    let (_desk, mut readers) = open_store::<J, D>(keep, alloc, blank, 1).ok()?;
+    let (mut desk, mut readers) = open_store::<J, D>(keep, alloc, blank, 1).ok()?;
+    desk.insert_all(rt, held).ok()?;
     let mut reader = readers.pop()?;
     let snapshot = reader.pin(alloc, &Filter::all()).ok()?;
-    let (bases, limits) = (Bases::none(), SessionLimits::default());
-    Some(sync_plan(rt, alloc, peers, &snapshot, &bases, &limits))
+    let limits = SessionLimits::default();
+    Some(sync_plan(rt, alloc, peers, &snapshot, bases, &limits))
 }
 
-/// The same, where the store is named.
+/// The same of an empty store, which is named, and where all loads begin at 0.
 fn synced_whole<R: Threads + Wait + Sync, P: Peer + Send>(
     rt: &R,
     alloc: Global,
@@ -181,8 +164,29 @@ fn synced_whole<R: Threads + Wait + Sync, P: Peer + Send>(
 ) -> Option<Result<Synced, SyncFault>>
     requires ready { All (λ p. P.faults p < 2 ^ 64 - 1) peers.old }
 {
-    planned::<Brand, &R, R, P>(rt, rt, alloc, Blank::new(), peers)
+    let (blank, bases) = (Blank::new(), Bases::none());
+    planned::<Brand, &R, R, P>(rt, rt, alloc, blank, &[], peers, &bases)
 }
+
+/// The same of a store of item 1, where the loads begin as the case says.
+fn synced<R: Threads + Wait + Sync>(rt: &R, alloc: Global, case: &Case) -> Option<Synced> {
+    let held = [first_event(alloc)?];
+    let mut peers = peers_of(alloc, case.relays)?;
+    let (blank, bases) = (Blank::new(), bases_of(case.bases)?);
+    planned::<Brand, &R, R, LocalPeer>(rt, rt, alloc, blank, &held, &mut peers, &bases)?.ok()
+}
+
+#[test]
+fn needed_ids_are_shared_out(rt: HostRuntime) -> Result<(), Fail> {
+    for case in CASES {
+        let done = synced(&rt, rt.alloc(), case);
+        assert!(rt; done.is_some_and(|done| is_as_told(&done, case)));
+    }
+    Ok(())
+}
+
+/// More peers than there may be, with the item 1 each.
+static MANY: [&[u8]; 257] = [b"\x01"; 257];
 
 /// Whether the sessions with so many relays finished, of which one is to be asked for the item.
 fn all_share_out<R: Threads + Wait + Sync>(rt: &R, alloc: Global, relays: &[&[u8]]) -> bool {
