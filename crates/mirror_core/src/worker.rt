@@ -1,13 +1,15 @@
 //! A worker: it claims cells of its lane's relay, asks its source for their ids, and places the events that came.
 
-ghost use Rattle.std.specs.Prelude.{◌≡◌, ◌<◌, ◌≤◌, ◌+◌, ◌-◌, ◌^◌, ◌⊎◌, [], ◌∷◌, ℕ, false, true, length, drop, Contains, All, Some, Err, slice_get, IfOk, IfErr, IfSome, OnOk, OnErr, MatchOption};
+ghost use Rattle.std.specs.Prelude.{◌≡◌, ◌<◌, ◌≤◌, ◌+◌, ◌-◌, ◌^◌, ◌⊎◌, [], ◌∷◌, ℕ, false, true, length, drop, Contains, All, Some, Err, IfOk, IfErr, IfSome, OnOk, OnErr};
 ghost use Rattle.std.specs.Arc.{arc_value};
 ghost use Rattle.mirror_core.specs.Fetching.{fetching, ids_of, IsGiven, IsAsked};
+ghost use Rattle.mirror_core.specs.IdPlaces.{ArePlacesOf};
 ghost use Rattle.mirror_core.specs.Batches.{Batched, SameLane, EndsCell, Settles};
 ghost use Rattle.mirror_core.specs.Working.{is_through, stop_of, IsUnused, Logs, Worked};
 ghost use Rattle.mirror_core.specs.Asked.{AsksOnce};
 
 use crate::batch::{Batch, fill, release_from};
+use crate::places::Places;
 use crate::source::{Source, SourceFault};
 use crate::workers::Duty;
 use claim_board::{Board, Lane};
@@ -44,35 +46,34 @@ impl<J: Naming> From<InsertFault<J>> for Stop<J> {
     }
 }
 
-/// The place of the first event with this id, if it was given.
-fn place_of(given: &[Arc<Event>], id: &Id) -> Option<usize>
-    ensures { MatchOption result (Contains (ids_of given.now) id.now → ⊥) (λ k. (k < length given.now) × (slice_get (ids_of given.now) k ≡ Some id.now)) }
-{
-    for k in 0..given.len() {
-        if given[k].id() == *id {
-            return Some(k);
-        }
-    }
-    None
-}
-
 /// The event with this id, if it was given.
-fn given_with(given: &[Arc<Event>], id: &Id) -> Result<Option<Arc<Event>>, AllocError>
+fn given_with(
+    given: &[Arc<Event>],
+    places: &Places,
+    id: &Id,
+) -> Result<Option<Arc<Event>>, AllocError>
+    requires { ArePlacesOf (ids_of given.now) places.now.by_id }
     ensures { IfOk result (λ found. IfSome found (λ event. IsGiven id.now given.now (arc_value event))) }
 {
-    let Some(k) = place_of(given, id) else {
+    let Some(k) = places.find(given, id) else {
         return Ok(None);
     };
     Ok(Some(Arc::try_clone(&given[k])?))
 }
 
 /// Those of the given events that were asked for.
-fn asked_of(alloc: Global, ids: &[Id], given: &[Arc<Event>]) -> Result<Vec<Arc<Event>>, AllocError>
+fn asked_of(
+    alloc: Global,
+    ids: &[Id],
+    given: &[Arc<Event>],
+    places: &Places,
+) -> Result<Vec<Arc<Event>>, AllocError>
+    requires { ArePlacesOf (ids_of given.now) places.now.by_id }
     ensures { IfOk result (λ asked. All (λ event. IsAsked ids.now given.now (arc_value event)) asked.items) }
 {
     let mut asked = Vec::with_capacity(alloc, ids.len())?;
     for id in ids {
-        if let Some(event) = given_with(given, id)? {
+        if let Some(event) = given_with(given, places, id)? {
             asked.push(event)?;
         }
     }
@@ -86,8 +87,11 @@ fn place_together<R: Wait, J: Naming, D: Wait + Drop>(
     desk: &Mutex<Desk<J, D>>,
     ids: &[Id],
     given: &[Arc<Event>],
-) -> Result<(), AllocError> {
-    let asked = asked_of(alloc, ids, given)?;
+    places: &Places,
+) -> Result<(), AllocError>
+    requires { ArePlacesOf (ids_of given.now) places.now.by_id }
+{
+    let asked = asked_of(alloc, ids, given, places)?;
     desk.lock(rt).insert_all(rt, &asked)?;
     Ok(())
 }
@@ -100,15 +104,17 @@ fn end_cell<R: Wait, J: Naming, D: Wait + Drop>(
     lane: &mut Lane,
     cell: usize,
     given: &[Arc<Event>],
+    places: &Places,
 ) -> Result<(), InsertFault<J>>
     requires board { lane.old.board ≡ board.now.board }
     requires cell { (cell < length board.now.cells) × Contains lane.old.own.held cell }
+    requires places { ArePlacesOf (ids_of given.now) places.now.by_id }
     ensures same { SameLane lane.old lane.new }
     ensures ended { OnOk result (EndsCell board.now.cells (ids_of given.now) cell lane.old.own lane.new.own) }
     ensures err { OnErr result (lane.new ≡ lane.old) }
 {
     let id = board.cell(cell).0;
-    let Some(k) = place_of(given, &id) else {
+    let Some(k) = places.find(given, &id) else {
         board.miss(lane, cell);
         return Ok(());
     };
@@ -124,7 +130,8 @@ fn end_cell<R: Wait, J: Naming, D: Wait + Drop>(
     }
 }
 
-/// Ends the cells of a batch. Where the desk refuses an event, the cells from its on are released.
+/// Ends the cells of a batch. Where the desk refuses an event, the cells from its on are released, and all of them where
+/// there is no memory for the places.
 fn settle<R: Wait, J: Naming, D: Wait + Drop>(
     rt: &R,
     alloc: Global,
@@ -141,10 +148,14 @@ fn settle<R: Wait, J: Naming, D: Wait + Drop>(
     ensures batched { OnOk result (Batched board.now.cells batch.now.next [] [] lane.new.own) }
     ensures held { lane.new.own.held ≡ [] }
 {
+    let Ok(places) = Places::of(alloc, given) else {
+        release_from(board, lane, &batch.cells, 0);
+        return Err(InsertFault::Memory);
+    };
     // Without memory for it each insert below tells for itself.
-    let _ = place_together(rt, alloc, desk, batch.ids.as_slice(), given);
+    let _ = place_together(rt, alloc, desk, batch.ids.as_slice(), given, &places);
     for k in 0..batch.cells.len() {
-        match end_cell(rt, board, desk, lane, batch.cells[k], given) {
+        match end_cell(rt, board, desk, lane, batch.cells[k], given, &places) {
             Ok(()) => {}
             Err(fault) => {
                 release_from(board, lane, &batch.cells, k);

@@ -21,6 +21,15 @@ end_cell-requires-clause-cell g c =
 pub release_from-requires-clause-within : goal.release_from-requires-clause-within
 release_from-requires-clause-within g c =
     let value = c.deref.ensures.value in
+    λ i h. cells_within _ _ _ _ _ c.requires.batched i (subst (λ (z : List ℕ). Contains z i) value h)
+
+pub returns-in_default-clause-settles : goal.returns-in_default-clause-settles
+returns-in_default-clause-settles g c =
+    settles_none c.args.board.now.cells c.args.batch.now.ids.items (ids_of c.args.given.now) c.args.lane.now.own c.release_from.new.lane.own c.release_from.ensures.ended
+
+pub release_from-requires-in-Err-clause-within : goal.release_from-requires-in-Err-clause-within
+release_from-requires-in-Err-clause-within g c =
+    let value = c.deref-in-Err.ensures.value in
     λ i h. cells_within _ _ _ _ _ c.loop-k.invariant.batched i (subst (λ (z : List ℕ). Contains (drop c.loop-k.k z) i) value h)
 
 pub returns-in-Err-clause-settles : goal.returns-in-Err-clause-settles
@@ -28,9 +37,9 @@ returns-in-Err-clause-settles g c =
     let cells = c.args.board.now.cells in
     let asked = c.args.batch.now.ids.items in
     let given = ids_of c.args.given.now in
-    let same = same_then c.loop-k.lane c.end_cell.new.lane c.release_from.new.lane c.end_cell.ensures.same c.release_from.ensures.same in
-    settles_then cells asked given c.args.lane.now.own c.loop-k.lane.own c.release_from.new.lane.own same.relay c.loop-k.invariant.settles
-    (settles_none cells asked given c.loop-k.lane.own c.release_from.new.lane.own (c.release_from.ensures.ended ∙ ap (λ z. z.own.ended) c.in-Err.ensures.err))
+    let same = same_then c.loop-k.lane c.end_cell.new.lane c.release_from-in-Err.new.lane c.end_cell.ensures.same c.release_from-in-Err.ensures.same in
+    settles_then cells asked given c.args.lane.now.own c.loop-k.lane.own c.release_from-in-Err.new.lane.own same.relay c.loop-k.invariant.settles
+    (settles_none cells asked given c.loop-k.lane.own c.release_from-in-Err.new.lane.own (c.release_from-in-Err.ensures.ended ∙ ap (λ z. z.own.ended) c.in-Err.ensures.err))
 
 pub loop-k-preserved : goal.loop-k-preserved
 loop-k-preserved g c =
@@ -46,7 +55,7 @@ loop-k-preserved g c =
     let f = c.end_cell.new.lane.own in
     let more : drop k items ≡ x ∷ rest = drop_more items k x (omega (arith, c.loop-k-test.true, c.loop-k.auto.k-end, c.len-k-end.ensures)) ∙ ap (λ (z : ℕ). z ∷ rest) (sym c.index.ensures) in
     let b = subst (λ (z : List ℕ). Batched cells next z asked e) more c.loop-k.invariant.batched in
-    let ended = c.in-Ok.ensures.ended in
+    let ended = c.in-Ok-end_cell.ensures.ended in
     let same = c.end_cell.ensures.same in
     record {
       board = same.board ∙ c.loop-k.invariant.board;
