@@ -1,7 +1,5 @@
 -- How fetches go on.
-use Rattle.std.proofs.Common.{◌≡◌, ℕ, List, [], ◌∷◌, ◌++◌, ◌||◌, map, true, false, Option, None, Some, refl, sym, ap, ◌∙◌}
-use Rattle.std.specs.Prelude.{bytes_eq}
-use Rattle.std.specs.List.{list_any}
+use Rattle.std.proofs.Common.{◌≡◌, ℕ, List, [], ◌∷◌, ◌++◌, map, true, false, Option, None, Some, refl, sym, ap, ◌∙◌}
 use Rattle.std.specs.Arc.{arc_value}
 use Rattle.std.specs.declared.sync.Arc.{Arc as AnArc}
 use Rattle.std.specs.declared.alloc.Global.{Global}
@@ -11,7 +9,7 @@ use Rattle.nostr_event.specs.EventView.{EventView}
 use Rattle.mirror_core.specs.Fetching.{Fetching, fetching, ids_of}
 use Rattle.wire.specs.Line.{Line, Talk, talk_of}
 use Rattle.wire.proofs.Growing.{prefix_self}
-use Rattle.ws_link.specs.Fetched.{Answers, AreFetched, Brings, Come, IsFetched, WasFetched, Gives, ending, has_id, ids_in, is_due, keep, keep_all}
+use Rattle.ws_link.specs.Fetched.{Answers, AreFetched, Brings, Come, IsFetched, WasFetched, Gives, ending, ids_in, is_due, keep, keep_all}
 use Rattle.ws_link.specs.Held.{given_by, taken_by, StandsFetched}
 use Rattle.ws_link.specs.Messages.{Hears, IsSaid}
 use Rattle.ws_link.specs.Spoken.{IsClient}
@@ -19,10 +17,6 @@ use Rattle.ws_link.specs.Taken.{Keeps}
 use Rattle.ws_link.specs.Wired.{Wired}
 
 -- ---- what is kept
-
-pub come_among : (events : List (AnArc EventView Global)) (id : Id) → list_any (λ e. bytes_eq (arc_value {X = EventView} e).id.0 id.0) events ≡ has_id (ids_in (map arc_value events)) id
-come_among [] id = refl
-come_among (e ∷ es) id = ap (λ b. bytes_eq (arc_value e).id.0 id.0 || b) (come_among es id)
 
 pub due_is_kept : (asked : List Id) (events after : List (AnArc EventView Global)) (event : AnArc EventView Global) → after ≡ events ++ event ∷ []
     → true ≡ is_due asked (map arc_value events) (arc_value event) → map arc_value after ≡ keep asked (map arc_value events) (Some (arc_value event))

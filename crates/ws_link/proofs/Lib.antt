@@ -1,6 +1,7 @@
 pub mod Names
 pub mod Hearing
 pub mod Speaking
+pub mod Due
 pub mod Fetching
 pub mod Streams
 pub mod Cells

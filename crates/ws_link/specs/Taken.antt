@@ -7,7 +7,7 @@ use Rattle.nostr_wire.specs.Forms.{relay_form}
 use Rattle.wire.specs.Line.{Talk}
 use Rattle.ws_link.specs.declared.source.Came.{Came}
 use Rattle.ws_link.specs.declared.source.Part.{Part}
-use Rattle.ws_link.specs.Fetched.{Brings, IsForFetch, bringing, ending, keep}
+use Rattle.ws_link.specs.Fetched.{Brings, IsForFetch, bringing, ending, has_id, is_due, keep}
 use Rattle.ws_link.specs.Messages.{Hears, IsSaid}
 
 -- an event or the end is that of a message for the fetch, and another message is none of these
@@ -33,3 +33,12 @@ abbrev pub Takes : List Id → Talk → List EventView → Talk → List EventVi
 Takes asked old before new after Came.Due = Keeps asked old before new after
 Takes asked old before new after Came.Other = Keeps asked old before new after
 Takes asked old before new after Came.End = Hears (IsSaid ending) old new × (after ≡ before)
+
+-- An event is due where its id is one of these.
+abbrev pub AreDue : List Id → List EventView → List Id → Type 0
+AreDue asked kept due = (e : EventView) → has_id due e.id ≡ is_due asked kept e
+
+-- Whichever ids were asked for, of which those that are due are known before: a message is taken, and they are known after it.
+abbrev pub TakesDue : Talk → List EventView → List Id → Talk → List EventView → List Id → Came → Type 0
+TakesDue old before due new after left came =
+    (asked : List Id) → AreDue asked before due → Takes asked old before new after came × AreDue asked after left

@@ -1,9 +1,9 @@
 //! A source over a WebSocket.
-ghost use Rattle.std.specs.Prelude.{◌≡◌, ◌≢◌, ◌+◌, ◌<◌, ◌^◌, ◌-◌, [], ◌∷◌, ◌++◌, map, bytes_eq, IfOk, IfErr, OnOk, OnErr, true, false, Some, None, Err, Ok};
+ghost use Rattle.std.specs.Prelude.{◌≡◌, ◌≢◌, ◌+◌, ◌<◌, ◌^◌, ◌-◌, [], ◌∷◌, ◌++◌, map, List, IfOk, IfErr, OnOk, OnErr, true, false, Some, None, Err, Ok};
 ghost use Rattle.std.specs.Arc.{arc_value};
-ghost use Rattle.std.specs.List.{list_any};
 ghost use Rattle.std.specs.Option.{option_copied};
 ghost use Rattle.mirror_core.specs.Fetching.{Fetching, fetching, ids_of};
+ghost use Rattle.neg_codec.specs.declared.Id.{Id};
 ghost use Rattle.nostr_event.specs.EventView.{EventView};
 ghost use Rattle.nostr_wire.specs.Forms.{client_form};
 ghost use Rattle.nostr_wire.specs.Writing.{text_of};
@@ -12,8 +12,8 @@ ghost use Rattle.wire.specs.Talk.{Says, Grows};
 ghost use Rattle.ws_socket.specs.Faults.{IsOfStream};
 ghost use Rattle.ws_link.specs.Wired.{Wired, unused, failed_by, with_bytes_of, GoesOn};
 ghost use Rattle.ws_link.specs.Failing.{gives, MissesBy};
-ghost use Rattle.ws_link.specs.Fetched.{fetch, with_ids, requesting, closing, has_id, ids_in, is_due, Answers, IsFetched, WasFetched, Gives};
-ghost use Rattle.ws_link.specs.Taken.{Tells, MayTell, Takes};
+ghost use Rattle.ws_link.specs.Fetched.{fetch, with_ids, requesting, closing, is_due, keep, Answers, IsFetched, WasFetched, Gives};
+ghost use Rattle.ws_link.specs.Taken.{Tells, MayTell, AreDue, TakesDue};
 
 use crate::client::{close, connected, copy_of, heard, named, say};
 use crate::notes::{Explains, Notes};
@@ -23,6 +23,7 @@ use nostr_event::{Event, Text};
 use nostr_filter::{Bytes32List, Filter};
 use nostr_wire::{Filters, FromClient, FromRelay, Sub};
 use std::alloc::{AllocError, Global};
+use std::collections::BTreeSet;
 use std::io::{Read, Write};
 use std::marker::Model;
 use std::random::RandomSource;
@@ -271,39 +272,20 @@ fn request(alloc: Global, ids: &[Id]) -> Result<FromClient, LinkFault>
     }
 }
 
-/// Whether the event was asked for, and hasn't come yet.
-fn is_due(ids: &[Id], events: &[Arc<Event>], event: &Event) -> bool
-    ensures { result ≡ is_due ids.now (map arc_value events.now) event.now }
+/// The ids that are due before any event came: those that were asked for. One sort.
+fn due_at_first(alloc: Global, ids: &[Id]) -> Result<BTreeSet<Id>, AllocError>
+    ensures { IfOk result (λ due. AreDue ids.now [] due.keys) }
 {
-    let id = event.id();
-    was_asked(ids, &id) && !has_come(events, &id)
+    let due: BTreeSet<Id> = ids.iter().copied().collect(alloc)?;
+    Ok(due)
 }
 
-/// Whether it is one of the ids.
-fn was_asked(ids: &[Id], id: &Id) -> bool
-    ensures { result ≡ has_id ids.now id.now }
+/// Whether the event is due. From then on it isn't.
+fn comes_due(due: &mut BTreeSet<Id>, event: &Event) -> bool
+    ensures due { (asked : List Id) (kept : List EventView) → AreDue asked kept due.old.keys → result ≡ is_due asked kept event.now }
+    ensures left { (asked : List Id) (kept : List EventView) → AreDue asked kept due.old.keys → AreDue asked (keep asked kept (Some event.now)) due.new.keys }
 {
-    ids.iter().any(|asked| *asked == *id)
-}
-
-/// Whether it is the id of one of the events.
-fn has_come(events: &[Arc<Event>], id: &Id) -> bool
-    ensures { result ≡ has_id (ids_in (map arc_value events.now)) id.now }
-{
-    some_has(events, id)
-}
-
-fn some_has(events: &[Arc<Event>], id: &Id) -> bool
-    ensures { result ≡ list_any (λ e. bytes_eq (arc_value {X = EventView} e).id.0 id.now.0) events.now }
-{
-    events.iter().any(|event| is_of(event, id))
-}
-
-/// Whether the event has the id.
-fn is_of(event: &Event, id: &Id) -> bool
-    ensures { result ≡ bytes_eq event.now.id.0 id.now.0 }
-{
-    event.id() == *id
+    due.remove(&event.id())
 }
 
 /// Reads until the end of the stored events, past at most 999 other messages. Events that weren't asked for, or came already, are
@@ -318,10 +300,11 @@ fn read_events<S: Read + Write, K: MaskKeys>(
     ensures answers { IfOk result (λ events. Answers ids.now (map arc_value events.items) (talk_of wire.old) (talk_of wire.new)) }
     ensures grows { Grows (talk_of wire.old) (talk_of wire.new) }
 {
+    let mut due = due_at_first(alloc, ids)?;
     let mut events = Vec::new(alloc);
     let mut others = 0usize;
     for _read in 0..ids.len().saturating_add(TOO_MANY) {
-        match read_event(alloc, wire, ids, &mut events, notes)? {
+        match read_event(alloc, wire, &mut due, &mut events, notes)? {
             Came::Due => {}
             Came::End => return Ok(events),
             Came::Other => others = others.saturating_add(1),
@@ -350,16 +333,16 @@ enum Came {
 fn read_event<S: Read + Write, K: MaskKeys>(
     alloc: Global,
     wire: &mut Wire<S, K>,
-    ids: &[Id],
+    due: &mut BTreeSet<Id>,
     events: &mut Vec<Arc<Event>>,
     notes: &mut Notes,
 ) -> Result<Came, LinkFault>
-    ensures takes { IfOk result (Takes ids.now (talk_of wire.old) (map arc_value events.old.items) (talk_of wire.new) (map arc_value events.new.items)) }
+    ensures takes { IfOk result (TakesDue (talk_of wire.old) (map arc_value events.old.items) due.old.keys (talk_of wire.new) (map arc_value events.new.items) due.new.keys) }
     ensures grows { Grows (talk_of wire.old) (talk_of wire.new) }
 {
     match hear(alloc, wire, notes)? {
         Part::Event(event) => {
-            if is_due(ids, events, &event) {
+            if comes_due(due, &event) {
                 events.push(event)?;
                 Ok(Came::Due)
             } else {

@@ -2,7 +2,7 @@ use Rattle.std.proofs.Common.{map}
 use Rattle.std.specs.Arc.{arc_value}
 use Rattle.wire.specs.Line.{talk_of}
 use Rattle.wire.proofs.Growing.{grows_chain}
-use Rattle.ws_link.proofs.Fetching.{kept_more}
+use Rattle.ws_link.proofs.Fetching.{answered, kept_more}
 use Rattle.ws_link.proofs.source.read_events.Goals.{else-loop-read-test, then-loop-read-test+in_ok-read_event+then-others-ge-TOO_MANY, in-Due, in-Other}
 use Rattle.ws_link.proofs.source.read_events.Goals as goal
 
@@ -14,10 +14,22 @@ loop-read-preserved g c =
     let before = map arc_value c.loop-read.events.items in
     let after = map arc_value c.read_event.new.events.items in
     let grown = grows_chain first mid last c.loop-read.invariant.grows c.read_event.ensures.grows in
-    elim c.match-branch-2.branch [
-      | in-Due w ↦ record { grows = grown; kept = kept_more c.args.ids.now first mid last before after c.loop-read.invariant.kept (rw w.in-Due.is at c.in_ok-read_event.ensures.takes) }
-      | in-Other w ↦ record { grows = grown; kept = kept_more c.args.ids.now first mid last before after c.loop-read.invariant.kept (rw w.in-Other.is at c.in_ok-read_event.ensures.takes) }
+    let taken = c.in_ok-read_event.ensures.takes c.args.ids.now c.loop-read.invariant.due in
+    elim c.match-branch-3.branch [
+      | in-Due w ↦ record { grows = grown; kept = kept_more c.args.ids.now first mid last before after c.loop-read.invariant.kept (rw w.in-Due.is at taken.0); due = taken.1 }
+      | in-Other w ↦ record { grows = grown; kept = kept_more c.args.ids.now first mid last before after c.loop-read.invariant.kept (rw w.in-Other.is at taken.0); due = taken.1 }
     ]
+
+pub returns-in-End-clause-answers : goal.returns-in-End-clause-answers
+returns-in-End-clause-answers g c =
+    let first = talk_of c.args.wire.now in
+    let mid = talk_of c.loop-read.wire in
+    let last = talk_of c.read_event.new.wire in
+    let before = map arc_value c.loop-read.events.items in
+    let after = map arc_value c.read_event.new.events.items in
+    let taken = c.in_ok-read_event.ensures.takes c.args.ids.now c.loop-read.invariant.due in
+    let ended = rw c.in-End.is at taken.0 in
+    answered c.args.ids.now first mid last before after c.loop-read.invariant.kept ended.0 ended.1
 
 pub returns-clause-grows : goal.returns-clause-grows
 returns-clause-grows g c =
