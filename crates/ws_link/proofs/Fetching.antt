@@ -1,5 +1,5 @@
 -- How fetches go on.
-use Rattle.std.proofs.Common.{◌≡◌, ℕ, List, [], ◌∷◌, ◌++◌, map, true, false, Option, None, Some, refl, sym, ap, ◌∙◌}
+use Rattle.std.proofs.Common.{◌≡◌, ℕ, List, [], ◌∷◌, ◌++◌, map, true, false, Option, None, Some, Result, Ok, Err, OnOk, OnErr, IfOk, Vec, refl, sym, ap, ◌∙◌}
 use Rattle.std.specs.Arc.{arc_value}
 use Rattle.std.specs.declared.sync.Arc.{Arc as AnArc}
 use Rattle.std.specs.declared.alloc.Global.{Global}
@@ -8,7 +8,10 @@ use Rattle.neg_codec.specs.declared.Id.{Id}
 use Rattle.nostr_event.specs.EventView.{EventView}
 use Rattle.mirror_core.specs.Fetching.{Fetching, fetching, ids_of}
 use Rattle.wire.specs.Line.{Line, Talk, talk_of}
+use Rattle.wire.specs.Talk.{Grows}
 use Rattle.wire.proofs.Growing.{prefix_self}
+use Rattle.ws_socket.specs.declared.fault.LinkFault.{LinkFault}
+use Rattle.ws_link.specs.declared.link.Link.{Link}
 use Rattle.ws_link.specs.Fetched.{Answers, AreFetched, Brings, Come, IsFetched, WasFetched, Gives, ending, ids_in, is_due, keep, keep_all}
 use Rattle.ws_link.specs.Held.{given_by, taken_by, StandsFetched}
 use Rattle.ws_link.specs.Messages.{Hears, IsSaid}
@@ -62,12 +65,6 @@ pub stands_unused : (log : List Fetching) (wire : Talk) → log ≡ [] → IsCli
 stands_unused log wire e h = rw e (wire, h, refl)
 
 module _ {S : Type 0} where
-  pub stands_fetched : (log later : List Fetching) (wire wire2 : Line S) (given taken given2 taken2 : List ℕ) (asked : List Id) (events : List (AnArc EventView Global))
-      → StandsFetched log (Some wire) given taken → IsFetched asked (map arc_value events) (talk_of wire) (talk_of wire2) → later ≡ log ++ fetching asked (ids_of events) ∷ []
-      → StandsFetched later (Some wire2) given2 taken2
-  stands_fetched log later wire wire2 given taken given2 taken2 asked events h k e =
-      rw e (h.0, h.1, fetched_more log h.0 (talk_of wire) (talk_of wire2) (fetching asked (ids_of events)) (map arc_value events) h.2 k (ids_match events))
-
   pub was_fetched : (s : Wired Fetching) (wire : Option (Line S)) (given taken : List ℕ)
       → s.given ≡ given_by wire given → s.taken ≡ taken_by wire taken → StandsFetched s.log wire given taken → WasFetched s
   was_fetched s None given taken e f h =
@@ -75,8 +72,28 @@ module _ {S : Type 0} where
   was_fetched s (Some wire) given taken e f h =
       record { first = h.0; last = talk_of wire; fresh = h.1; fetched = h.2; given = rw e (prefix_self wire.given); taken = rw f (prefix_self wire.taken) }
 
-  pub gives_wires : (old new : Wired Fetching) (wire wire2 : Line S) (asked : List Id) (events : List EventView)
+  gives_wires : (old new : Wired Fetching) (wire wire2 : Line S) (asked : List Id) (events : List EventView)
       → IsFetched asked events (talk_of wire) (talk_of wire2) → old.given ≡ wire.given → old.taken ≡ wire.taken → new.given ≡ wire2.given → new.taken ≡ wire2.taken
       → Gives asked events old new
   gives_wires old new wire wire2 asked events h a b c d =
       record { first = talk_of wire; last = talk_of wire2; fetched = h; given_first = sym a; taken_first = sym b; given = sym c; taken = sym d }
+
+module _ {S K : Type 0} where
+  -- the wire is put back behind a fetch, or let go
+  pub fetched_stands : (r : Result (Vec (AnArc EventView Global) Global) LinkFault) (old new : Link S K Fetching) (log : List Fetching) (wire wire2 : Line S) (given taken : List ℕ) (asked : List Id)
+      → StandsFetched log (Some wire) given taken → IfOk r (λ events. IsFetched asked (map arc_value events.items) (talk_of wire) (talk_of wire2))
+      → IfOk r (λ events. old.log.items ≡ log ++ fetching asked (ids_of events.items) ∷ []) → OnErr r (old.log.items ≡ log) → Grows (talk_of wire) (talk_of wire2) → old.wire ≡ None
+      → OnOk r (new ≡ record old { wire = Some wire2 }) → OnErr r (new ≡ record old { given = wire2.given; taken = wire2.taken })
+      → StandsFetched new.log.items new.wire new.given new.taken
+  fetched_stands (Ok events) old new log wire wire2 given taken asked was fetched logged kept grows out ok err =
+      rw (ok, logged) (was.0, was.1, fetched_more log was.0 (talk_of wire) (talk_of wire2) (fetching asked (ids_of events.items)) (map arc_value events.items) was.2 fetched (ids_match events.items))
+  fetched_stands (Err f) old new log wire wire2 given taken asked was fetched logged kept grows out ok err =
+      rw (err, out, kept) (was.0, talk_of wire, was.1, was.2, grows.0, grows.1)
+
+  -- what a fetch that went well gave
+  pub fetch_gave : (r : Result (Vec (AnArc EventView Global) Global) LinkFault) (old new : Link S K Fetching) (wire wire2 : Line S) (asked : List Id) (before after : Wired Fetching) → old.wire ≡ None
+      → IfOk r (λ events. IsFetched asked (map arc_value events.items) (talk_of wire) (talk_of wire2)) → OnOk r (new ≡ record old { wire = Some wire2 })
+      → before.given ≡ wire.given → before.taken ≡ wire.taken → after.given ≡ given_by new.wire new.given → after.taken ≡ taken_by new.wire new.taken
+      → IfOk r (λ events. Gives asked (map arc_value events.items) before after)
+  fetch_gave (Ok events) old new wire wire2 asked before after out fetched ok a b c d = gives_wires before after wire wire2 asked (map arc_value events.items) fetched a b (rw ok at c) (rw ok at d)
+  fetch_gave (Err f) old new wire wire2 asked before after out fetched ok a b c d = tt

@@ -1,17 +1,18 @@
 -- How a session goes on.
-use Rattle.std.proofs.Common.{◌≡◌, ℕ, List, [], ◌∷◌, ◌++◌, Bool, true, false, Option, None, Some, Result, Ok, Err, Vec, refl}
+use Rattle.std.proofs.Common.{◌≡◌, ℕ, List, [], ◌∷◌, ◌++◌, Bool, true, false, Option, None, Some, Result, Ok, Err, OnOk, OnErr, Vec, refl}
 use Rattle.std.specs.Prelude.{IfOk, IfSome}
 use Rattle.std.specs.declared.alloc.Global.{Global}
-use Rattle.neg_session.specs.Exchange.{Exchange}
+use Rattle.neg_session.specs.Exchange.{Exchange, exchange}
 use Rattle.nostr_filter.specs.declared.filter.Filter.{Filter}
 use Rattle.nostr_wire.specs.declared.messages.FromRelay.{FromRelay}
 use Rattle.nostr_wire.specs.Forms.{relay_form}
 use Rattle.websocket.specs.declared.protocol.config.Role.TheVariants.{Client}
 use Rattle.websocket.specs.declared.protocol.config.WebSocketConfig.{WebSocketConfig}
 use Rattle.wire.specs.Line.{Line, Talk, fresh, talk_of}
-use Rattle.wire.specs.Talk.{Listened}
+use Rattle.wire.specs.Talk.{Grows, Listened}
 use Rattle.wire.proofs.Growing.{hears_later, prefix_self}
 use Rattle.ws_socket.specs.declared.fault.LinkFault.{LinkFault}
+use Rattle.ws_link.specs.declared.link.Link.{Link}
 use Rattle.ws_link.specs.declared.peer.Part.{Part}
 use Rattle.ws_link.specs.Held.{noted, given_by, taken_by, left_of, Stands}
 use Rattle.ws_link.specs.Parts.{Tells, MayAnswer}
@@ -62,15 +63,21 @@ stands_nowhere noting log given taken e f g h =
     rw (e, f, g, h) (client, client, (config, [], refl), refl, ([], refl), ([], refl))
 
 module _ {S : Type 0} where
-  pub stands_more : (opens left after : Option Filter) (log later : List Exchange) (wire wire2 : Line S) (given taken given2 taken2 : List ℕ) (e : Exchange)
-      → Stands opens log left (Some wire) given taken → Exchanged left (talk_of wire) e (talk_of wire2) → later ≡ log ++ e ∷ [] → after ≡ None
-      → Stands opens later after (Some wire2) given2 taken2
-  stands_more opens left after log later wire wire2 given taken given2 taken2 e h k f none =
-      rw (f, none) (h.0, h.1, spoken_more opens log h.0 (talk_of wire) (talk_of wire2) e h.2 (rw h.3 at k), left_more opens log e)
-
   pub was_spoken : (p : Wired Exchange) (left : Option Filter) (wire : Option (Line S)) (given taken : List ℕ)
       → p.given ≡ given_by wire given → p.taken ≡ taken_by wire taken → Stands p.opens p.log left wire given taken → WasSpoken p
   was_spoken p left None given taken e f h =
       record { first = h.0; last = h.1; fresh = h.2; spoken = h.3; given = rw e h.4; taken = rw f h.5 }
   was_spoken p left (Some wire) given taken e f h =
       record { first = h.0; last = talk_of wire; fresh = h.1; spoken = h.2; given = rw e (prefix_self wire.given); taken = rw f (prefix_self wire.taken) }
+
+module _ {S K : Type 0} where
+  -- the wire is put back behind a question, or let go
+  pub spoken_stands : (r : Result (Vec ℕ Global) LinkFault) (old new : Link S K Exchange) (opens left after : Option Filter) (log : List Exchange) (wire wire2 : Line S) (given taken asked : List ℕ)
+      → Stands opens log left (Some wire) given taken → IfOk r (λ answer. Exchanged left (talk_of wire) (exchange asked answer.items) (talk_of wire2))
+      → IfOk r (λ answer. old.log.items ≡ log ++ exchange asked answer.items ∷ []) → OnErr r (old.log.items ≡ log) → Grows (talk_of wire) (talk_of wire2) → old.wire ≡ None → after ≡ None
+      → OnOk r (new ≡ record old { wire = Some wire2 }) → OnErr r (new ≡ record old { given = wire2.given; taken = wire2.taken })
+      → Stands opens new.log.items after new.wire new.given new.taken
+  spoken_stands (Ok answer) old new opens left after log wire wire2 given taken asked was exchanged logged kept grows out none ok err =
+      rw (ok, logged, none) (was.0, was.1, spoken_more opens log was.0 (talk_of wire) (talk_of wire2) (exchange asked answer.items) was.2 (rw was.3 at exchanged), left_more opens log (exchange asked answer.items))
+  spoken_stands (Err f) old new opens left after log wire wire2 given taken asked was exchanged logged kept grows out none ok err =
+      rw (err, out, kept) (was.0, talk_of wire, was.1, was.2, grows.0, grows.1)

@@ -4,6 +4,7 @@
 mod client;
 mod head;
 mod laws;
+mod link;
 mod live;
 mod notes;
 mod peer;

@@ -12,6 +12,7 @@ ghost use Rattle.ws_link.specs.Spoken.{mirror, asking, Exchanged, WasSpoken};
 ghost use Rattle.ws_link.specs.Parts.{Tells, MayAnswer};
 
 use crate::client::{close, connected, copy_of, heard, named, say};
+use crate::link::Link;
 use crate::notes::{Explains, Notes};
 use http_server::Log;
 use neg_session::{Pair, Peer, PeerFault};
@@ -23,7 +24,7 @@ use std::io::{Read, Write};
 use std::marker::Model;
 use std::random::RandomSource;
 use tungstenite::{MaskKeys, RandomKeys};
-use wire::{Trail, Wire};
+use wire::Wire;
 use ws_socket::{LinkFault, Reason};
 
 /// The name of the session.
@@ -36,20 +37,11 @@ const MOST_READS: u32 = 1_000;
 /// masking keys. Once a call has failed, every question fails.
 #[derive(Drop)]
 pub struct WsPeer<S, K> {
-    alloc: Global,
-    // None once a call has failed, so that no later question gets an earlier one's answer.
-    wire: Option<Wire<S, K>>,
+    link: Link<S, K, Pair>,
     // What the first question opens the session with.
     filter: Option<Filter>,
     // The same, for proofs alone.
     opens: Log<Filter, bool>,
-    pairs: Vec<Pair>,
-    failures: u64,
-    last_fault: Option<LinkFault>,
-    notes: Notes,
-    // What the stream gave and took that is let go.
-    given: Trail,
-    taken: Trail,
 }
 
 impl<S, K> Model for WsPeer<S, K> {
@@ -61,16 +53,16 @@ impl<S, K> Model for WsPeer<S, K> {
     ghost Value = { Wired Exchange };
 
     ghost view = { λ p. record {
-      live = is_some p.wire;
-      log = p.pairs.items;
-      faults = p.failures;
-      last = p.last_fault;
+      live = is_some p.link.wire;
+      log = p.link.log.items;
+      faults = p.link.failures;
+      last = p.link.last_fault;
       opens = noted p.opens.items;
-      given = given_by p.wire p.given;
-      taken = taken_by p.wire p.taken;
+      given = given_by p.link.wire p.link.given;
+      taken = taken_by p.link.wire p.link.taken;
     } };
 
-    ghost invariant = { λ p. Stands (noted p.opens.items) p.pairs.items p.filter p.wire p.given p.taken };
+    ghost invariant = { λ p. Stands (noted p.opens.items) p.link.log.items p.filter p.link.wire p.link.given p.link.taken };
 }
 
 impl<S: Read + Write + Drop, R: RandomSource + Drop> WsPeer<S, RandomKeys<R>> {
@@ -105,16 +97,9 @@ impl<S: Read + Write + Drop, R: RandomSource + Drop> WsPeer<S, RandomKeys<R>> {
         let filter = copied(alloc, filter)?;
         let wire = connected(alloc, source, stream, host, path, notes)?;
         Ok(WsPeer {
-            alloc,
-            wire: Some(wire),
+            link: Link::new(alloc, Some(wire), Notes::none()),
             opens: Log::new().and(&filter, &true),
             filter: Some(filter),
-            pairs: Vec::new(alloc),
-            failures: 0,
-            last_fault: None,
-            notes: Notes::none(),
-            given: Trail::new(),
-            taken: Trail::new(),
         })
     }
 }
@@ -145,16 +130,9 @@ impl<S: Drop, K: Drop> WsPeer<S, K> {
         ensures { result ≡ unused false None [] }
     {
         WsPeer {
-            alloc,
-            wire: None,
+            link: Link::new(alloc, None, notes),
             filter: None,
             opens: Log::new(),
-            pairs: Vec::new(alloc),
-            failures: 0,
-            last_fault: None,
-            notes,
-            given: Trail::new(),
-            taken: Trail::new(),
         }
     }
 
@@ -162,7 +140,7 @@ impl<S: Drop, K: Drop> WsPeer<S, K> {
     pub fn last_fault(&self) -> Option<&LinkFault>
         ensures { option_copied result ≡ self.now.last }
     {
-        self.last_fault.as_ref()
+        self.link.last_fault.as_ref()
     }
 
     /// What it answered was heard: each question that is logged went out as a message of the session, and its answer was read
@@ -170,7 +148,7 @@ impl<S: Drop, K: Drop> WsPeer<S, K> {
     pub fn always_spoken(&self)
         ensures { WasSpoken self.now }
     {
-        let _log = &self.pairs;
+        let _log = &self.link.log;
     }
 
     // Notes the fault. Want of memory is no failure of the peer.
@@ -180,15 +158,11 @@ impl<S: Drop, K: Drop> WsPeer<S, K> {
         ensures peer { self.new ≡ failed_by fault self.old }
         ensures answer { result ≡ answer_of fault }
     {
-        let answer = match &fault {
-            LinkFault::Memory => PeerFault::Memory,
-            _ => PeerFault::Failed,
-        };
-        if answer == PeerFault::Failed {
-            self.failures += 1;
+        if self.link.fail(fault) {
+            PeerFault::Failed
+        } else {
+            PeerFault::Memory
         }
-        self.last_fault = Some(fault);
-        answer
     }
 }
 
@@ -200,29 +174,16 @@ impl<S: Read + Write + Drop, K: MaskKeys + Drop> WsPeer<S, K> {
         ensures grows { GoesOn self.old self.new }
         ensures dead { self.old.live ≡ false → result ≡ Err LinkFault.Link }
     {
-        let Some(mut wire) = self.wire.take() else {
-            return Err(LinkFault::Link);
-        };
+        let mut wire = self.link.take_out()?;
         let asked = ask_over(
-            self.alloc,
+            self.link.alloc,
             &mut wire,
             self.filter.take(),
             question,
-            &mut self.pairs,
-            &mut self.notes,
+            &mut self.link.log,
+            &mut self.link.notes,
         );
-        match asked {
-            Ok(answer) => {
-                self.wire = Some(wire);
-                Ok(answer)
-            }
-            Err(fault) => {
-                let (given, taken) = wire.into_trails();
-                self.given = given;
-                self.taken = taken;
-                Err(fault)
-            }
-        }
+        self.link.put_back(wire, asked)
     }
 
     /// Ends the session, and closes the connection.
@@ -230,13 +191,18 @@ impl<S: Read + Write + Drop, K: MaskKeys + Drop> WsPeer<S, K> {
         ensures dead { self.live ≡ false → result ≡ Err LinkFault.Link }
         ensures err { IfErr result IsOfStream }
     {
-        let alloc = self.alloc;
-        let Some(wire) = &mut self.wire else {
+        let alloc = self.link.alloc;
+        let Some(wire) = &mut self.link.wire else {
             return Err(LinkFault::Link);
         };
         let sub = session(alloc)?;
-        say(alloc, wire, &FromClient::NegClose { sub }, &mut self.notes)?;
-        close(wire, &mut self.notes)
+        say(
+            alloc,
+            wire,
+            &FromClient::NegClose { sub },
+            &mut self.link.notes,
+        )?;
+        close(wire, &mut self.link.notes)
     }
 }
 
@@ -391,7 +357,7 @@ fn is_ours(sub: &Sub) -> bool
 
 impl<S, K> Explains for WsPeer<S, K> {
     fn notes(&self) -> &Notes {
-        &self.notes
+        &self.link.notes
     }
 }
 
@@ -433,10 +399,10 @@ impl<S: Read + Write + Drop, K: MaskKeys + Drop> Peer for WsPeer<S, K> {
     }
 
     fn pairs(&self) -> &[Pair] {
-        self.pairs.as_slice()
+        self.link.log.as_slice()
     }
 
     fn failures(&self) -> u64 {
-        self.failures
+        self.link.failures
     }
 }

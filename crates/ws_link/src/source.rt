@@ -16,6 +16,7 @@ ghost use Rattle.ws_link.specs.Fetched.{fetch, with_ids, requesting, closing, is
 ghost use Rattle.ws_link.specs.Taken.{Tells, MayTell, AreDue, TakesDue};
 
 use crate::client::{close, connected, copy_of, heard, named, say};
+use crate::link::Link;
 use crate::notes::{Explains, Notes};
 use mirror_core::{Fetch, Source, SourceFault};
 use neg_codec::Id;
@@ -29,7 +30,7 @@ use std::marker::Model;
 use std::random::RandomSource;
 use std::sync::Arc;
 use tungstenite::{MaskKeys, RandomKeys};
-use wire::{Trail, Wire};
+use wire::Wire;
 use ws_socket::{LinkFault, Reason};
 
 /// The name of the subscription.
@@ -42,16 +43,7 @@ const TOO_MANY: usize = 1_000;
 /// has failed, every fetch fails.
 #[derive(Drop)]
 pub struct WsSource<S, K> {
-    alloc: Global,
-    // None once a call has failed, so that no later fetch gets an earlier one's events.
-    wire: Option<Wire<S, K>>,
-    fetches: Vec<Fetch>,
-    failures: u64,
-    last_fault: Option<LinkFault>,
-    notes: Notes,
-    // What the stream gave and took that is let go.
-    given: Trail,
-    taken: Trail,
+    link: Link<S, K, Fetch>,
 }
 
 impl<S, K> Model for WsSource<S, K> {
@@ -64,16 +56,16 @@ impl<S, K> Model for WsSource<S, K> {
     ghost Value = { Wired Fetching };
 
     ghost view = { λ s. record {
-      live = is_some s.wire;
-      log = s.fetches.items;
-      faults = s.failures;
-      last = s.last_fault;
+      live = is_some s.link.wire;
+      log = s.link.log.items;
+      faults = s.link.failures;
+      last = s.link.last_fault;
       opens = None;
-      given = given_by s.wire s.given;
-      taken = taken_by s.wire s.taken;
+      given = given_by s.link.wire s.link.given;
+      taken = taken_by s.link.wire s.link.taken;
     } };
 
-    ghost invariant = { λ s. StandsFetched s.fetches.items s.wire s.given s.taken };
+    ghost invariant = { λ s. StandsFetched s.link.log.items s.link.wire s.link.given s.link.taken };
 }
 
 impl<S: Read + Write + Drop, R: RandomSource + Drop> WsSource<S, RandomKeys<R>> {
@@ -104,14 +96,7 @@ impl<S: Read + Write + Drop, R: RandomSource + Drop> WsSource<S, RandomKeys<R>> 
     {
         let wire = connected(alloc, source, stream, host, path, notes)?;
         Ok(WsSource {
-            alloc,
-            wire: Some(wire),
-            fetches: Vec::new(alloc),
-            failures: 0,
-            last_fault: None,
-            notes: Notes::none(),
-            given: Trail::new(),
-            taken: Trail::new(),
+            link: Link::new(alloc, Some(wire), Notes::none()),
         })
     }
 }
@@ -121,7 +106,7 @@ impl<S: Drop, K: Drop> WsSource<S, K> {
     pub fn last_fault(&self) -> Option<&LinkFault>
         ensures { option_copied result ≡ self.now.last }
     {
-        self.last_fault.as_ref()
+        self.link.last_fault.as_ref()
     }
 
     /// What it gave was heard: of each fetch that is logged the request went out, the events that were given are those of messages
@@ -129,7 +114,7 @@ impl<S: Drop, K: Drop> WsSource<S, K> {
     pub fn always_fetched(&self)
         ensures { WasFetched self.now }
     {
-        let _log = &self.fetches;
+        let _log = &self.link.log;
     }
 
     // Notes the fault. Want of memory is no failure of the source.
@@ -139,15 +124,11 @@ impl<S: Drop, K: Drop> WsSource<S, K> {
         ensures source { self.new ≡ failed_by fault self.old }
         ensures answer { result ≡ gives fault }
     {
-        let answer = match &fault {
-            LinkFault::Memory => SourceFault::Memory,
-            _ => SourceFault::Failed,
-        };
-        if answer == SourceFault::Failed {
-            self.failures += 1;
+        if self.link.fail(fault) {
+            SourceFault::Failed
+        } else {
+            SourceFault::Memory
         }
-        self.last_fault = Some(fault);
-        answer
     }
 }
 
@@ -160,28 +141,15 @@ impl<S: Read + Write + Drop, K: MaskKeys + Drop> WsSource<S, K> {
         ensures grows { GoesOn self.old self.new }
         ensures dead { self.old.live ≡ false → result ≡ Err LinkFault.Link }
     {
-        let Some(mut wire) = self.wire.take() else {
-            return Err(LinkFault::Link);
-        };
+        let mut wire = self.link.take_out()?;
         let fetched = fetch_over(
-            self.alloc,
+            self.link.alloc,
             &mut wire,
             ids,
-            &mut self.fetches,
-            &mut self.notes,
+            &mut self.link.log,
+            &mut self.link.notes,
         );
-        match fetched {
-            Ok(events) => {
-                self.wire = Some(wire);
-                Ok(events)
-            }
-            Err(fault) => {
-                let (given, taken) = wire.into_trails();
-                self.given = given;
-                self.taken = taken;
-                Err(fault)
-            }
-        }
+        self.link.put_back(wire, fetched)
     }
 
     /// Closes the connection.
@@ -189,10 +157,8 @@ impl<S: Read + Write + Drop, K: MaskKeys + Drop> WsSource<S, K> {
         ensures dead { self.live ≡ false → result ≡ Err LinkFault.Link }
         ensures err { IfErr result IsOfStream }
     {
-        match &mut self.wire {
-            Some(wire) => close(wire, &mut self.notes),
-            None => Err(LinkFault::Link),
-        }
+        let mut wire = self.link.take_out()?;
+        close(&mut wire, &mut self.link.notes)
     }
 }
 
@@ -430,7 +396,7 @@ fn is_ours(name: &str) -> bool
 
 impl<S, K> Explains for WsSource<S, K> {
     fn notes(&self) -> &Notes {
-        &self.notes
+        &self.link.notes
     }
 }
 
@@ -469,10 +435,10 @@ impl<S: Read + Write + Drop, K: MaskKeys + Drop> Source for WsSource<S, K> {
     }
 
     fn fetches(&self) -> &[Fetch] {
-        self.fetches.as_slice()
+        self.link.log.as_slice()
     }
 
     fn failures(&self) -> u64 {
-        self.failures
+        self.link.failures
     }
 }

@@ -4,5 +4,5 @@ use Rattle.ws_link.proofs.source.WsSource.always_fetched.Goals as goal
 
 pub returns : goal.returns
 returns g c =
-    let i = c.self.inside in
+    let i = c.self.inside.link in
     rw (← c.self.view_is) (was_fetched _ i.wire i.given i.taken refl refl c.self.invariant)
