@@ -180,7 +180,7 @@ fn read_event(alloc: Global) -> Option<Said> {
     let value = parsed(alloc, EVENTS[0])?;
     match Event::from_json(alloc, &value) {
         Ok(event) => Said::ample(
-            event_id(0) == Some(event.id()) && event.draft().tags.as_slice().len() == 2,
+            event_id(0) == Some(event.id()) && event.draft().tags.len() == 2,
         ),
         Err(EventFault::Memory) => Said::memory(true),
         Err(_) => Said::wrong(),
