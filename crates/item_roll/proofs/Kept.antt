@@ -168,28 +168,6 @@ unfolding count_below
 none_in {V} its [] b e = refl
 none_in {V} its (x ∷ es) b e = absurd (omega arith)
 
--- ---- the first item of a part
-
-first_read : (xs : List Item) (x d : Item) → 0 < length xs → slice_get xs 0 ≡ Some x → get_or xs 0 d ≡ x
-first_read [] x d lt e = absurd (omega arith)
-first_read (y ∷ xs) x d lt e = cc
-
-pub low_first : {V : Type 0} → (its : V → List Item) (top : ℕ) (es : List (Entry V)) (i : ℕ) (e : Entry V) (b x : Item) → Tells its top 0 0 es → Ascending (joined its es) → i < length es → e ≡ get_or es i e → slice_get (items_at its e) 0 ≡ Some x
-    → place x < place b → starts its es i < count_below (joined its es) b
-low_first {V} its top es i e b x k up lt is first low =
-    let c = chunk_is its top es i e k lt is in
-    let n = next_is its es i e lt is in
-    let same = item_is its es i 0 e x lt is c.some ∙ first_read (items_at its e) x x c.some first in
-    omega (arith, low_item (joined its es) (starts its es i + 0) b x up (omega (arith, n, starts_most its es (i + 1), c.some)) (subst (λ (y : Item). place y < place b) (sym same) low))
-
-pub high_first : {V : Type 0} → (its : V → List Item) (top : ℕ) (es : List (Entry V)) (i : ℕ) (e : Entry V) (b x : Item) → Tells its top 0 0 es → Ascending (joined its es) → i < length es → e ≡ get_or es i e → slice_get (items_at its e) 0 ≡ Some x
-    → place b ≤ place x → count_below (joined its es) b ≤ starts its es i
-high_first {V} its top es i e b x k up lt is first high =
-    let c = chunk_is its top es i e k lt is in
-    let n = next_is its es i e lt is in
-    let same = item_is its es i 0 e x lt is c.some ∙ first_read (items_at its e) x x c.some first in
-    omega (arith, high_item (joined its es) (starts its es i + 0) b x up (omega (arith, n, starts_most its es (i + 1), c.some)) (subst (λ (y : Item). place b ≤ place y) (sym same) high))
-
 pub told_sum : {V : Type 0} → (its : V → List Item) (top : ℕ) (es : List (Entry V)) (i n t : ℕ) (d : Entry V) → t < 2 ^ 256 → Tells its top n t es → i < length es → total_of (get_or es i d).sum_before ≡ (t + sum_at (joined its (take i es))) % 2 ^ 256
 told_sum {V} its top [] i n t d small k lt = absurd (omega arith)
 told_sum {V} its top (e ∷ es) zero n t d small k lt = omega (arith, k.1, sum_none, small)

@@ -5,7 +5,7 @@ ghost use Rattle.std.specs.List.{insert};
 ghost use Rattle.std.specs.Arc.{arc_value};
 ghost use Rattle.neg_print.specs.Total.{total_of};
 ghost use Rattle.item_roll.specs.Halves.{IsHalved};
-ghost use Rattle.item_roll.specs.Parts.{Ascending, count_below};
+ghost use Rattle.item_roll.specs.Parts.{Ascending, begins_below, count_below};
 ghost use Rattle.item_roll.specs.Chunks.{joined, items_at, Tells, IsAt, Ends, Raised, Grown, AreHalves, Cut, HasRoom, AreFew};
 
 use crate::order::is_before;
@@ -53,18 +53,16 @@ pub fn entry_at<P: Part>(entries: &[Entry<P>], place: usize) -> usize
     if guess < entries.len().saturating_sub(1) && is_in(entries, place, guess) {
         return guess;
     }
-    let mut low = 0;
-    let mut high = entries.len();
-    'search: while high - low > 1 {
-        let middle = low + (high - low) / 2;
-        let entry = &entries[middle];
-        if entry.before <= place {
-            low = middle;
-        } else {
-            high = middle;
-        }
-    }
-    low
+    entries
+        .partition_point(|entry| entry.before <= place)
+        .saturating_sub(1)
+}
+
+/// Whether a part has items of which the first stands before another.
+fn begins_below<P: Part>(entry: &Entry<P>, edge: &Item) -> bool
+    ensures { result ≡ begins_below (items_at P.items entry.now) edge.now }
+{
+    entry.part.len() > 0 && is_before(&entry.part.get(0), edge)
 }
 
 /// The part in which the items below another end.
@@ -74,19 +72,9 @@ pub fn entry_below<P: Part>(entries: &[Entry<P>], edge: &Item) -> usize
     requires ascending { Ascending (joined P.items entries.now) }
     ensures { Ends P.items entries.now (count_below (joined P.items entries.now) edge.now) result }
 {
-    let mut low = 0;
-    let mut high = entries.len();
-    'search: while high - low > 1 {
-        let middle = low + (high - low) / 2;
-        let entry = &entries[middle];
-        let first = entry.part.get(0);
-        if is_before(&first, edge) {
-            low = middle;
-        } else {
-            high = middle;
-        }
-    }
-    low
+    entries
+        .partition_point(|entry| begins_below(entry, edge))
+        .saturating_sub(1)
 }
 
 /// Counts one more item before each entry from a place on.

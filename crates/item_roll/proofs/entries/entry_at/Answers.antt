@@ -1,15 +1,16 @@
-use Rattle.std.proofs.Common.{◌+◌, ◌-◌, ◌/◌, ◌<◌, length, arith}
-use Rattle.item_roll.proofs.Kept.{before_is}
+use Rattle.std.proofs.Common.{◌+◌, leb, Bool, rules, arith}
+use Rattle.std.proofs.lemmas.List.Sorted.{IsPartitionPoint-from_clause}
+use Rattle.item_roll.specs.declared.entries.Entry.{Entry}
+use Rattle.item_roll.proofs.Searches.{some_parts, starts_parted, last_start, tests_before}
 use Rattle.item_roll.proofs.entries.entry_at.Goals as goal
 
-pub search-preserved-then-entry-place : goal.search-preserved-then-entry-place
-search-preserved-then-entry-place g c =
-    let lt : c.search.low + (c.search.high - c.search.low) / 2 < length c.args.entries.now = omega (arith, c.search-test.true, c.search.invariant.within) in
-    let b = before_is g.P.Part.items g.P.Part.most c.args.entries.now _ c.index-entries-middle.result c.requires.tells lt c.index-entries-middle.is in
-    record { apart = omega (arith, c.search-test.true); within = c.search.invariant.within; from = omega (arith, c.if-entry-place.true, b); below = c.search.invariant.below }
-
-pub search-preserved : goal.search-preserved
-search-preserved g c =
-    let lt : c.search.low + (c.search.high - c.search.low) / 2 < length c.args.entries.now = omega (arith, c.search-test.true, c.search.invariant.within) in
-    let b = before_is g.P.Part.items g.P.Part.most c.args.entries.now _ c.index-entries-middle.result c.requires.tells lt c.index-entries-middle.is in
-    record { apart = omega (arith, c.search-test.true); within = omega (arith, lt); from = c.search.invariant.from; below = omega (arith, c.if-entry-place.false, b) }
+pub returns : goal.returns
+returns g c =
+    let its = g.P.Part.items in
+    let es = c.args.entries.now in
+    let p = c.args.place in
+    let test : Entry _ → Bool = λ e. leb e.before p in
+    let tests = tests_before its es g.P.Part.most c.requires.tells p in
+    let point = IsPartitionPoint-from_clause test _ _ c.partition_point.ensures.partitioned (starts_parted its es test (p + 1) tests) (λ a r q k. search rules) in
+    let at = last_start its es test (p + 1) tests c.partition_point.result _ c.saturating_sub-2.ensures c.partition_point.ensures.bound (some_parts its es (omega (arith, c.requires.within))) (omega (arith, c.requires.within)) point in
+    record { within = at.0; from = omega (arith, at.1); below = omega (arith, at.2) }
