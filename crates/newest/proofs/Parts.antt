@@ -1,10 +1,12 @@
 -- What is left of runs of which the first entries are passed over.
-use Rattle.std.proofs.Common.{◌≡◌, ℕ, zero, suc, ◌+◌, ◌-◌, ◌<◌, ◌≤◌, ◌&&◌, ◌==◌, Bool, true, false, List, [], ◌∷◌, ◌++◌, length, get_or, take, drop, Option, None, Some, refl, sym, ap, ◌∙◌, subst, arith}
+use Rattle.std.proofs.Common.{◌≡◌, ℕ, zero, suc, ◌-◌, ◌<◌, ◌≤◌, ◌&&◌, ◌==◌, Bool, ltb, true, false, List, [], ◌∷◌, ◌++◌, length, get_or, take, drop, Option, None, Some, refl, sym, ap, ◌∙◌, subst, arith}
 use Rattle.std.specs.Prelude.{nat_le}
 use Rattle.std.specs.List.{list_any, list_all}
+use Rattle.std.specs.List.Sorted.{IsPartitionedBy}
 use Rattle.std.specs.Ordering.{nat_cmp, is_lt, ordering_then, MatchOrdering}
 use Rattle.std.specs.declared.cmp.Ordering.{Ordering}
 use Rattle.std.specs.declared.cmp.Ordering.TheVariants.{Less, Equal, Greater}
+use Rattle.std.proofs.lemmas.Bool.{lt-ltb, ltb-true}
 use Rattle.std.proofs.lemmas.Bool.Decides.{nat_tests}
 use Rattle.std.proofs.lemmas.Cmp.{ranked}
 use Rattle.std.proofs.lemmas.List.{take-append-drop, take_all, length-drop}
@@ -15,7 +17,7 @@ use Rattle.nostr_filter.specs.declared.choice.Rank.{Rank}
 use Rattle.nostr_filter.specs.Matching.{met, has_text, tags_meet, within_of, matches_of}
 use Rattle.nostr_filter.specs.Choice.{rank_of}
 use Rattle.newest.specs.Newest.{rank, comes_before, NoneBefore, IsNewestFirst, hits, placed_at, IsRest}
-use Rattle.newest.proofs.Ranks.{sorted_drop, all_head}
+use Rattle.newest.proofs.Ranks.{sorted_drop, all_head, not_sooner}
 use Rattle.newest.proofs.Lists.{hits_append, count_append}
 
 pub time_of : (p : ℕ × EventView) → (rank p).time.0 ≡ p.1.draft.created_at
@@ -64,19 +66,17 @@ no_later a b not = at_head b.time.0 a.time.0 (nat_cmp b.time.0 a.time.0) _ (rank
 
 -- ---- the first ones are too late
 
-pub late_to : (f : Filter) (u : ℕ) (ps : List (ℕ × EventView)) (i : ℕ) (d : ℕ × EventView) → IsNewestFirst ps → i < length ps → f.until ≡ Some u → u < (rank (get_or ps i d)).time.0
-    → hits f (take (suc i) ps) ≡ []
-late_to f u [] i d up lt is above = absurd (omega (arith, lt))
-late_to f u (p ∷ ps) zero d up lt is above = rw (too_late f u p is above) refl
-late_to f u (p ∷ ps) (suc i) d up lt is above =
-    let no : (rank (get_or ps i d)).time.0 ≤ (rank p).time.0 = no_later (rank (get_or ps i d)) (rank p) (up.0 i d (omega (arith, lt))) in
-    rw (too_late f u p is (omega (arith, above, no))) (late_to f u ps i d up.1 (omega (arith, lt)) is above)
+pub late_parted : (u : ℕ) (ps : List (ℕ × EventView)) → IsNewestFirst ps → IsPartitionedBy (λ p. ltb u p.1.draft.created_at) ps
+unfolding rank_of
+late_parted u ps up i j d le lt late =
+    let no = no_later (rank (get_or ps j d)) (rank (get_or ps i d)) (not_sooner ps i j d up le lt) in
+    lt-ltb _ _ (omega (arith, ltb-true _ _ late, no))
 
-pub late_up_to : (f : Filter) (u : ℕ) (ps : List (ℕ × EventView)) (i n : ℕ) (d : ℕ × EventView) → n ≡ i + 1 → IsNewestFirst ps → i < length ps → f.until ≡ Some u → u < (rank (get_or ps i d)).time.0
-    → hits f (take n ps) ≡ []
-late_up_to f u ps i n d at up lt is above =
-    let same : suc i ≡ n = omega (arith, at) in
-    subst (λ (k : ℕ). hits f (take k ps) ≡ []) same (late_to f u ps i d up lt is above)
+pub late_front : (f : Filter) (u : ℕ) (ps : List (ℕ × EventView)) (n : ℕ) → f.until ≡ Some u → ((k : ℕ) (d : ℕ × EventView) → k < n → ltb u (get_or ps k d).1.draft.created_at ≡ true) → hits f (take n ps) ≡ []
+unfolding rank_of
+late_front f u ps zero is late = refl
+late_front f u [] (suc n) is late = refl
+late_front f u (p ∷ ps) (suc n) is late = rw (too_late f u p is (ltb-true _ _ (late 0 p (omega arith)))) (late_front f u ps n is (λ k d lt. late (suc k) d (omega (arith, lt))))
 
 -- ---- from one on all are too early
 

@@ -12,17 +12,7 @@ fn from_time<'a>(entries: &'a [Entry], filter: &Filter, until: u64) -> &'a [Entr
     requires until { filter.now.until ≡ Some until }
     ensures { IsRest filter.now result.now entries.now }
 {
-    let mut low = 0;
-    let mut high = entries.len();
-    while low < high {
-        let middle = low + (high - low) / 2;
-        if until < entries[middle].time() {
-            low = middle + 1;
-        } else {
-            high = middle;
-        }
-    }
-    &entries[low..]
+    &entries[entries.partition_point(|entry| until < entry.time())..]
 }
 
 /// Passes over the first entries, as far as they are later than all that the filter matches.

@@ -41,17 +41,7 @@ fn place_for(new: &Entry, entries: &[Entry]) -> usize
     ensures front { All (λ p. comes_before (rank new.now) (rank p) ≡ false) (take result entries.now) }
     ensures behind { NoneBefore (rank new.now) (drop result entries.now) }
 {
-    let mut low = 0;
-    let mut high = entries.len();
-    while low < high {
-        let middle = low + (high - low) / 2;
-        if new.comes_before(&entries[middle]) {
-            high = middle;
-        } else {
-            low = middle + 1;
-        }
-    }
-    low
+    entries.partition_point(|entry| !new.comes_before(entry))
 }
 
 impl Run {
