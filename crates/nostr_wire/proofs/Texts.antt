@@ -1,6 +1,5 @@
 -- What a text of a value's tokens is read as.
 use Rattle.std.proofs.Common.{◌≡◌, ◌≤◌, ◌++◌, ℕ, suc, max, List, [], ◌∷◌, Some, option_and_then, codes, refl, sym, ap, ap₂, ◌∙◌, append_assoc, append-nil, arith}
-use Rattle.json.specs.Token.{Token}
 use Rattle.json.specs.Print.{print, print_from, quoted}
 use Rattle.json.specs.Lex.{tokens}
 use Rattle.json.specs.Json as json
@@ -17,6 +16,7 @@ use Rattle.nostr_event.specs.EventView.{EventView, IsInRange}
 use Rattle.nostr_event.specs.EventJson.{tag_items, tags_items, object_of}
 use Rattle.nostr_event.proofs.Printed.{object_read}
 use Rattle.nostr_wire.specs.Forms.{event_form}
+use Rattle.nostr_wire.specs.Beginnings.{beginning}
 use Rattle.nostr_wire.specs.Writing.{array_of, text_of}
 
 mutual
@@ -69,9 +69,6 @@ event_read s e h = rw (object_read e h) refl
 regroup : (name sub event : List ℕ) → (((91 ∷ (name ++ (44 ∷ (sub ++ [])))) ++ 44 ∷ []) ++ event) ++ 93 ∷ [] ≡ 91 ∷ (name ++ (44 ∷ (sub ++ (44 ∷ (event ++ 93 ∷ [])))))
 regroup name sub event = simp (append_assoc, append-nil)
 
-abbrev pub names : List ℕ → List Token
-names s = Token.begin_array ∷ Token.string (codes "EVENT") ∷ Token.string s ∷ []
-
-pub event_written : (s : List ℕ) (e : EventView) → ((print (names s) ++ 44 ∷ []) ++ compact_text (object_of e)) ++ 93 ∷ [] ≡ text_of (event_form s e)
+pub event_written : (s : List ℕ) (e : EventView) → (beginning s ++ compact_text (object_of e)) ++ 93 ∷ [] ≡ text_of (event_form s e)
 unfolding print_from
 event_written s e = regroup (quoted (codes "EVENT")) (quoted s) (compact_text (object_of e))

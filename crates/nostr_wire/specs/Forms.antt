@@ -1,5 +1,6 @@
 -- The messages, each by its name and what stands behind it (NIP-01, NIP-77).
-use Rattle.std.specs.Prelude.{ℕ, List, [], ◌∷◌, map, drop, codes}
+use Rattle.std.specs.Prelude.{ℕ, Bool, List, [], ◌∷◌, map, drop, codes}
+use Rattle.neg_codec.specs.declared.Id.{Id}
 use Rattle.serde_json.specs.Data.{Data}
 use Rattle.nostr_event.specs.EventView.{EventView}
 use Rattle.nostr_wire.specs.declared.messages.FromClient.{FromClient}
@@ -25,9 +26,13 @@ client_form (client.NegClose s) = record { name = codes "NEG-CLOSE"; said = sub 
 abbrev pub event_form : List ℕ → EventView → Form
 event_form s e = record { name = codes "EVENT"; said = sub s ∷ event e ∷ [] }
 
+-- whether the event of that id was taken, and why
+abbrev pub okay_form : Id → Bool → List ℕ → Form
+okay_form i taken t = record { name = codes "OK"; said = id i ∷ flag taken ∷ text t ∷ [] }
+
 abbrev pub relay_form : FromRelay → Form
 relay_form (relay.Event s e) = event_form s e.value
-relay_form (relay.Okay i taken t) = record { name = codes "OK"; said = id i ∷ flag taken ∷ text t ∷ [] }
+relay_form (relay.Okay i taken t) = okay_form i taken t
 relay_form (relay.Eose s) = record { name = codes "EOSE"; said = sub s ∷ [] }
 relay_form (relay.Closed s t) = record { name = codes "CLOSED"; said = sub s ∷ text t ∷ [] }
 relay_form (relay.Notice t) = record { name = codes "NOTICE"; said = text t ∷ [] }

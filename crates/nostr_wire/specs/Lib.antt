@@ -1,3 +1,4 @@
+pub mod Beginnings
 pub mod Elements
 pub mod Forms
 pub mod Names

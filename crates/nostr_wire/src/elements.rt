@@ -8,7 +8,8 @@ ghost use Rattle.nostr_wire.specs.Elements.{Part, Said, part_of, has_type, Says,
 ghost use Rattle.nostr_wire.specs.declared.fault.WireFault.{WireFault};
 
 use crate::fault::WireFault;
-use crate::lists::{Bytes, Name, Sub, is_name};
+use crate::lists::{Bytes, Sub, is_name};
+use crate::names::Name;
 use hex::FromHexError;
 use id_text::{digits_of, parse_bytes, parse_id};
 use neg_codec::Id;

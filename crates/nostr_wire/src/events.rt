@@ -12,8 +12,9 @@ ghost use Rattle.nostr_wire.specs.Reading.{Hears, Reads, Refuses};
 ghost use Rattle.nostr_wire.specs.Stream.{Gives, IsNoEvent};
 
 use crate::fault::WireFault;
-use crate::lists::{Name, Sub};
+use crate::lists::Sub;
 use crate::messages::{FromClient, FromRelay};
+use crate::names::Name;
 use crate::streaming::{MOST_DEPTH, begins_array};
 use event_text::event_in;
 use json::{Reader, Scratch, Token};

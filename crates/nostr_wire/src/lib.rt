@@ -8,13 +8,15 @@ mod events;
 mod fault;
 mod lists;
 mod messages;
+mod names;
 mod reading;
 mod streaming;
 mod values;
 mod writing;
 
 pub use fault::WireFault;
-pub use lists::{Bytes, Filters, Name, Sub};
+pub use lists::{Bytes, Filters, Sub};
 pub use messages::{FromClient, FromRelay};
+pub use names::{Heading, Name};
 pub use reading::{read_client, read_client_few, read_relay};
 pub use writing::{write_client, write_relay, write_relay_in};

@@ -1,14 +1,11 @@
 // Names, bytes and filters of messages, which contracts see as lists.
 ghost use Rattle.std.specs.Prelude.{◌≡◌, ◌≢◌, [], length, true, IfOk, IfErr};
-ghost use Rattle.std.specs.Arc.{arc_value};
 ghost use Rattle.std.specs.Str.{chars};
 ghost use Rattle.nostr_wire.specs.Elements.{is_sub};
 
 use nostr_event::Text;
 use nostr_filter::Filter;
-use std::alloc::AllocError;
 use std::marker::Model;
-use std::sync::Arc;
 
 /// The name of a subscription or a session, 1 to 64 characters, seen as its UTF-8 bytes.
 #[derive(Debug, Drop)]
@@ -67,57 +64,6 @@ impl Sub {
         ensures { result ≡ self }
     {
         self.text
-    }
-}
-
-// A name, its own or shared.
-#[derive(Drop)]
-pub enum NameKind {
-    Own(Sub),
-    Shared(Arc<Sub>),
-}
-
-/// The name in an event's message, which may be shared with others, seen as its UTF-8 bytes.
-#[derive(Drop)]
-pub struct Name {
-    kind: NameKind,
-}
-
-impl Model for Name {
-    ghost use Rattle.std.specs.Prelude.{List, ℕ};
-    ghost use Rattle.nostr_wire.specs.Names.{name_at};
-
-    ghost Value = { List ℕ };
-
-    ghost view = { λ n. name_at n.kind };
-}
-
-impl Name {
-    pub fn own(sub: Sub) -> Name
-        ensures { result ≡ sub }
-    {
-        Name {
-            kind: NameKind::Own(sub),
-        }
-    }
-
-    /// The same name, at the cost of a reference.
-    pub fn shared(sub: &Arc<Sub>) -> Result<Name, AllocError>
-        ensures { IfOk result (λ n. n ≡ arc_value sub.now) }
-    {
-        Ok(Name {
-            kind: NameKind::Shared(Arc::try_clone(sub)?),
-        })
-    }
-
-    pub fn as_str(&self) -> &str
-        ensures text { result.now ≡ self.now }
-        ensures name { is_sub self.now ≡ true }
-    {
-        match &self.kind {
-            NameKind::Own(sub) => sub.as_str(),
-            NameKind::Shared(sub) => sub.as_str(),
-        }
     }
 }
 

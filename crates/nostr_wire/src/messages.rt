@@ -1,5 +1,6 @@
 // What clients and relays say.
-use crate::lists::{Bytes, Filters, Name, Sub};
+use crate::lists::{Bytes, Filters, Sub};
+use crate::names::Name;
 use neg_codec::Id;
 use nostr_event::{Event, Text};
 use nostr_filter::Filter;

@@ -3,22 +3,21 @@ ghost use Rattle.std.specs.Prelude.{◌≡◌, ◌≢◌, ◌∷◌, ◌++◌, [
 ghost use Rattle.std.specs.Arc.{arc_value};
 ghost use Rattle.serde_json.specs.View.{view};
 ghost use Rattle.nostr_wire.specs.Elements.{data_of, sub, filter};
-ghost use Rattle.nostr_wire.specs.Forms.{client_form, event_form, relay_form, client_table, relay_table};
+ghost use Rattle.nostr_wire.specs.Forms.{client_form, event_form, okay_form, relay_form, client_table, relay_table};
 ghost use Rattle.nostr_wire.specs.Reading.{SayEach, IsMessage, Reads};
 ghost use Rattle.nostr_wire.specs.Writing.{array_of, text_of};
 
 use crate::elements::Element;
-use crate::lists::{Filters, Name, Sub};
+use crate::lists::{Filters, Sub};
 use crate::messages::{FromClient, FromRelay};
-use json::Writer;
+use crate::names::Name;
+use json::{Token, Writer};
+use neg_codec::Id;
 use nostr_event::Event;
 use nostr_filter::Filter;
 use serde_json::{Value, json};
 use std::alloc::{AllocError, Global};
 use std::sync::Arc;
-
-// As many bytes as stand around most events in the message that has them.
-const MOST_NAMES: usize = 80;
 
 // The array of a name and one element.
 fn one<A: Element>(alloc: Global, name: &str, first: &A) -> Result<Value, AllocError>
@@ -131,25 +130,44 @@ pub fn write_client(alloc: Global, message: &FromClient) -> Result<String, Alloc
 }
 
 // The text of an event for a subscription: the text that the event keeps, behind the names. It is made where room is.
-fn event_text(room: Vec<u8>, name: &Name, event: &Arc<Event>) -> Result<String, AllocError>
+fn event_text(room: String, name: &Name, event: &Arc<Event>) -> Result<String, AllocError>
     ensures text { IfOk result (λ s. string_bytes s ≡ text_of (event_form name.now (arc_value event.now))) }
     ensures reads_back { IfOk result (λ s. Reads relay_table (string_bytes s) (event_form name.now (arc_value event.now))) }
 {
     let text = event.text();
-    let mut room = room;
-    room.clear();
-    room.reserve(text.len() + MOST_NAMES)?;
-    let mut names = Writer::new(room);
-    names.begin_array()?;
-    names.string("EVENT")?;
-    names.string(name.as_str())?;
-    let Ok(mut out) = String::from_utf8(names.into_inner()) else {
-        unreachable!()
-    };
-    out.push_str(",")?;
+    let mut out = name.begin(room)?;
+    // Room for all of it, so that it grows once.
+    out.reserve(text.len() + 1)?;
     out.push_str(text)?;
     out.push_str("]")?;
     Ok(out)
+}
+
+// The text of whether an event was taken. It is made where room is.
+fn okay_text(
+    alloc: Global,
+    room: String,
+    id: &Id,
+    taken: bool,
+    why: &str,
+) -> Result<String, AllocError>
+    ensures text { IfOk result (λ s. string_bytes s ≡ text_of (okay_form id.now taken why.now)) }
+    ensures reads_back { IfOk result (λ s. Reads relay_table (string_bytes s) (okay_form id.now taken why.now)) }
+{
+    let digits = hex::encode(alloc, id.as_bytes().as_slice())?;
+    let mut bytes = room.into_bytes();
+    bytes.clear();
+    let mut out = Writer::new(bytes);
+    out.begin_array()?;
+    out.string("OK")?;
+    out.string(digits.as_str())?;
+    out.token(Token::Bool(taken))?;
+    out.string(why)?;
+    out.end_array()?;
+    match String::from_utf8(out.into_inner()) {
+        Ok(text) => Ok(text),
+        Err(_) => unreachable!(),
+    }
 }
 
 // The text of another message.
@@ -167,13 +185,13 @@ pub fn write_relay(alloc: Global, message: &FromRelay) -> Result<String, AllocEr
     ensures text { IfOk result (λ s. string_bytes s ≡ text_of (relay_form message.now)) }
     ensures reads_back { IfOk result (λ s. Reads relay_table (string_bytes s) (relay_form message.now)) }
 {
-    write_relay_in(alloc, Vec::new(alloc), message)
+    write_relay_in(alloc, String::new(alloc), message)
 }
 
-/// The same. An event's text is made in the memory of `room`, of which what stands there is lost.
+/// The same. An event's text, or that of an answer to one, is made in the memory of `room`, of which what stands there is lost.
 pub fn write_relay_in(
     alloc: Global,
-    room: Vec<u8>,
+    room: String,
     message: &FromRelay,
 ) -> Result<String, AllocError>
     ensures text { IfOk result (λ s. string_bytes s ≡ text_of (relay_form message.now)) }
@@ -181,6 +199,7 @@ pub fn write_relay_in(
 {
     match message {
         FromRelay::Event { sub, event } => event_text(room, sub, event),
+        FromRelay::Okay { id, taken, text } => { okay_text(alloc, room, id, *taken, text.as_str()) }
         other => value_text(alloc, other),
     }
 }

@@ -26,7 +26,7 @@ use event_list::EventList;
 use event_store::{Naming, Reader};
 use nostr_event::Event;
 use nostr_filter::room_behind;
-use nostr_wire::{Filters, FromRelay, Name, Sub};
+use nostr_wire::{Filters, FromRelay, Heading, Name, Sub};
 use std::alloc::{AllocError, Global};
 use std::sync::Arc;
 
@@ -61,9 +61,9 @@ fn stored_events(
 {
     let texts = texts_at(events, places);
     let mut out = Vec::with_capacity(alloc, texts.saturating_add(1))?;
-    let shared = Arc::new(alloc, copied(alloc, name)?)?;
+    let heading = Arc::new(alloc, Heading::new(alloc, copied(alloc, name)?)?)?;
     for place in places {
-        put_event(&mut out, &shared, events, *place)?;
+        put_event(&mut out, &heading, events, *place)?;
     }
     out.push(FromRelay::Eose {
         sub: copied(alloc, name)?,
@@ -74,14 +74,14 @@ fn stored_events(
 // Puts the event at the place behind the others, if there is one.
 fn put_event(
     out: &mut Vec<FromRelay>,
-    name: &Arc<Sub>,
+    heading: &Arc<Heading>,
     events: &EventList,
     place: usize,
 ) -> Result<(), AllocError>
-    ensures { OnOk result (map relay_form out.new.items ≡ map relay_form out.old.items ++ map (event_to (arc_value name.now)) (option_to_list (slice_get events.now place))) }
+    ensures { OnOk result (map relay_form out.new.items ≡ map relay_form out.old.items ++ map (event_to (arc_value heading.now)) (option_to_list (slice_get events.now place))) }
 {
     if place < events.len() {
-        out.push(event_for(Name::shared(name)?, events.get(place))?)?;
+        out.push(event_for(Name::shared(heading)?, events.get(place))?)?;
     }
     Ok(())
 }

@@ -182,7 +182,7 @@ fn refuse_bytes<S: Write>(alloc: Global, socket: &mut Socket<S>) -> Result<(), L
     ensures failed { OnErr result (MaySay socket.old socket.new (spoken_one (notice (codes "invalid: bad message")))) }
 {
     let text = Text::new(String::from_str(alloc, "invalid: bad message")?);
-    say(socket, Vec::new(alloc), FromRelay::Notice { text })?;
+    say(socket, String::new(alloc), FromRelay::Notice { text })?;
     Ok(())
 }
 

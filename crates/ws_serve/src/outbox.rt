@@ -112,7 +112,7 @@ impl<S> Outbox<S> {
 
     /// Puts the message behind all that waits, written as one frame (RFC 6455, section 5.2) unless others wait that aren't. Its text is
     /// made where room is, which is given back.
-    pub fn put(&mut self, room: Vec<u8>, message: FromRelay) -> Result<Vec<u8>, AllocError>
+    pub fn put(&mut self, room: String, message: FromRelay) -> Result<String, AllocError>
         ensures whole { OnOk result (self.new ≡ record self.old { output = self.old.output ++ spoken_one (relay_form message) }) }
         ensures none { OnErr result (self.new ≡ self.old) }
     {
@@ -124,7 +124,7 @@ impl<S> Outbox<S> {
             None => {
                 let text = written(self.alloc, room, message)?;
                 self.wire.put_unmasked(text.as_bytes())?;
-                Ok(text.into_bytes())
+                Ok(text)
             }
         }
     }
@@ -167,7 +167,7 @@ fn write_some<S>(
 ) -> Result<(), AllocError>
     ensures { Writes wire.old (map relay_form later.old.items) wire.new (map relay_form later.new.items) }
 {
-    let mut room = Vec::new(alloc);
+    let mut room = String::new(alloc);
     for _message in 0..u64::MAX {
         if wire.waiting() >= MOST_WRITTEN {
             return Ok(());
@@ -189,7 +189,7 @@ fn write_all<S>(
     ensures writes { Writes wire.old (map relay_form later.old.items) wire.new (map relay_form later.new.items) }
     ensures all { OnOk result (later.new.items ≡ []) }
 {
-    let mut room = Vec::new(alloc);
+    let mut room = String::new(alloc);
     for _message in 0..u64::MAX {
         match write_first(alloc, wire, later, room)? {
             Some(left) => room = left,
@@ -204,8 +204,8 @@ fn write_first<S>(
     alloc: Global,
     wire: &mut Wire<S, NoMask>,
     later: &mut VecDeque<FromRelay>,
-    room: Vec<u8>,
-) -> Result<Option<Vec<u8>>, AllocError>
+    room: String,
+) -> Result<Option<String>, AllocError>
     ensures writes { Writes wire.old (map relay_form later.old.items) wire.new (map relay_form later.new.items) }
     ensures none { result ≡ Ok None → later.new.items ≡ [] }
 {
@@ -215,7 +215,7 @@ fn write_first<S>(
     let text = write_relay_in(alloc, room, message)?;
     wire.put_unmasked(text.as_bytes())?;
     drop_first(later);
-    Ok(Some(text.into_bytes()))
+    Ok(Some(text))
 }
 
 /// Drops the first of the messages, if there is one.
@@ -226,7 +226,7 @@ fn drop_first(later: &mut VecDeque<FromRelay>)
 }
 
 /// The message's text, which is made where room is.
-fn written(alloc: Global, room: Vec<u8>, message: FromRelay) -> Result<String, AllocError>
+fn written(alloc: Global, room: String, message: FromRelay) -> Result<String, AllocError>
     ensures { IfOk result (λ s. string_bytes s ≡ words_of (relay_form message)) }
 {
     write_relay_in(alloc, room, &message)

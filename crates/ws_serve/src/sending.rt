@@ -68,7 +68,7 @@ pub fn say_all<S: Write>(
     ensures says { OnOk result (Says socket.old socket.new (spoken (map relay_form messages.items))) }
     ensures failed { OnErr result (SaysSome socket.old socket.new (spoken (map relay_form messages.items))) }
 {
-    let mut room = Vec::new(alloc);
+    let mut room = String::new(alloc);
     for message in messages {
         room = say(socket, room, message)?;
     }
@@ -78,9 +78,9 @@ pub fn say_all<S: Write>(
 /// Puts the message, which is no OK with true, behind what waits to be sent. Its text is made where room is, which is given back.
 pub fn say<S: Write>(
     socket: &mut Socket<S>,
-    room: Vec<u8>,
+    room: String,
     message: FromRelay,
-) -> Result<Vec<u8>, LinkFault>
+) -> Result<String, LinkFault>
     requires not_acknowledged { acknowledges (relay_form message) ≡ false }
     ensures fault { IfErr result IsOfStream }
     ensures says { OnOk result (Says socket.old socket.new (spoken_one (relay_form message))) }
@@ -93,12 +93,12 @@ pub fn say<S: Write>(
 /// is made where room is, which is given back.
 pub fn acknowledge<S: Write, J: Naming, M>(
     socket: &mut Socket<S>,
-    room: Vec<u8>,
+    room: String,
     conn: &mut Conn,
     reader: &mut Reader<J>,
     placed: &Placed<J>,
     kept: &Kept<J, M>,
-) -> Result<Vec<u8>, LinkFault>
+) -> Result<String, LinkFault>
     requires kept { length placed.now.list ≤ length kept.now }
     ensures fault { IfErr result IsOfStream }
     ensures says { OnOk result (Says socket.old socket.new (spoken_one (placed_answer placed.now.id placed.now.fresh))) }

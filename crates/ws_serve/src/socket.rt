@@ -161,7 +161,7 @@ impl<S: Write> Socket<S> {
 
     /// Puts a message behind what waits. It is written, as one frame (RFC 6455, section 5.2), unless the stream would block while more
     /// waits than may. Its text is made where room is, which is given back.
-    pub fn put(&mut self, room: Vec<u8>, message: FromRelay) -> Result<Vec<u8>, LinkFault>
+    pub fn put(&mut self, room: String, message: FromRelay) -> Result<String, LinkFault>
         ensures fault { IfErr result IsOfStream }
         ensures whole { OnOk result (Says self.old self.new (spoken_one (relay_form message))) }
         ensures failed { OnErr result (MaySay self.old self.new (spoken_one (relay_form message))) }

@@ -192,7 +192,7 @@ fn answer_each<W: Wait, S: Write, J: Naming, D: Wait + Drop, H: Keeper<J>>(
 {
     let all = stored_all(rt, alloc, desk, events)?;
     let kept = kept_of(rt, keeper, all.as_slice());
-    let mut room = Vec::new(alloc);
+    let mut room = String::new(alloc);
     for one in all {
         room = tell(socket, room, conn, reader, one, kept.as_ref())?;
     }
@@ -301,12 +301,12 @@ fn kept_of<W: Wait, J: Naming, H: Keeper<J>>(
 /// back.
 fn tell<S: Write, J: Naming, M>(
     socket: &mut Socket<S>,
-    room: Vec<u8>,
+    room: String,
     conn: &mut Conn,
     reader: &mut Reader<J>,
     stored: Stored<J>,
     kept: Option<&Kept<J, M>>,
-) -> Result<Vec<u8>, LinkFault>
+) -> Result<String, LinkFault>
     requires { IfOk stored.placed (λ p. p.id ≡ stored.id) }
     ensures fault { IfErr result IsOfStream }
     ensures says { OnOk result (SaysOf stored.id socket.old socket.new) }
@@ -325,12 +325,12 @@ fn tell<S: Write, J: Naming, M>(
 /// The same for an event that is in the store.
 fn tell_kept<S: Write, J: Naming, M>(
     socket: &mut Socket<S>,
-    room: Vec<u8>,
+    room: String,
     conn: &mut Conn,
     reader: &mut Reader<J>,
     placed: &Placed<J>,
     kept: Option<&Kept<J, M>>,
-) -> Result<Vec<u8>, LinkFault>
+) -> Result<String, LinkFault>
     ensures fault { IfErr result IsOfStream }
     ensures says { OnOk result (SaysOf placed.now.id socket.old socket.new) }
     ensures failed { OnErr result (MaySayOf placed.now.id socket.old socket.new) }
@@ -352,11 +352,11 @@ fn tell_kept<S: Write, J: Naming, M>(
 /// Puts behind what waits to be sent why the event isn't in the store, or isn't kept there.
 fn refuse<S: Write, J: Naming>(
     socket: &mut Socket<S>,
-    room: Vec<u8>,
+    room: String,
     conn: &mut Conn,
     id: Id,
     fault: &StoringFault<J>,
-) -> Result<Vec<u8>, LinkFault>
+) -> Result<String, LinkFault>
     ensures fault { IfErr result IsOfStream }
     ensures says { OnOk result (SaysOf id socket.old socket.new) }
     ensures failed { OnErr result (MaySayOf id socket.old socket.new) }
@@ -390,6 +390,6 @@ pub fn answer_one<W: Wait, S: Write, J: Naming, D: Wait + Drop, H: Keeper<J>>(
         Ok(placed) => keeper.kept(rt, placed),
         Err(_) => None,
     };
-    tell(socket, Vec::new(alloc), conn, reader, one, kept.as_ref())?;
+    tell(socket, String::new(alloc), conn, reader, one, kept.as_ref())?;
     Ok(())
 }

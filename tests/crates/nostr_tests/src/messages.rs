@@ -3,7 +3,8 @@ use neg_codec::Id;
 use nostr_event::{EventFault, EventField, Text};
 use nostr_filter::Filter;
 use nostr_wire::{
-    Bytes, Filters, Name, Sub, WireFault, read_client, read_relay, write_client, write_relay,
+    Bytes, Filters, FromRelay, Heading, Name, Sub, WireFault, read_client, read_relay,
+    write_client, write_relay, write_relay_in,
 };
 use std::alloc::Global;
 use std::sync::Arc;
@@ -199,6 +200,29 @@ fn relay_again(alloc: Global, text: &str) -> Result<String, WireFault> {
     Ok(write_relay(alloc, &message)?)
 }
 
+// The relay's message, of which an event's name is shared.
+fn with_shared_name(alloc: Global, message: FromRelay) -> Result<FromRelay, WireFault> {
+    let FromRelay::Event { sub: name, event } = message else {
+        return Ok(message);
+    };
+    let text = Text::new(String::from_str(alloc, name.as_str())?);
+    let Ok(sub) = Sub::new(text) else {
+        return Err(WireFault::Sub);
+    };
+    let heading = Arc::new(alloc, Heading::new(alloc, sub)?)?;
+    Ok(FromRelay::Event {
+        sub: Name::shared(&heading)?,
+        event,
+    })
+}
+
+// The same as `relay_again`, with a name that is shared, and where another text stood.
+fn shared_again(alloc: Global, text: &str) -> Result<String, WireFault> {
+    let message = with_shared_name(alloc, read_relay(alloc, text)?)?;
+    let room = String::from_str(alloc, "another text")?;
+    Ok(write_relay_in(alloc, room, &message)?)
+}
+
 // Whether the text was written.
 fn is_text(written: &Result<String, WireFault>, want: &str) -> bool {
     match written {
@@ -228,7 +252,8 @@ fn messages_are_read_and_written(rt: HostRuntime) -> Result<(), Fail> {
     for (text, want) in &RELAY {
         good = good
             && is_text(&relay_again(alloc, text), want)
-            && is_text(&relay_again(alloc, want), want);
+            && is_text(&relay_again(alloc, want), want)
+            && is_text(&shared_again(alloc, want), want);
     }
     assert!(rt; good);
     Ok(())
@@ -290,9 +315,9 @@ fn is_name_kept(alloc: Global) -> Result<bool, Fail> {
 // Whether the name of an event's message is seen as it is, its own and shared.
 fn is_name_shared(alloc: Global) -> Result<bool, Fail> {
     let own = Name::own(sub(alloc, "é")?);
-    let sub = Arc::new(alloc, sub(alloc, "é")?)?;
-    let shared = Name::shared(&sub)?;
-    Ok(own.as_str() == "é" && shared.as_str() == "é" && sub.as_str() == "é")
+    let heading = Arc::new(alloc, Heading::new(alloc, sub(alloc, "é")?)?)?;
+    let shared = Name::shared(&heading)?;
+    Ok(own.as_str() == "é" && shared.as_str() == "é" && heading.as_str() == "é")
 }
 
 // Whether bytes are given back as they were given.

@@ -7,4 +7,4 @@ use Rattle.relay_core.proofs.requests.put_event.Goals as goal
 pub returns-else-place-len : goal.returns-else-place-len
 returns-else-place-len c =
     let past : length c.args.events.now ≤ c.args.place = omega (arith, c.len.ensures, c.if-place-len.false) in
-    nothing_told (arc_value c.args.name.now) c.args.events.now c.args.place (map relay_form c.args.out.now.items) past
+    nothing_told (arc_value c.args.heading.now) c.args.events.now c.args.place (map relay_form c.args.out.now.items) past
