@@ -72,22 +72,13 @@ impl Chunk {
     }
 }
 
-fn shared(alloc: Global, events: &[Arc<Event>]) -> Result<Vec<Arc<Event>>, AllocError>
-    ensures { IfOk result (λ v. map arc_value v.items ≡ map arc_value events.now) }
+// The same, shared, with room for one more.
+fn shared<T: Drop>(alloc: Global, items: &[Arc<T>]) -> Result<Vec<Arc<T>>, AllocError>
+    ensures { IfOk result (λ v. map arc_value v.items ≡ map arc_value items.now) }
 {
-    let mut all = Vec::with_capacity(alloc, events.len() + 1)?;
-    for event in events {
-        all.push(Arc::try_clone(event)?)?;
-    }
-    Ok(all)
-}
-
-fn shared_chunks(alloc: Global, chunks: &[Arc<Chunk>]) -> Result<Vec<Arc<Chunk>>, AllocError>
-    ensures { IfOk result (λ v. map arc_value v.items ≡ map arc_value chunks.now) }
-{
-    let mut all = Vec::with_capacity(alloc, chunks.len() + 1)?;
-    for chunk in chunks {
-        all.push(Arc::try_clone(chunk)?)?;
+    let mut all = Vec::with_capacity(alloc, items.len() + 1)?;
+    for item in items {
+        all.push(Arc::try_clone(item)?)?;
     }
     Ok(all)
 }
@@ -124,7 +115,7 @@ fn put_chunk(
             Ok(())
         }
         None => {
-            let mut copy = shared_chunks(alloc, chunks.as_slice())?;
+            let mut copy = shared(alloc, chunks.as_slice())?;
             copy.push(chunk)?;
             *chunks = Arc::new(alloc, copy)?;
             Ok(())

@@ -2,5 +2,5 @@ use Rattle.std.proofs.Common.{◌≡◌, map, take}
 use Rattle.std.specs.Arc.{arc_value}
 use Rattle.event_list.proofs.chunks.shared.Given as goal
 
-abbrev pub invariant-loop-event : goal.invariant-loop-event
-invariant-loop-event l = map arc_value l.all.items ≡ map arc_value (take l.event-index l.events)
+abbrev pub invariant-loop-item : goal.invariant-loop-item
+invariant-loop-item g l = map arc_value l.all.items ≡ map arc_value (take l.item-index l.items)
