@@ -9,7 +9,7 @@ use Rattle.fetch_plan.specs.declared.cell.Cell.{Cell}
 use Rattle.fetch_plan.specs.declared.cell.Cell.TheVariants.{Free}
 use Rattle.claim_board.specs.Rules.{relays, held_by, done_by, missed_by, word, cell_of, Names, Kept}
 use Rattle.claim_board.specs.Steps.{Idle}
-use Rattle.claim_board.specs.Views.{LaneView, all_of, Settled, Honest}
+use Rattle.claim_board.specs.Views.{LaneView, all_of, ClosedAs, Honest}
 use Rattle.claim_board.proofs.Moves.{is_done, is_missed, is_held, known, small}
 use Rattle.claim_board.proofs.Cuts.{none_in}
 
@@ -20,7 +20,7 @@ lane_in rs ls i n w b low high is names = ⊎_elim (λ (z : n ≡ 0). absurd (om
     (λ (z : n ≡ held_by t.0). omega arith) (⊎_elim (λ (z : n ≡ done_by t.0). omega arith) (λ (z : n ≡ missed_by t.0). omega arith)) t.3)
     names
 
-pub settles : (rs ls : List ℕ) (id : ℕ) (p : LaneView) (ws : List ℕ) (xs : List ℕ) → Final (Seen (Kept rs ls) id (all_of p)) ws xs → Idle (all_of p) → (i n : ℕ) → n ≡ word ws i → (n < 4096) × Settled (length ls) p i (cell_of n)
+pub settles : (rs ls : List ℕ) (id : ℕ) (p : LaneView) (ws : List ℕ) (xs : List ℕ) → Final (Seen (Kept rs ls) id (all_of p)) ws xs → Idle (all_of p) → (i n : ℕ) → n ≡ word ws i → (n < 4096) × ClosedAs (length ls) p i (cell_of n)
 settles rs ls id p ws xs last idle i n is =
     let s = last.0 in
     let r : Kept rs ls s = last.1.0 in

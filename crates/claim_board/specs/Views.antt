@@ -46,7 +46,7 @@ abbrev pub all_of : LaneView → List LaneRecord
 all_of p = p.own ∷ p.others
 
 -- what cell i is, as a closed board tells it through a place: held or ended by a lane for which the place doesn't stand, or as the lists of the place say
-pub record Settled (lanes : ℕ) (p : LaneView) (i : ℕ) (c : Cell) : Type 0 where
+pub record ClosedAs (lanes : ℕ) (p : LaneView) (i : ℕ) (c : Cell) : Type 0 where
   pub held : (w : ℕ) → c ≡ Held w → (w < lanes) × ((place : ℕ) (f : LaneRecord) → get_elem? (all_of p) place ≡ some f → f.lane ≢ w)
   pub done : c ≡ Done → (w : ℕ) × (w < lanes) × ((place : ℕ) (f : LaneRecord) → get_elem? (all_of p) place ≡ some f → f.lane ≡ w → Contains f.ended (i, Done))
   pub missed : c ≡ Missed → (w : ℕ) × (w < lanes) × ((place : ℕ) (f : LaneRecord) → get_elem? (all_of p) place ≡ some f → f.lane ≡ w → Contains f.ended (i, Missed))

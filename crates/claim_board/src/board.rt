@@ -7,7 +7,7 @@ ghost use Rattle.claim_board.specs.Rules.{relays, IsIdOf, cell_of as cell_at};
 ghost use Rattle.claim_board.specs.Steps.{with_ended, with_released, others_of};
 ghost use Rattle.fetch_plan.specs.declared.cell.Cell.TheVariants.{Free, Done, Missed};
 ghost use Rattle.claim_board.specs.declared.records.LaneRecord.{LaneRecord};
-ghost use Rattle.claim_board.specs.Views.{BoardView, LaneView, Claims, Sees, Settled, Honest, placed_at, joined};
+ghost use Rattle.claim_board.specs.Views.{BoardView, LaneView, Claims, Sees, ClosedAs, Honest, placed_at, joined};
 ghost use Rattle.claim_board.specs.Rules.{fresh, named};
 
 use crate::plays::{Claim, Compare, Cut, Finish, Glue, Look, Miss, Release};
@@ -321,7 +321,7 @@ impl<J: Naming> Board<J> {
     pub fn close(self, lane: Lane) -> Result<Vec<Cell>, (AllocError, Board<J>, Lane)>
         requires board { lane.board ≡ self.board }
         requires nothing { lane.own.held ≡ [] }
-        ensures ok { IfOk result (λ v. (length v.items ≡ length self.cells) × ((i : ℕ) → i < length self.cells → Settled (length self.lanes) lane i (slice_index_or v.items i Free))) }
+        ensures ok { IfOk result (λ v. (length v.items ≡ length self.cells) × ((i : ℕ) → i < length self.cells → ClosedAs (length self.lanes) lane i (slice_index_or v.items i Free))) }
         ensures honest { IfOk result (λ _. Honest self.cells self.lanes lane) }
         ensures err { IfErr result (λ e. (e.1 ≡ self) × (e.2 ≡ lane)) }
     {

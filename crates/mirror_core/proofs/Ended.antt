@@ -11,13 +11,13 @@ use Rattle.fetch_plan.specs.declared.cell.Cell.{Cell}
 use Rattle.fetch_plan.specs.declared.cell.Cell.TheVariants.{Free, Held, Done, Missed}
 use Rattle.claim_board.specs.declared.records.LaneRecord.{LaneRecord}
 use Rattle.claim_board.specs.Rules.{relays, fresh, named}
-use Rattle.claim_board.specs.Views.{LaneView, all_of, placed_at, Settled, Honest}
+use Rattle.claim_board.specs.Views.{LaneView, all_of, placed_at, ClosedAs, Honest}
 use Rattle.mirror_core.specs.declared.worker.Stop.{Stop}
 use Rattle.mirror_core.specs.declared.worker.Stop.TheVariants.{Memory}
 use Rattle.mirror_core.specs.Three.{AllThree}
 use Rattle.mirror_core.specs.Six.{AllSix}
 use Rattle.mirror_core.specs.Fetching.{Fetching, fetched, WasGiven, WasMissed}
-use Rattle.mirror_core.specs.Working.{is_through, IsUnused, Ends, Worked}
+use Rattle.mirror_core.specs.Working.{is_through, IsUnused, EndedByFetches, Worked}
 use Rattle.mirror_core.specs.Closing.{AllBack, Closed, behind}
 use Rattle.mirror_core.specs.Fetched.{logs_gained, CellEnds, EachEnds, Fetches}
 use Rattle.mirror_core.specs.Asked.{AreIdsOf, AskInOrder, asked_in}
@@ -26,13 +26,13 @@ use Rattle.mirror_core.specs.Asked.{AreIdsOf, AskInOrder, asked_in}
 record Left (cells : List (Id × ℕ)) (lanes : List ℕ) (w : ℕ) (log : List Fetching) (through : Bool) (f : LaneRecord) : Type 0 where
   lane : f.lane ≡ w
   relay : f.relay ≡ get_or lanes w 0
-  ends : Ends cells log f
+  ends : EndedByFetches cells log f
   won : through ≡ true → (i : ℕ) → Contains f.won i → Contains f.ended (i, Done) ⊎ Contains f.ended (i, Missed)
   seen : through ≡ true → (i : ℕ) → i < length cells → slice_index (relays cells) i ≡ f.relay → Contains f.won i ⊎ ((c : Cell) × (c ≢ Free) × Contains f.met (i, c))
 
 module _ {J : Type 0} (cells : List (Id × ℕ)) (lanes : List ℕ) (logs : List (List Fetching)) (stops : List (Stop J)) (k : LaneView) (honest : Honest cells lanes k)
     (whole : (w : ℕ) → w < length lanes → (place : ℕ) × (f : LaneRecord) × (get_elem? (all_of k) place ≡ some f) × Left cells lanes w (get_or logs w []) (is_through (get_or stops w Memory)) f)
-    (i : ℕ) (id : Id) (relay : ℕ) (at : slice_get cells i ≡ Some (id, relay)) (c : Cell) (told : Settled (length lanes) k i c) where
+    (i : ℕ) (id : Id) (relay : ℕ) (at : slice_get cells i ≡ Some (id, relay)) (c : Cell) (told : ClosedAs (length lanes) k i c) where
   serves : (w : ℕ) → w < length lanes → get_or lanes w 0 ≡ relay → slice_get lanes w ≡ Some relay
   serves w lt e = slice_get-get_or lanes w 0 lt ∙ ap (λ (z : ℕ). Some z) e
 
@@ -139,7 +139,7 @@ module _ {J S : Type 0} (cells : List (Id × ℕ)) (log : S → List Fetching) (
         record {
           lane = at.7.same.lane ∙ (ap (λ (z : LaneRecord). z.lane) name ∙ (let none : 0 + w ≡ w = omega arith in none));
           relay = at.7.same.relay ∙ ap (λ (z : LaneRecord). z.relay) name;
-          ends = subst (λ (z : List Fetching). Ends cells z at.0.own) at.6 at.7.ends;
+          ends = subst (λ (z : List Fetching). EndedByFetches cells z at.0.own) at.6 at.7.ends;
           won = at.7.won;
           seen = at.7.seen;
         },

@@ -16,7 +16,7 @@ use Rattle.mirror_core.specs.declared.worker.Stop.{Stop}
 use Rattle.mirror_core.specs.declared.worker.Stop.TheVariants.{Source}
 use Rattle.mirror_core.specs.Fetching.{Fetching, fetching, fetched, WasGiven, WasMissed}
 use Rattle.mirror_core.specs.Batches.{Batched, SameLane, Settles}
-use Rattle.mirror_core.specs.Working.{is_through, IsUnused, Ends, Logs, Worked}
+use Rattle.mirror_core.specs.Working.{is_through, IsUnused, EndedByFetches, Logs, Worked}
 use Rattle.mirror_core.proofs.Batches.{none_of}
 use Rattle.mirror_core.proofs.Asked.{Asked, asked_all}
 
@@ -68,7 +68,7 @@ logs_then cells e f g a b c h k = record {
   gained = h.gained ++ k.gained;
   appended = k.appended ∙ (ap (λ (z : List Fetching). z ++ k.gained) h.appended ∙ append_assoc a h.gained k.gained);
   few = λ x z. ⊎_elim (h.few x) (k.few x) (Contains-append_cases h.gained k.gained x z);
-  ends = λ log z. subst (λ (x : List Fetching). Ends cells x g) (append_assoc log h.gained k.gained) (k.ends (log ++ h.gained) (h.ends log z));
+  ends = λ log z. subst (λ (x : List Fetching). EndedByFetches cells x g) (append_assoc log h.gained k.gained) (k.ends (log ++ h.gained) (h.ends log z));
 }
 
 -- what a worker did, from its lane's beginning on
@@ -76,7 +76,7 @@ pub worked : {J : Type 0} (cells : List (Id × ℕ)) (old new : LaneView) (befor
     → (is_through stop ≡ true → Batched cells next [] [] new.own × (length cells ≤ next)) → (stop ≡ Source Failed → faults < faults') → (faults < faults' → stop ≡ Source Failed) → (asked : ℕ) → Asked cells new.own.relay asked before after → Worked cells old new before after faults faults' stop
 worked cells old new before after faults faults' stop next unused same held logs through failed told asked so_far =
     let gained : fetched before after ≡ logs.gained = ap (fetched before) logs.appended ∙ drop-append_seam before logs.gained in
-    let none : Ends cells [] old.own = record {
+    let none : EndedByFetches cells [] old.own = record {
       done = λ i z. absurd (none_of old.own.ended (i, Done) unused.ended z);
       missed = λ i z. absurd (none_of old.own.ended (i, Missed) unused.ended z);
     } in
@@ -86,7 +86,7 @@ worked cells old new before after faults faults' stop next unused same held logs
       appended = logs.appended ∙ ap (λ (z : List Fetching). before ++ z) (sym gained);
       few = subst (λ (z : List Fetching). (g : Fetching) → Contains z g → length g.asked ≤ 100) (sym gained) logs.few;
       asked = asked_all cells new.own.relay asked before after so_far;
-      ends = subst (λ (z : List Fetching). Ends cells z new.own) (sym gained) (logs.ends [] none);
+      ends = subst (λ (z : List Fetching). EndedByFetches cells z new.own) (sym gained) (logs.ends [] none);
       won = λ t i z. ⊎_elim (λ (x : Contains new.own.ended (i, Done) ⊎ Contains new.own.ended (i, Missed)). x) (λ (x : Contains {X = ℕ} [] i). absurd (none_of {X = ℕ} [] i refl x)) ((through t).0.won i z);
       seen = λ t i low mine. (through t).0.seen i (let m = (through t).1 in omega (arith, low, m)) mine;
       failed = failed;

@@ -5,7 +5,7 @@ use Rattle.neg_codec.specs.declared.Id.{Id}
 use Rattle.fetch_plan.specs.declared.cell.Cell.{Cell}
 use Rattle.fetch_plan.specs.declared.cell.Cell.TheVariants.{Free}
 use Rattle.claim_board.specs.declared.records.LaneRecord.{LaneRecord}
-use Rattle.claim_board.specs.Views.{LaneView, Settled, Honest}
+use Rattle.claim_board.specs.Views.{LaneView, ClosedAs, Honest}
 
 -- a lane of the board that holds nothing and stands for itself alone
 abbrev pub IsBack : TableId → LaneView → Type 0
@@ -23,5 +23,5 @@ behind (p ∷ ps) = behind ps ++ p.own ∷ []
 -- what each cell is, as told through the keeper
 pub record Closed (cells : List (Id × ℕ)) (lanes : List ℕ) (keeper : LaneView) (found : List Cell) : Type 0 where
   pub len : length found ≡ length cells
-  pub settled : (i : ℕ) → i < length cells → Settled (length lanes) keeper i (slice_index_or found i Free)
+  pub settled : (i : ℕ) → i < length cells → ClosedAs (length lanes) keeper i (slice_index_or found i Free)
   pub honest : Honest cells lanes keeper

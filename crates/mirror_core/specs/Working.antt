@@ -32,7 +32,7 @@ pub record IsUnused (e : LaneRecord) : Type 0 where
   pub won : e.won ≡ []
 
 -- what the lane ended is of its relay, and was asked for and given, or not given, in these fetches
-pub record Ends (cells : List (Id × ℕ)) (log : List Fetching) (e : LaneRecord) : Type 0 where
+pub record EndedByFetches (cells : List (Id × ℕ)) (log : List Fetching) (e : LaneRecord) : Type 0 where
   pub done : (i : ℕ) → Contains e.ended (i, Done) → (id : Id) × (slice_get cells i ≡ Some (id, e.relay)) × WasGiven log id
   pub missed : (i : ℕ) → Contains e.ended (i, Missed) → (id : Id) × (slice_get cells i ≡ Some (id, e.relay)) × WasMissed log id
 
@@ -42,7 +42,7 @@ pub record Logs (cells : List (Id × ℕ)) (e f : LaneRecord) (before after : Li
   pub gained : List Fetching
   pub appended : after ≡ before ++ gained
   pub few : (g : Fetching) → Contains gained g → length g.asked ≤ 100
-  pub ends : (log : List Fetching) → Ends cells log e → Ends cells (log ++ gained) f
+  pub ends : (log : List Fetching) → EndedByFetches cells log e → EndedByFetches cells (log ++ gained) f
 
 -- The lane went from one to the other while its source's log and its count of failures did, and the worker stopped so.
 pub record Worked {J : Type 0} (cells : List (Id × ℕ)) (old new : LaneView) (before after : List Fetching) (faults faults' : ℕ) (stop : Stop J) : Type 0 where
@@ -51,7 +51,7 @@ pub record Worked {J : Type 0} (cells : List (Id × ℕ)) (old new : LaneView) (
   pub appended : after ≡ before ++ fetched before after
   pub few : (g : Fetching) → Contains (fetched before after) g → length g.asked ≤ 100
   pub asked : AreIdsOf cells new.own.relay 0 (length cells) (asked_in (fetched before after))
-  pub ends : Ends cells (fetched before after) new.own
+  pub ends : EndedByFetches cells (fetched before after) new.own
   pub won : is_through stop ≡ true → (i : ℕ) → Contains new.own.won i → Contains new.own.ended (i, Done) ⊎ Contains new.own.ended (i, Missed)
   pub seen : is_through stop ≡ true → (i : ℕ) → i < length cells → slice_index (relays cells) i ≡ new.own.relay → Contains new.own.won i ⊎ ((c : Cell) × (c ≢ Free) × Contains new.own.met (i, c))
   pub failed : stop ≡ ended.Source Failed → faults < faults'

@@ -15,9 +15,9 @@ use Rattle.neg_session.specs.Asking.{Linked, Chained, MayResume, MayAsk}
 use Rattle.neg_session.specs.Exchange.{Exchange, KeepsLimit, gained}
 use Rattle.neg_session.specs.Explaining.{IsExplained, Explains, AnswersBy}
 use Rattle.neg_session.specs.Faults.{number_of}
-use Rattle.neg_session.specs.Local.{Local, IsRefused, IsAnswered, Keeps, RollExplains}
+use Rattle.neg_session.specs.Local.{Local, IsRefusedQuestion, IsAnswered, Keeps, RollExplains}
 use Rattle.neg_session.specs.Most.{AreMost}
-use Rattle.neg_session.specs.Ran.{LastAnswer, IsRefused as session_refused, Ran}
+use Rattle.neg_session.specs.Ran.{LastAnswer, IsRefusedAnswer, Ran}
 use Rattle.neg_session.specs.declared.limits.SessionLimits.{SessionLimits}
 use Rattle.neg_session.specs.declared.fault.SessionFault.{SessionFault}
 use Rattle.neg_session.specs.declared.fault.SessionFault.TheVariants.{PeerFailed, Bad, Rounds, NeedFull, LogFull, Memory}
@@ -76,21 +76,21 @@ all_short limit own (e ∷ es) l h =
 is_read : (bytes : List ℕ) (m : List Span) (c : CodecFault) → length bytes ≤ 1048576 → Spells bytes m → message_at bytes ≡ Err c → ⊥
 is_read bytes m c short spells refused = let read = message_again bytes m short spells in cc
 
-heard : (limit : ℕ) (theirs : List Item) (c : CodecFault) (log : List Exchange) → limit ≤ 1048576 → Explains theirs log → All (IsAnswered limit) log → LastAnswer (session_refused c) log → ⊥
+heard : (limit : ℕ) (theirs : List Item) (c : CodecFault) (log : List Exchange) → limit ≤ 1048576 → Explains theirs log → All (IsAnswered limit) log → LastAnswer (IsRefusedAnswer c) log → ⊥
 heard limit theirs c log most explains pairs last = go log explains.each pairs last
   where
-    go : (es : List Exchange) → All (IsExplained theirs) es → All (IsAnswered limit) es → LastAnswer (session_refused c) es → ⊥
+    go : (es : List Exchange) → All (IsExplained theirs) es → All (IsAnswered limit) es → LastAnswer (IsRefusedAnswer c) es → ⊥
     go [] x h l = l
     go (e ∷ []) x h l =
         let told = All-head (IsExplained theirs) e [] x in
         is_read e.answered told.answered c (omega (arith, most, (All-head (IsAnswered limit) e [] h).short)) told.answers l
     go (e ∷ f ∷ es) x h l = go (f ∷ es) (All-tail (IsExplained theirs) e (f ∷ es) x) (All-tail (IsAnswered limit) e (f ∷ es) h) l
 
-may_resume_read : (limit : ℕ) (own : List Item) (e : Exchange) (es : List Exchange) (q : List ℕ) → limit ≤ 1048576 → MayResume limit own e es q → IsRefused q → ⊥
+may_resume_read : (limit : ℕ) (own : List Item) (e : Exchange) (es : List Exchange) (q : List ℕ) → limit ≤ 1048576 → MayResume limit own e es q → IsRefusedQuestion q → ⊥
 may_resume_read limit own e [] q most may refused = is_read q may.asked refused.0 (omega (arith, most, may.short)) may.spelled refused.1
 may_resume_read limit own e (f ∷ fs) q most may refused = may_resume_read limit own f fs q most may refused
 
-may_be_read : (limit : ℕ) (own : List Item) (es : List Exchange) (q : List ℕ) → limit ≤ 1048576 → MayAsk limit own es q → IsRefused q → ⊥
+may_be_read : (limit : ℕ) (own : List Item) (es : List Exchange) (q : List ℕ) → limit ≤ 1048576 → MayAsk limit own es q → IsRefusedQuestion q → ⊥
 may_be_read limit own [] q most may refused = is_read q may.asked refused.0 (omega (arith, most, may.short)) may.spelled refused.1
 may_be_read limit own (e ∷ es) q most may refused = may_resume_read limit own e es q most may refused
 
@@ -120,7 +120,7 @@ number_range Memory bad failed memory = absurd (memory refl)
 
 pub failed : (limit : ℕ) (mine theirs : List Item) (limits : SessionLimits) (old new : Local) (fault : SessionFault) (number : ℕ) → RollExplains → AreMost limit limits → limit ≤ 1048576 → IsFresh limit theirs old
     → Keeps old new → Ran mine limits old.log new.log old.faults new.faults (Err fault)
-    → (fault ≡ PeerFailed → (q : List ℕ) × MayAsk limits.limit mine (gained old.log new.log) q × IsRefused q)
+    → (fault ≡ PeerFailed → (q : List ℕ) × MayAsk limits.limit mine (gained old.log new.log) q × IsRefusedQuestion q)
     → number ≡ number_of fault → (fault ≡ Memory → ⊥) → Fails limit mine theirs number
 failed limit mine theirs limits old new fault number law are most fresh keeps ran asked is other =
     let from_start = ran_fresh limit mine theirs limits old new (Err fault) fresh ran in
@@ -151,7 +151,7 @@ is_memory Memory = inl refl
 
 pub refused : (limit : ℕ) (mine theirs : List Item) (limits : SessionLimits) (old new : Local) (fault : SessionFault) (result : Refusal) → RollExplains → AreMost limit limits → limit ≤ 1048576 → IsFresh limit theirs old
     → Keeps old new → Ran mine limits old.log new.log old.faults new.faults (Err fault)
-    → (fault ≡ PeerFailed → (q : List ℕ) × MayAsk limits.limit mine (gained old.log new.log) q × IsRefused q)
+    → (fault ≡ PeerFailed → (q : List ℕ) × MayAsk limits.limit mine (gained old.log new.log) q × IsRefusedQuestion q)
     → (fault ≡ Memory → result ≡ refusal.Memory) → ((fault ≡ Memory → ⊥) → result ≡ refusal.Session (number_of fault)) → IsSessionRefusal limit mine theirs result
 refused limit mine theirs limits old new fault result law are most fresh keeps ran asked memory others = elim (is_memory fault) [
   | inl is ↦ subst (IsSessionRefusal limit mine theirs) (sym (memory is)) tt

@@ -65,7 +65,7 @@ Responds roll old r new =
 
 -- The reader's fault refuses the query. Another version is answered, and want of memory is no fault of
 -- the query.
-abbrev pub Refuses : CodecFault → Type 0
-Refuses (codec.Version b) = ⊥
-Refuses codec.Memory = ⊥
-Refuses _ = Unit {0}
+abbrev pub RefusesQuery : CodecFault → Type 0
+RefusesQuery (codec.Version b) = ⊥
+RefusesQuery codec.Memory = ⊥
+RefusesQuery _ = Unit {0}

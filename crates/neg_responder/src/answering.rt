@@ -6,7 +6,7 @@ ghost use Rattle.neg_codec.specs.Text.{Spells};
 ghost use Rattle.neg_codec.specs.Reading.{longest, message_at};
 ghost use Rattle.neg_codec.specs.declared.CodecFault.{CodecFault};
 ghost use Rattle.neg_codec.specs.declared.CodecFault.TheVariants as codec;
-ghost use Rattle.neg_responder.specs.Reply.{Replies, Refuses};
+ghost use Rattle.neg_responder.specs.Reply.{Replies, RefusesQuery};
 
 use crate::ranges::reply;
 use item_roll::Roll;
@@ -66,8 +66,8 @@ fn answer_message(
 
 /// The answer to bytes that aren't read as a message.
 fn answer_fault(alloc: Global, fault: CodecFault) -> Result<Vec<u8>, AnswerFault>
-    ensures bad { (f : CodecFault) → result ≡ Err (AnswerFault.Bad f) → (f ≡ fault) × Refuses fault }
-    ensures refused { Refuses fault → result ≡ Err (AnswerFault.Bad fault) }
+    ensures bad { (f : CodecFault) → result ≡ Err (AnswerFault.Bad f) → (f ≡ fault) × RefusesQuery fault }
+    ensures refused { RefusesQuery fault → result ≡ Err (AnswerFault.Bad fault) }
     ensures version { (b : ℕ) → fault ≡ codec.Version b → IfOk result (λ v. v.items ≡ 0x61 ∷ []) }
     ensures others { IfOk result (λ v. (b : ℕ) × (fault ≡ codec.Version b)) }
     ensures own { IfOk result (λ v. v.items ≡ 0x61 ∷ []) }
@@ -110,8 +110,8 @@ pub fn answer(
     // It is no longer than the limit.
     ensures short { IfOk result (λ v. length v.items ≤ limit) }
     // A query is refused just where it is no message, and by that fault.
-    ensures bad { (f : CodecFault) → result ≡ Err (AnswerFault.Bad f) → (message_at query.now ≡ Err f) × Refuses f }
-    ensures refused { (f : CodecFault) → message_at query.now ≡ Err f → Refuses f → result ≡ Err (AnswerFault.Bad f) }
+    ensures bad { (f : CodecFault) → result ≡ Err (AnswerFault.Bad f) → (message_at query.now ≡ Err f) × RefusesQuery f }
+    ensures refused { (f : CodecFault) → message_at query.now ≡ Err f → RefusesQuery f → result ≡ Err (AnswerFault.Bad f) }
     // Another version is no fault.
     ensures version { (b : ℕ) → message_at query.now ≡ Err (codec.Version b) → IfOk result (λ v. v.items ≡ 0x61 ∷ []) }
 {

@@ -14,7 +14,7 @@ use Rattle.neg_initiator.specs.Session.{Session, Starts, Taken, IsDone}
 use Rattle.neg_initiator.specs.Settled.{HasOnePrint, ToldApart, OneTime, Settled, Needs, Has}
 use Rattle.neg_initiator.proofs.Ends.{settled_first, settled_last}
 use Rattle.neg_session.specs.Exchange.{Exchange, gained}
-use Rattle.neg_session.specs.Ran.{trusted_of, IsRight, LastAnswer, IsRefused, AsksForFew, Ran}
+use Rattle.neg_session.specs.Ran.{trusted_of, IsRight, LastAnswer, IsRefusedAnswer, AsksForFew, Ran}
 use Rattle.neg_session.specs.Going.{Knows, IsRead, Going}
 use Rattle.neg_session.specs.Faults.{fault_of}
 use Rattle.neg_session.specs.declared.peer.PeerFault.{PeerFault}
@@ -110,7 +110,7 @@ ran_none own limits old before = record {
   few_rounds = λ e. cc;
   shown = tt;
   once = tt;
-  refused = λ c r l. absurd (subst (LastAnswer (IsRefused c)) (gained_none old) l);
+  refused = λ c r l. absurd (subst (LastAnswer (IsRefusedAnswer c)) (gained_none old) l);
 }
 
 -- it ends without another pair
@@ -141,7 +141,7 @@ module _ (own : List Item) (limits : SessionLimits) (asked : ℕ) (old now new :
     few_rounds = λ h. rw same going.few_asked;
     shown = tt;
     once = tt;
-    refused = λ c r l. absurd (no_refusal c (gained old now) going.read (subst (λ w. LastAnswer (IsRefused c) (gained old w)) same l));
+    refused = λ c r l. absurd (no_refusal c (gained old now) going.read (subst (λ w. LastAnswer (IsRefusedAnswer c) (gained old w)) same l));
   }
     where
       is : {f : SessionFault} → ◌≡◌ {A = Result Outcome SessionFault} (Err e) (Err f) → e ≡ f

@@ -13,13 +13,13 @@ use Rattle.neg_codec.specs.Encoding.{text_of}
 use Rattle.item_roll.specs.Truth.{IsTrueOf, Follows}
 use Rattle.neg_initiator.specs.declared.initiator.Outcome.{Outcome}
 use Rattle.neg_initiator.specs.Listed.{IsListed, IsListedWhere, IsUnlisted, Distinct, PassesMost}
-use Rattle.neg_initiator.specs.Session.{Session, Taken, GoesOn, IsDone, NotAskedAgain, Refuses, IsAskDue}
+use Rattle.neg_initiator.specs.Session.{Session, Taken, GoesOn, IsDone, NotAskedAgain, RefusesReply, IsAskDue}
 use Rattle.neg_initiator.specs.Settled.{IsSkipped}
 use Rattle.neg_initiator.specs.Trusting.{IsTrustedBy}
 use Rattle.neg_session.specs.Exchange.{Exchange, exchange, gained, answered_bytes}
 use Rattle.neg_session.specs.Explaining.{Explains}
 use Rattle.neg_session.specs.Asking.{Resumes, Chained}
-use Rattle.neg_session.specs.Ran.{trusted_of, LastAnswer, IsRefused, IsOffered, IsWithheld, AsksForFew, IsShown, IsDue, Ran}
+use Rattle.neg_session.specs.Ran.{trusted_of, LastAnswer, IsRefusedAnswer, IsOffered, IsWithheld, AsksForFew, IsShown, IsDue, Ran}
 use Rattle.neg_session.specs.Going.{Knows, IsRead, Going}
 use Rattle.neg_session.specs.declared.limits.SessionLimits.{SessionLimits}
 use Rattle.neg_session.specs.declared.fault.SessionFault.{SessionFault}
@@ -163,12 +163,12 @@ module _ (own : List Item) (limits : SessionLimits) (asked : ℕ) (old now new :
     few_rounds = λ e. cc;
     shown = λ t m. next_shown next answered read taken t ((is_trusted t).0 m);
     once = once;
-    refused = λ c r l. absurd (read_or_refused (exchange question reply) c (answered, read) (last_gives (IsRefused c) (gained old now) (exchange question reply) (subst (LastAnswer (IsRefused c)) pairs l)));
+    refused = λ c r l. absurd (read_or_refused (exchange question reply) c (answered, read) (last_gives (IsRefusedAnswer c) (gained old now) (exchange question reply) (subst (LastAnswer (IsRefusedAnswer c)) pairs l)));
   }
 
-  pub ran_fault : asked < limits.rounds → (e : SessionFault) → (e ≡ PeerFailed → ⊥) → ((c : CodecFault) → e ≡ Bad c → IsRefused c reply) → (e ≡ Rounds → (asked + 1 ≡ limits.rounds) × IsAskDue own reply × AsksForFew limits.limit own limits.need (exchange question reply))
+  pub ran_fault : asked < limits.rounds → (e : SessionFault) → (e ≡ PeerFailed → ⊥) → ((c : CodecFault) → e ≡ Bad c → IsRefusedAnswer c reply) → (e ≡ Rounds → (asked + 1 ≡ limits.rounds) × IsAskDue own reply × AsksForFew limits.limit own limits.need (exchange question reply))
       → (e ≡ NeedFull → (answered : List Span) × (message_at reply ≡ Ok answered) × PassesMost s.roll answered s.need s.most) → (e ≡ LogFull → (left < length reply) × ((asked + 1 < limits.rounds) ⊎ (IsAskDue own reply → ⊥)) × AsksForFew limits.limit own limits.need (exchange question reply))
-      → ((c : CodecFault) → Refuses c → IsRefused c reply → e ≡ Bad c) → Ran own limits old new before last (Err e)
+      → ((c : CodecFault) → RefusesReply c → IsRefusedAnswer c reply → e ≡ Bad c) → Ran own limits old new before last (Err e)
   ran_fault round e failed bad rounds need_full log_full refused = record {
     appended = next_appended;
     chained = next_chained;
@@ -178,7 +178,7 @@ module _ (own : List Item) (limits : SessionLimits) (asked : ℕ) (old now new :
     done = tt;
     unfailed = λ no. same ∙ going.unfailed;
     failed = λ h. absurd (failed (is h));
-    bad = λ c h. rw pairs (last_is (IsRefused c) (gained old now) (exchange question reply) (bad c (is h)));
+    bad = λ c h. rw pairs (last_is (IsRefusedAnswer c) (gained old now) (exchange question reply) (bad c (is h)));
     rounds = λ h. let r = rounds (is h) in (next_count ∙ r.0, inr (rw pairs (last_is (IsAskDue own) (gained old now) (exchange question reply) r.1)));
     need_full = λ h. let f = need_full (is h) in
         let passes : PassesMost own f.0 s.need limits.need = subst (λ (w : List Item). PassesMost w f.0 s.need limits.need) going.roll (subst (λ n. PassesMost s.roll f.0 s.need n) going.most f.2) in
@@ -197,13 +197,13 @@ module _ (own : List Item) (limits : SessionLimits) (asked : ℕ) (old now new :
     few_rounds = λ h. next_few_asked (rounds (is h)).2;
     shown = tt;
     once = tt;
-    refused = λ c r l. ap Err (refused c r (last_gives (IsRefused c) (gained old now) (exchange question reply) (subst (LastAnswer (IsRefused c)) pairs l)));
+    refused = λ c r l. ap Err (refused c r (last_gives (IsRefusedAnswer c) (gained old now) (exchange question reply) (subst (LastAnswer (IsRefusedAnswer c)) pairs l)));
   }
     where
       is : {f : SessionFault} → ◌≡◌ {A = Result Outcome SessionFault} (Err e) (Err f) → e ≡ f
       is h = cc
 
-  not_refused : (m : List Span) → message_at reply ≡ Ok m → (c : CodecFault) → IsRefused c reply → ⊥
+  not_refused : (m : List Span) → message_at reply ≡ Ok m → (c : CodecFault) → IsRefusedAnswer c reply → ⊥
   not_refused m read c refused = let r = read in cc
 
   -- no question may follow

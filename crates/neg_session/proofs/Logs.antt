@@ -19,7 +19,7 @@ use Rattle.neg_initiator.specs.Trusting.{IsTrustedBy}
 use Rattle.neg_session.specs.Exchange.{Exchange, exchange, gained, answered_bytes}
 use Rattle.neg_session.specs.Explaining.{IsExplained, Explains}
 use Rattle.neg_session.specs.Asking.{Resumes, Linked, Chained, MayResume, MayAsk}
-use Rattle.neg_session.specs.Ran.{LastAnswer, IsRefused, IsOffered, IsWithheld, OffersMore, IsShown, IsDue}
+use Rattle.neg_session.specs.Ran.{LastAnswer, IsRefusedAnswer, IsOffered, IsWithheld, OffersMore, IsShown, IsDue}
 use Rattle.neg_session.specs.Going.{IsRead}
 
 -- what a log has gained
@@ -78,10 +78,10 @@ last_is P [] e h = h
 last_is P (x ∷ []) e h = h
 last_is P (x ∷ y ∷ ys) e h = last_is P (y ∷ ys) e h
 
-pub read_or_refused : (e : Exchange) (c : CodecFault) → IsRead e → IsRefused c e.answered → ⊥
+pub read_or_refused : (e : Exchange) (c : CodecFault) → IsRead e → IsRefusedAnswer c e.answered → ⊥
 read_or_refused e c m h = let r = m.1 in cc
 
-pub no_refusal : (c : CodecFault) (log : List Exchange) → All IsRead log → LastAnswer (IsRefused c) log → ⊥
+pub no_refusal : (c : CodecFault) (log : List Exchange) → All IsRead log → LastAnswer (IsRefusedAnswer c) log → ⊥
 no_refusal c [] h l = l
 no_refusal c (e ∷ []) h l = read_or_refused e c (All-head IsRead e [] h) l
 no_refusal c (e ∷ f ∷ es) h l = no_refusal c (f ∷ es) (All-tail IsRead e (f ∷ es) h) l

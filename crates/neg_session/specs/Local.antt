@@ -6,7 +6,7 @@ use Rattle.neg_codec.specs.declared.CodecFault.{CodecFault}
 use Rattle.neg_codec.specs.declared.Item.{Item}
 use Rattle.neg_codec.specs.Reading.{message_at}
 use Rattle.item_roll.specs.Parts.{IsRoll}
-use Rattle.neg_responder.specs.Reply.{Refuses}
+use Rattle.neg_responder.specs.Reply.{RefusesQuery}
 use Rattle.neg_session.specs.Exchange.{Exchange, gained}
 use Rattle.neg_session.specs.Explaining.{Explains, AnswersBy}
 use Rattle.neg_session.specs.Asking.{Chained}
@@ -18,12 +18,12 @@ pub record Local : Type 0 where
   pub faults : ℕ
 
 -- the question is no message, by another fault than its version
-abbrev pub IsRefused : List ℕ → Type 0
-IsRefused question = (f : CodecFault) × (message_at question ≡ Err f) × Refuses f
+abbrev pub IsRefusedQuestion : List ℕ → Type 0
+IsRefusedQuestion question = (f : CodecFault) × (message_at question ≡ Err f) × RefusesQuery f
 
 -- the question isn't refused, and its answer is no longer than the limit
 pub record IsAnswered (limit : ℕ) (e : Exchange) : Type 0 where
-  pub taken : IsRefused e.asked → ⊥
+  pub taken : IsRefusedQuestion e.asked → ⊥
   pub short : length e.answered ≤ limit
 
 -- It keeps its list and its limit. If each answer to a message was the list's own reply within the limit, that is still so; if no

@@ -8,7 +8,7 @@ use Rattle.neg_codec.specs.Reading.{message_at}
 use Rattle.neg_codec.specs.Text.{Spells}
 use Rattle.neg_initiator.specs.declared.initiator.Outcome.{Outcome}
 use Rattle.neg_initiator.specs.Listed.{IsListed, IsListedWhere, IsUnlisted, Distinct}
-use Rattle.neg_initiator.specs.Session.{Refuses, IsAskDue}
+use Rattle.neg_initiator.specs.Session.{RefusesReply, IsAskDue}
 use Rattle.neg_initiator.specs.Settled.{Needs, Has, HasOnePrint, ToldApart, OneTime, IsSkipped}
 use Rattle.neg_initiator.specs.Trusting.{IsTrustedBy}
 use Rattle.neg_initiator.specs.Pairs.{pair_of}
@@ -38,8 +38,8 @@ LastAnswer P (e ∷ []) = P e.answered
 LastAnswer P (e ∷ f ∷ es) = LastAnswer P (f ∷ es)
 
 -- the answer is no message, by that fault of the reader
-abbrev pub IsRefused : CodecFault → List ℕ → Type 0
-IsRefused c answer = message_at answer ≡ Err c
+abbrev pub IsRefusedAnswer : CodecFault → List ℕ → Type 0
+IsRefusedAnswer c answer = message_at answer ≡ Err c
 
 -- some answer lists the id between bounds between which the own roll lacks it
 pub record IsOffered (own : List Item) (log : List Exchange) (i : Id) : Type 0 where
@@ -118,9 +118,9 @@ pub record Ran (own : List Item) (limits : SessionLimits) (old new : List Exchan
   -- each fault has its cause, and no other cause stands for a lower one of rounds, ids and bytes
   pub failed : result ≡ Err PeerFailed → before < after
   pub unfailed : (result ≡ Err PeerFailed → ⊥) → after ≡ before
-  pub bad : (c : CodecFault) → result ≡ Err (Bad c) → LastAnswer (IsRefused c) (gained old new)
+  pub bad : (c : CodecFault) → result ≡ Err (Bad c) → LastAnswer (IsRefusedAnswer c) (gained old new)
   pub rounds : result ≡ Err Rounds → (length (gained old new) ≡ limits.rounds) × IsDue own (gained old new)
   pub need_full : result ≡ Err NeedFull → OffersMore own (gained old new) limits.need
   pub log_full : result ≡ Err LogFull → (limits.log < answered_bytes (gained old new)) × ((length (gained old new) < limits.rounds) ⊎ (IsDue own (gained old new) → ⊥)) × EndsIn (AsksForFew limits.limit own limits.need) (gained old new)
   -- and an answer that is no message is refused
-  pub refused : (c : CodecFault) → Refuses c → LastAnswer (IsRefused c) (gained old new) → result ≡ Err (Bad c)
+  pub refused : (c : CodecFault) → RefusesReply c → LastAnswer (IsRefusedAnswer c) (gained old new) → result ≡ Err (Bad c)

@@ -77,7 +77,7 @@ pub fn roll_explains()
 
 impl Peer for LocalPeer {
     ghost use Rattle.std.specs.Prelude.{◌≡◌};
-    ghost use Rattle.neg_session.specs.Local.{IsRefused, Keeps, keeps_itself, keeps_on};
+    ghost use Rattle.neg_session.specs.Local.{IsRefusedQuestion, Keeps, keeps_itself, keeps_on};
 
     ghost log = { λ p. p.log };
 
@@ -85,7 +85,7 @@ impl Peer for LocalPeer {
 
     ghost becomes = { Keeps };
 
-    ghost fails = { IsRefused };
+    ghost fails = { IsRefusedQuestion };
 
     ghost stays = { keeps_itself };
 
@@ -95,7 +95,7 @@ impl Peer for LocalPeer {
         requires { self.old.faults < 2 ^ 64 - 1 }
         ensures ok { IfOk result (λ answer. (self.new.log ≡ self.old.log ++ exchange question.now answer.items ∷ []) × (self.new.faults ≡ self.old.faults)) }
         ensures err { OnErr result (self.new.log ≡ self.old.log) }
-        ensures failed { result ≡ Err PeerFault.Failed → (self.old.faults < self.new.faults) × IsRefused question.now }
+        ensures failed { result ≡ Err PeerFault.Failed → (self.old.faults < self.new.faults) × IsRefusedQuestion question.now }
         ensures memory { result ≡ Err PeerFault.Memory → self.new.faults ≡ self.old.faults }
         ensures becomes { Keeps self.old self.new }
         // A failure is counted once.

@@ -16,7 +16,7 @@ use Rattle.sharing.proofs.Orders.{id_total, same_id, id_itself, id_apart, id_fli
 use Rattle.offer_table.specs.declared.combined.Keep.{Keep}
 use Rattle.offer_table.specs.declared.combined.Keep.TheVariants.{Either, FirstAlone}
 use Rattle.offer_table.specs.Table.{new_in}
-use Rattle.offer_table.specs.Combined.{keeps, most_kept, IsTaken, IsLeast, IsPushed}
+use Rattle.offer_table.specs.Combined.{keeps, most_kept, IsTaken, IsNextId, IsPushed}
 use Rattle.offer_table.proofs.Runs.{Offers, id_of}
 
 abbrev pub PairsBehind : Id → Offers → Type 0
@@ -97,7 +97,7 @@ new_in_few mine (x ∷ xs) = omega (arith, new_in_few mine xs, new_more x.0 x.1 
     small true = omega arith
     small false = omega arith
 
-module _ (a b : Offers) (k : Id) (s t : List ℕ) (ms ts : Offers) (h : IsLeast a b k s t ms ts) where
+module _ (a b : Offers) (k : Id) (s t : List ℕ) (ms ts : Offers) (h : IsNextId a b k s t ms ts) where
   -- the least id is one of them
   pub total_step : total a b ≡ 1 + total ms ts
   total_step =
@@ -193,7 +193,7 @@ ahead : (all : Offers) (k : Id) (old : Offers) (s : List ℕ) (new : Offers) →
 ahead all k old s new e g =
     All-weaker (λ p. PairsBehind p.0 ((k, s) ∷ new)) (λ p. id_cmp p.0 k ≡ Less) (λ p h. All-head (λ v. id_cmp p.0 v.0 ≡ Less) (k, s) new h) all (subst (λ (os : Offers). All (λ p. PairsBehind p.0 os) all) e g)
 
-module _ (keep : Keep) (mine theirs all a b : Offers) (k : Id) (s t u : List ℕ) (ms ts : Offers) (j : Joining keep mine theirs all a b) (h : IsLeast a b k s t ms ts)
+module _ (keep : Keep) (mine theirs all a b : Offers) (k : Id) (s t u : List ℕ) (ms ts : Offers) (j : Joining keep mine theirs all a b) (h : IsNextId a b k s t ms ts)
     (member : (r : ℕ) → is_among u r ≡ keeps keep (is_among s r) (is_among t r)) where
   -- what the next list holds
   step : (new : Bool) (i : Id) (r : ℕ) → new ≡ (held all i r || (is_id i k && is_among u r)) → (new || keeps keep (held ms i r) (held ts i r)) ≡ keeps keep (held mine i r) (held theirs i r)
@@ -262,7 +262,7 @@ module _ (keep : Keep) (mine theirs all a b : Offers) (k : Id) (s t u : List ℕ
       }
 
 -- the next list, in either case
-pub joining_step : (keep : Keep) (mine theirs all a b : Offers) (k : Id) (s t u : List ℕ) (ms ts new : Offers) → Joining keep mine theirs all a b → IsLeast a b k s t ms ts
+pub joining_step : (keep : Keep) (mine theirs all a b : Offers) (k : Id) (s t u : List ℕ) (ms ts new : Offers) → Joining keep mine theirs all a b → IsNextId a b k s t ms ts
     → ((r : ℕ) → is_among u r ≡ keeps keep (is_among s r) (is_among t r)) → AreRelays u → IsPushed all k u new → Joining keep mine theirs new ms ts
 joining_step keep mine theirs all a b k s t u ms ts new j h member relays pushed =
     elim pushed [
@@ -271,7 +271,7 @@ joining_step keep mine theirs all a b k s t u ms ts new j h member relays pushed
     ]
 
 -- the least id, where one list has it
-pub least_alone : (first : Id × List ℕ) (more mine theirs : Offers) (e : List ℕ) → mine ≡ first ∷ more → Ascend (map id_of mine) → PairsBehind first.0 theirs → e ≡ [] → IsLeast mine theirs first.0 first.1 e more theirs
+pub least_alone : (first : Id × List ℕ) (more mine theirs : Offers) (e : List ℕ) → mine ≡ first ∷ more → Ascend (map id_of mine) → PairsBehind first.0 theirs → e ≡ [] → IsNextId mine theirs first.0 first.1 e more theirs
 least_alone first more mine theirs e is ordered behind none = record {
   first = inl is;
   second = inr (none, refl);
@@ -280,7 +280,7 @@ least_alone first more mine theirs e is ordered behind none = record {
   some = inl is;
 }
 
-pub least_second : (second : Id × List ℕ) (rest mine theirs : Offers) (e : List ℕ) → theirs ≡ second ∷ rest → Ascend (map id_of theirs) → PairsBehind second.0 mine → e ≡ [] → IsLeast mine theirs second.0 e second.1 mine rest
+pub least_second : (second : Id × List ℕ) (rest mine theirs : Offers) (e : List ℕ) → theirs ≡ second ∷ rest → Ascend (map id_of theirs) → PairsBehind second.0 mine → e ≡ [] → IsNextId mine theirs second.0 e second.1 mine rest
 least_second second rest mine theirs e is ordered behind none = record {
   first = inr (none, refl);
   second = inl is;
@@ -290,7 +290,7 @@ least_second second rest mine theirs e is ordered behind none = record {
 }
 
 -- and where both have it
-pub least_both : (first second : Id × List ℕ) (more rest mine theirs : Offers) → mine ≡ first ∷ more → theirs ≡ second ∷ rest → Ascend (map id_of mine) → Ascend (map id_of theirs) → first.0 ≡ second.0 → IsLeast mine theirs first.0 first.1 second.1 more rest
+pub least_both : (first second : Id × List ℕ) (more rest mine theirs : Offers) → mine ≡ first ∷ more → theirs ≡ second ∷ rest → Ascend (map id_of mine) → Ascend (map id_of theirs) → first.0 ≡ second.0 → IsNextId mine theirs first.0 first.1 second.1 more rest
 least_both first second more rest mine theirs is are ordered others same =
     let led : theirs ≡ (first.0, second.1) ∷ rest = are ∙ ap (λ (k : Id). (k, second.1) ∷ rest) (sym same) in
     record {

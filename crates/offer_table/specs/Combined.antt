@@ -23,7 +23,7 @@ abbrev pub IsTaken : Id → List (Id × List ℕ) → List ℕ → List (Id × L
 IsTaken k old relays new = (old ≡ (k, relays) ∷ new) ⊎ ((relays ≡ []) × (old ≡ new))
 
 -- the least id of both lists, with the relays beside it in each, and what comes behind it
-pub record IsLeast (mine theirs : List (Id × List ℕ)) (k : Id) (ours others : List ℕ) (more rest : List (Id × List ℕ)) : Type 0 where
+pub record IsNextId (mine theirs : List (Id × List ℕ)) (k : Id) (ours others : List ℕ) (more rest : List (Id × List ℕ)) : Type 0 where
   pub first : IsTaken k mine ours more
   pub second : IsTaken k theirs others rest
   pub behind_mine : All (λ o. id_cmp k o.0 ≡ Less) more

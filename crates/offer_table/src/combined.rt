@@ -6,7 +6,7 @@ ghost use Rattle.sharing.specs.declared.TheConstants.{MOST_IDS};
 ghost use Rattle.sharing.specs.Sharing.{is_among};
 ghost use Rattle.sharing.specs.Offers.{AreRelays, Ascend, IsOffers, relays_of};
 ghost use Rattle.offer_table.specs.Table.{new_in};
-ghost use Rattle.offer_table.specs.Combined.{keeps, most_kept, IsLeast, IsPushed};
+ghost use Rattle.offer_table.specs.Combined.{keeps, most_kept, IsNextId, IsPushed};
 
 use crate::RelaySet;
 use crate::guess::Pairs;
@@ -52,7 +52,7 @@ struct Next<'a> {
 fn least<'a>(mine: &'a [(Id, RelaySet)], theirs: &'a [(Id, RelaySet)]) -> Option<Next<'a>>
     requires mine { Ascend (map (λ o. o.0) mine.now) }
     requires theirs { Ascend (map (λ o. o.0) theirs.now) }
-    ensures { MatchOption result ((mine.now ≡ []) × (theirs.now ≡ [])) (λ l. IsLeast mine.now theirs.now l.id l.mine l.theirs l.more.now l.rest.now) }
+    ensures { MatchOption result ((mine.now ≡ []) × (theirs.now ≡ [])) (λ l. IsNextId mine.now theirs.now l.id l.mine l.theirs l.more.now l.rest.now) }
 {
     match mine.split_first() {
         None => {
@@ -80,7 +80,7 @@ fn least_from<'a>(
     requires first { mine.now ≡ first.now ∷ more.now }
     requires mine { Ascend (map (λ o. o.0) mine.now) }
     requires theirs { Ascend (map (λ o. o.0) theirs.now) }
-    ensures { IsLeast mine.now theirs.now result.id result.mine result.theirs result.more.now result.rest.now }
+    ensures { IsNextId mine.now theirs.now result.id result.mine result.theirs result.more.now result.rest.now }
 {
     let alone = Next {
         id: first.0,

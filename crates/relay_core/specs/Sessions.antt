@@ -7,7 +7,7 @@ use Rattle.neg_codec.specs.Ranges.{Span}
 use Rattle.neg_codec.specs.Text.{Spells}
 use Rattle.neg_codec.specs.Reading.{longest, message_at}
 use Rattle.item_roll.specs.Parts.{IsRoll}
-use Rattle.neg_responder.specs.Reply.{Replies, Refuses}
+use Rattle.neg_responder.specs.Reply.{Replies, RefusesQuery}
 use Rattle.nostr_event.specs.EventView.{EventView, item_of}
 use Rattle.nostr_filter.specs.declared.filter.Filter.{Filter}
 use Rattle.event_table.specs.Events.{matching}
@@ -23,7 +23,7 @@ session name snapshot = record { name = name; snapshot = snapshot }
 
 -- the bytes are refused as no message of the protocol; those of another version aren't
 abbrev pub IsBad : List ℕ → Type 0
-IsBad query = (f : CodecFault) × (message_at query ≡ Err f) × Refuses f
+IsBad query = (f : CodecFault) × (message_at query ≡ Err f) × RefusesQuery f
 
 -- the responder's answer for the items, in at most so many bytes: to a message it is their own reply, and to another version it is
 -- this one's byte

@@ -23,7 +23,7 @@ use Rattle.wire.specs.declared.heard.Heard.{Heard}
 use Rattle.ws_socket.specs.declared.fault.LinkFault.{LinkFault}
 use Rattle.ws_serve.specs.Answering.{TellsOf}
 use Rattle.ws_serve.specs.Frames.{spoken, spoken_one}
-use Rattle.ws_serve.specs.Gathered.{ids_of, AreTold, SaysOfAll, SaysOfSome, Stores, AreStored, Gathers, Ends, Gathered, IsAwaited}
+use Rattle.ws_serve.specs.Gathered.{ids_of, AreTold, SaysOfAll, SaysOfSome, Stores, AreStored, Gathers, AnswersLast, Gathered, IsAwaited}
 use Rattle.ws_serve.specs.Pieces.{Asked, words, answers, Standing, Puts}
 use Rattle.ws_serve.specs.Served.{put_back, Talks, IsServing, Serving, Served, GoesOn, Stops}
 use Rattle.ws_serve.specs.Steps.{Holds, Brings, Asks, Hears, Awaits, SaysSome}
@@ -79,7 +79,7 @@ gathers_stored old new event w s rest c c2 t k k2 g h limits p stores pushed =
 -- a text ends them
 pub gathers_ends : (es : List EventView) (w : List ℕ) (s : Step) (c c2 : Conn) (t : Traffic) (k k2 : List EventView) → Gathers es (words w ∷ put_back t) t.conn t.left c t k
     → GoesOnBy (λ old new. Serves c.limits k2 w old (turn_of s new)) c.kept c2.kept → c2.limits ≡ c.limits → IsPrefix k k2 → option_map arc_value s.store ≡ None
-    → Ends es (map relay_form s.out.items) c2 t k2
+    → AnswersLast es (map relay_form s.out.items) c2 t k2
 gathers_ends es w s c c2 t k k2 g h limits p none =
     let last = g.serving.last in
     let on = goes_from (λ old new. Serves c.limits k2 w old (turn_of s new)) c.kept c2.kept last.kept g.serving.kept h in
@@ -229,7 +229,7 @@ events_said es pending conn left c c2 t t2 k k2 g s limits kept p =
     }
 
 -- and the last text's answers behind them
-ends_said : (es : List EventView) (out : List Form) (c c2 : Conn) (t t2 t3 : Traffic) (k k2 : List EventView) → Ends es out c t k
+ends_said : (es : List EventView) (out : List Form) (c c2 : Conn) (t t2 t3 : Traffic) (k k2 : List EventView) → AnswersLast es out c t k
     → SaysOfAll (ids_of es) t t2 → c2.limits ≡ c.limits → c2.kept ≡ c.kept → IsPrefix k k2 → Says t2 t3 (spoken out) → IsServing (put_back t) t.conn t.left c2 t3 k2
 ends_said es out c c2 t t2 t3 k k2 d s limits kept p says3 =
     let last = d.last in

@@ -63,7 +63,7 @@ pub record Gathers (events : List EventView) (pending : List Asked) (conn : Conn
   pub serving : IsServing (map words texts ++ pending) conn left c t known
 
 -- The last text is pending behind those of the events, and these are its answers.
-pub record Ends (events : List EventView) (out : List Form) (c : Conn) (t : Traffic) (known : List EventView) : Type 0 where
+pub record AnswersLast (events : List EventView) (out : List Form) (c : Conn) (t : Traffic) (known : List EventView) : Type 0 where
   pub texts : List (List ℕ)
   pub text : List ℕ
   pub stored : AreStored c.limits texts events
@@ -79,7 +79,7 @@ pub record Ends (events : List EventView) (out : List Form) (c : Conn) (t : Traf
 -- nothing else came behind the events than what was heard
 abbrev pub Gathered : List EventView → Result (Option Heard) LinkFault → List Form → List ℕ → Conn → Traffic → List EventView → Type 0
 Gathered events (Ok None) out bs c t known =
-    ((out ≡ []) × Gathers events (put_back t) t.conn t.left c t known) ⊎ Ends events out c t known
+    ((out ≡ []) × Gathers events (put_back t) t.conn t.left c t known) ⊎ AnswersLast events out c t known
 Gathered events (Ok (Some h)) out bs c t known =
     (out ≡ []) × ((pending : List Asked) × Asks t.conn.role h bs pending × Gathers events (pending ++ put_back t) t.conn t.left c t known)
 Gathered events (Err f) out bs c t known =

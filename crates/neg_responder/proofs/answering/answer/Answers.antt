@@ -5,7 +5,7 @@ use Rattle.neg_codec.specs.Text.{Spells}
 use Rattle.neg_codec.specs.Reading.{Fails, longest, message_at}
 use Rattle.neg_codec.specs.declared.CodecFault.{CodecFault}
 use Rattle.neg_codec.specs.declared.CodecFault.TheVariants as codec
-use Rattle.neg_responder.specs.Reply.{Replies, Refuses}
+use Rattle.neg_responder.specs.Reply.{Replies, RefusesQuery}
 use Rattle.neg_responder.specs.declared.answering.AnswerFault.TheVariants as answer_fault
 use Rattle.neg_responder.proofs.answering.answer.Goals as goal
 
@@ -20,7 +20,7 @@ returns-in-Ok-clause-replies c =
     c.answer_message.ensures.replies
 
 -- a fault that refuses is the reader's
-fault_read : (f : CodecFault) (read : Result (List Span) CodecFault) → Refuses f → Fails f read → read ≡ Err f
+fault_read : (f : CodecFault) (read : Result (List Span) CodecFault) → RefusesQuery f → Fails f read → read ≡ Err f
 fault_read codec.Empty read h e = e
 fault_read (codec.Version b) read h e = e
 fault_read (codec.Varint n) read h e = e
@@ -56,9 +56,9 @@ returns-in-Err c = record {
   short = IfOk-weaker c.answer_fault.result (λ v. v.items ≡ 0x61 ∷ []) (λ v. length v.items ≤ c.args.limit) (λ v e. omega (arith, ap length e, c.requires)) c.answer_fault.ensures.own;
   bad = λ f e.
       let b = c.answer_fault.ensures.bad f e in
-      (fault_read c.in-Err.fault (message_at c.args.query.now) b.1 c.in-Err.ensures.exact ∙ ap (λ (x : CodecFault). err x) (sym b.0), subst Refuses (sym b.0) b.1);
+      (fault_read c.in-Err.fault (message_at c.args.query.now) b.1 c.in-Err.ensures.exact ∙ ap (λ (x : CodecFault). err x) (sym b.0), subst RefusesQuery (sym b.0) b.1);
   refused = λ f m r.
       let same = same_fault c.in-Err.fault f (c.in-Err.ensures.first f m) in
-      subst (λ (x : CodecFault). c.answer_fault.result ≡ Err (answer_fault.Bad x)) same (c.answer_fault.ensures.refused (subst Refuses (sym same) r));
+      subst (λ (x : CodecFault). c.answer_fault.result ≡ Err (answer_fault.Bad x)) same (c.answer_fault.ensures.refused (subst RefusesQuery (sym same) r));
   version = λ b m. c.answer_fault.ensures.version b (same_fault c.in-Err.fault (codec.Version b) (c.in-Err.ensures.first (codec.Version b) m));
 }

@@ -3,7 +3,7 @@ use Rattle.std.specs.Slots.{slots_items}
 use Rattle.fetch_plan.specs.declared.cell.Cell.{Cell}
 use Rattle.fetch_plan.specs.declared.cell.Cell.TheVariants.{Free}
 use Rattle.claim_board.specs.Rules.{relays}
-use Rattle.claim_board.specs.Views.{LaneView, all_of, Settled}
+use Rattle.claim_board.specs.Views.{LaneView, all_of, ClosedAs}
 use Rattle.claim_board.proofs.Lanes.{idle_view}
 use Rattle.claim_board.proofs.Closing.{settles, or_at, told_more, honest}
 use Rattle.claim_board.proofs.board.Board.close.Goals as goal
@@ -28,8 +28,8 @@ loop-i-preserved g c =
       same = old.same;
       room = let k = c.push_reserved.ensures.capacity in let r = old.room in omega arith;
       upto = let u = old.upto in let t = length-append c.loop-i.cells.items (c.cell_of.result ∷ []) in ap length items ∙ omega (arith, u, t);
-      told = subst (λ (z : List Cell). (k : ℕ) → k < c.loop-i.i + 1 → Settled (length c.args.self.lanes) c.args.lane k (get_or z k Free)) (sym items)
-          (told_more (Settled (length c.args.self.lanes) c.args.lane) _ _ c.loop-i.i old.upto old.told (subst (λ (z : Cell). Settled (length c.args.self.lanes) c.args.lane c.loop-i.i z) (sym c.cell_of.ensures) t.1));
+      told = subst (λ (z : List Cell). (k : ℕ) → k < c.loop-i.i + 1 → ClosedAs (length c.args.self.lanes) c.args.lane k (get_or z k Free)) (sym items)
+          (told_more (ClosedAs (length c.args.self.lanes) c.args.lane) _ _ c.loop-i.i old.upto old.told (subst (λ (z : Cell). ClosedAs (length c.args.self.lanes) c.args.lane c.loop-i.i z) (sym c.cell_of.ensures) t.1));
     }
 
 pub returns-clause-honest : goal.returns-clause-honest

@@ -3,7 +3,7 @@ use Rattle.std.specs.Slots.{slots_items, slots_len, IsFull}
 use Rattle.atomic_table.specs.Table.{Final, Seen}
 use Rattle.fetch_plan.specs.declared.cell.Cell.TheVariants.{Free}
 use Rattle.claim_board.specs.Rules.{relays, Kept}
-use Rattle.claim_board.specs.Views.{all_of, Settled}
+use Rattle.claim_board.specs.Views.{all_of, ClosedAs}
 use Rattle.claim_board.proofs.board.Board.close.Given as goal
 
 abbrev pub invariant-loop-i : goal.invariant-loop-i
@@ -15,5 +15,5 @@ invariant-loop-i g l = record {
   same : l.layout.cells.items ≡ l.fn.self.cells;
   room : length l.fn.self.cells ≤ l.cells.cap;
   upto : length l.cells.items ≡ l.i;
-  told : (k : ℕ) → k < l.i → Settled (length l.fn.self.lanes) l.fn.lane k (get_or l.cells.items k Free);
+  told : (k : ℕ) → k < l.i → ClosedAs (length l.fn.self.lanes) l.fn.lane k (get_or l.cells.items k Free);
 }
