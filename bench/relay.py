@@ -29,17 +29,14 @@ from inputs import made
 from measure import apart, program_of
 from wire import Client
 
-TICKS = os.sysconf("SC_CLK_TCK")
-
 # What the settings of every run have besides.
 BESIDES = {}
 
 
 def spent(pid):
-    """The processor time that a process has taken so far, with that of its threads, in seconds."""
-    with open("/proc/%d/stat" % pid) as text:
-        fields = text.read().rsplit(")", 1)[1].split()
-    return (int(fields[11]) + int(fields[12])) / TICKS
+    """The processor time that a process has taken so far, with that of its threads, in seconds. It is read from the process's
+    clock (clock_getcpuclockid), since /proc tells it in steps of 10 ms."""
+    return time.clock_gettime(~pid << 3 | 2)
 
 
 def peak(pid):
@@ -172,7 +169,7 @@ def row_of_putting(program, folder, lines, clients):
 
 
 def row_of_asking(program, folder, lines, filters, times=10):
-    """Asks for the same several times over, since the system tells times in steps of 10 ms, and shows what one time took."""
+    """Asks for the same several times over, and shows what one time took."""
     relay = Serving(program, folder, "ask", 2, lines)
     holder = Client(relay.port)
     came = ask(relay.port, filters * times)
@@ -273,9 +270,9 @@ def main():
                 for program, its in zip(programs, runs):
                     its.append(rows[name](program))
             best = [(min(cost[0] for cost, _ in its), max(cost[1] for cost, _ in its), its[0][1]) for its in runs]
-            line = "%-8s %8.3f s %7.0f MiB" % (name, best[0][0], best[0][1])
+            line = "%-8s %8.4f s %7.0f MiB" % (name, best[0][0], best[0][1])
             if len(best) == 2:
-                line += "   plain %8.3f s (%5.2f) %7.0f MiB (%5.2f)%s" % (
+                line += "   plain %8.4f s (%5.2f) %7.0f MiB (%5.2f)%s" % (
                     best[1][0], best[0][0] / max(best[1][0], 0.001), best[1][1], best[0][1] / best[1][1],
                     "" if best[0][2] == best[1][2] else "   THE ANSWERS DIFFER: %s, %s" % (best[0][2], best[1][2]))
             print(line, flush=True)
