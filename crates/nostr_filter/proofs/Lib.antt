@@ -12,3 +12,4 @@ pub mod Standing
 pub mod TagLooking
 pub mod TagReading
 pub mod Taken
+pub mod Tagged

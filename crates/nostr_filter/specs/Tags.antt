@@ -26,3 +26,8 @@ listed (Some v) = v.items
 -- `#x`
 abbrev pub tag_name : ℕ → List ℕ
 tag_name x = 35 ∷ x ∷ []
+
+-- a field's name begins with `#`
+abbrev pub begins_tag : List ℕ → Bool
+begins_tag [] = false
+begins_tag (c ∷ cs) = c == 35

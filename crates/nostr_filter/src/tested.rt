@@ -1,15 +1,16 @@
 // The tests of a filter's fields, which take no memory.
-ghost use Rattle.std.specs.Prelude.{◌≡◌, ◌<◌, ◌↔◌, [], IsTrue, IfErr, OnOk, Ok, Some, None, false, is_some, codes};
+ghost use Rattle.std.specs.Prelude.{◌≡◌, ◌<◌, ◌↔◌, ℕ, [], IsTrue, IfErr, OnOk, Ok, Some, None, false, is_some, codes};
 ghost use Rattle.std.specs.List.{list_all};
-ghost use Rattle.serde_json.specs.Find.{as_str};
-ghost use Rattle.serde_json.specs.View.{view, items_view};
-ghost use Rattle.nostr_filter.specs.Tags.{letters, tag_name};
+ghost use Rattle.serde_json.specs.Data.{object};
+ghost use Rattle.serde_json.specs.Find.{get, as_str};
+ghost use Rattle.serde_json.specs.View.{view, items_view, members_view};
+ghost use Rattle.nostr_filter.specs.Tags.{letters, tag_name, begins_tag};
 ghost use Rattle.nostr_filter.specs.FilterJson.{texts_of, kind_of, kinds_of, whole_of, field as read_field, conditions_of, first_failing, tag_tests, named_tests, shape_tests, IsHex, AreHex, IsHexAt, Passes, Refuses};
 
 use crate::fault::{FilterFault, FilterField};
 use crate::fields::{hex_at, kind_at};
 use crate::letters::LETTERS;
-use serde_json::Value;
+use serde_json::{Map, Value};
 
 // Whether each value is a string.
 fn are_strings(values: &[Value]) -> bool
@@ -116,12 +117,44 @@ fn condition_found(value: &Value, letter: u8) -> Option<bool>
     }
 }
 
+// Whether a field's name begins as those of conditions on tags do.
+fn begins_tag(name: &str) -> bool
+    ensures { result ≡ begins_tag name.now }
+{
+    name.as_bytes().first() == Some(&b'#')
+}
+
+// Whether some field's name does.
+fn has_tags(members: &Map<String, Value>) -> bool
+    ensures { result ≡ false → (x : ℕ) → get (tag_name x) (object (members_view members.now.entries)) ≡ None }
+{
+    for name in members.keys() {
+        if begins_tag(name.as_str()) {
+            return true;
+        }
+    }
+    false
+}
+
+// Whether the value may have conditions on tags. Most have none, so that no letter's has to be looked for.
+fn may_be_tagged(value: &Value) -> bool
+    ensures { result ≡ false → (x : ℕ) → get (tag_name x) (view value.now) ≡ None }
+{
+    match value.as_object() {
+        Some(members) => has_tags(members),
+        None => false,
+    }
+}
+
 // Whether some letter's condition is there, or the first that is something else.
 fn letters_found(value: &Value) -> Result<bool, u8>
     ensures none { result ≡ Ok false → conditions_of letters (view value.now) ≡ Some [] }
     ensures passed { OnOk result (first_failing (tag_tests letters (view value.now)) ≡ None) }
     ensures failed { IfErr result (λ x. first_failing (tag_tests letters (view value.now)) ≡ Some (FilterField.Tag x)) }
 {
+    if !may_be_tagged(value) {
+        return Ok(false);
+    }
     let mut is_tagged = false;
     for letter in LETTERS {
         let Some(is_there) = condition_found(value, *letter) else {

@@ -5,11 +5,18 @@ use Rattle.nostr_filter.specs.Tags.{letters}
 use Rattle.nostr_filter.specs.FilterJson.{conditions_of, tag_tests, first_failing}
 use Rattle.nostr_filter.proofs.Standing.{fifty_two, letters_are, small_letter}
 use Rattle.nostr_filter.proofs.TagReading.{passed_step, failed_step, missing_step}
+use Rattle.nostr_filter.proofs.Tagged.{no_conditions, none_fails}
 use Rattle.nostr_filter.proofs.tested.letters_found.Goals as goal
 
 neither : (a b : Bool) → (a || b) ≡ false → (a ≡ false) × (b ≡ false)
 neither true b e = absurd (true≢false e)
 neither false b e = (refl, e)
+
+pub returns-then-not-may_be_tagged-clause-none : goal.returns-then-not-may_be_tagged-clause-none
+returns-then-not-may_be_tagged-clause-none c = λ e. no_conditions letters (view c.args.value.now) (c.may_be_tagged.ensures c.if-not-may_be_tagged.true)
+
+pub returns-then-not-may_be_tagged-clause-passed : goal.returns-then-not-may_be_tagged-clause-passed
+returns-then-not-may_be_tagged-clause-passed c = none_fails letters (view c.args.value.now) (c.may_be_tagged.ensures c.if-not-may_be_tagged.true)
 
 pub condition_found-requires : goal.condition_found-requires
 condition_found-requires c =
