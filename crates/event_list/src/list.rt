@@ -2,7 +2,8 @@
 ghost use Rattle.std.specs.Prelude.{◌≡◌, ◌<◌, ◌≤◌, ◌+◌, ◌^◌, [], ◌∷◌, ◌++◌, length, slice_get, Some, IfOk, OnOk, OnErr};
 ghost use Rattle.std.specs.Arc.{arc_value};
 
-use crate::chunks::{Chunk, Chunks, put_last};
+use crate::chunk::{Chunk, put_last};
+use crate::events::Events;
 use nostr_event::Event;
 use std::alloc::{AllocError, Global};
 use std::marker::Model;
@@ -15,8 +16,8 @@ const FEW: usize = 8;
 /// Events in the order in which they were put in. Contracts see them as their list.
 #[derive(Drop)]
 pub struct EventList {
-    chunks: Chunks,
-    few: Arc<Chunk>,
+    events: Events,
+    few: Arc<Chunk<Event>>,
 }
 
 impl Model for EventList {
@@ -26,19 +27,19 @@ impl Model for EventList {
 
     ghost Value = { List EventView };
 
-    ghost view = { λ l. l.chunks ++ arc_value l.few };
+    ghost view = { λ l. l.events ++ arc_value l.few };
 
-    ghost invariant = { λ l. (length (arc_value l.few) ≤ 8) × (length (l.chunks ++ arc_value l.few) < 2 ^ 64) };
+    ghost invariant = { λ l. (length (arc_value l.few) ≤ 8) × (length (l.events ++ arc_value l.few) < 2 ^ 64) };
 }
 
 // Puts the events of a chunk behind all others.
-fn put_all(chunks: &mut Chunks, alloc: Global, few: &Chunk) -> Result<(), AllocError>
-    requires { length (chunks.old ++ few.now) < 2 ^ 64 }
-    ensures ok { OnOk result (chunks.new ≡ chunks.old ++ few.now) }
-    ensures err { OnErr result (length chunks.new ≤ length chunks.old + length few.now) }
+fn put_all(events: &mut Events, alloc: Global, few: &Chunk<Event>) -> Result<(), AllocError>
+    requires { length (events.old ++ few.now) < 2 ^ 64 }
+    ensures ok { OnOk result (events.new ≡ events.old ++ few.now) }
+    ensures err { OnErr result (length events.new ≤ length events.old + length few.now) }
 {
     for i in 0..few.len() {
-        chunks.push(alloc, few.get(i))?;
+        events.push(alloc, few.get(i))?;
     }
     Ok(())
 }
@@ -49,7 +50,7 @@ impl EventList {
         ensures { IfOk result (λ l. l ≡ []) }
     {
         Ok(EventList {
-            chunks: Chunks::new(alloc)?,
+            events: Events::new(alloc)?,
             few: Arc::new(alloc, Chunk::new(alloc))?,
         })
     }
@@ -58,7 +59,7 @@ impl EventList {
     pub fn len(&self) -> usize
         ensures { result ≡ length self.now }
     {
-        self.chunks.len() + self.few.len()
+        self.events.len() + self.few.len()
     }
 
     /// The event at a place, the first at 0.
@@ -66,9 +67,9 @@ impl EventList {
         requires { place < length self.now }
         ensures { slice_get self.now place ≡ Some (arc_value result.now) }
     {
-        let before = self.chunks.len();
+        let before = self.events.len();
         if place < before {
-            self.chunks.get(place)
+            self.events.get(place)
         } else {
             self.few.get(place - before)
         }
@@ -79,7 +80,7 @@ impl EventList {
         ensures { IfOk result (λ l. l ≡ self.now) }
     {
         Ok(EventList {
-            chunks: self.chunks.share()?,
+            events: self.events.share()?,
             few: Arc::try_clone(&self.few)?,
         })
     }
@@ -93,7 +94,7 @@ impl EventList {
         if self.few.len() >= FEW {
             let next = Arc::new(alloc, Chunk::new(alloc))?;
             let few = replace(&mut self.few, next);
-            put_all(&mut self.chunks, alloc, &few)?;
+            put_all(&mut self.events, alloc, &few)?;
         }
         put_last(&mut self.few, alloc, event)
     }

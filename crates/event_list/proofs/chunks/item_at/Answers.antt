@@ -2,13 +2,13 @@ use Rattle.std.proofs.Common.{arith, sym, map, ap, ◌∙◌, ◌<◌, ◌/◌, 
 use Rattle.std.specs.Arc.{arc_value}
 use Rattle.std.proofs.lemmas.List.{length-map, get_or-map}
 use Rattle.event_list.proofs.Chunked.{joined_length, found_full, full_at}
-use Rattle.event_list.proofs.chunks.event_at.Goals as goal
+use Rattle.event_list.proofs.chunks.item_at.Goals as goal
 
 pub bounds-chunks-place : goal.bounds-chunks-place
-bounds-chunks-place c = omega (arith, joined_length (map arc_value c.args.chunks.now) c.requires.full, length-map c.args.chunks.now arc_value, c.requires.within)
+bounds-chunks-place g c = omega (arith, joined_length (map arc_value c.args.chunks.now) c.requires.full, length-map c.args.chunks.now arc_value, c.requires.within)
 
 pub get-requires : goal.get-requires
-get-requires c =
+get-requires g c =
     let all = joined_length (map arc_value c.args.chunks.now) c.requires.full in
     let few = length-map c.args.chunks.now arc_value in
     let chunk : c.args.place / 128 < length c.args.chunks.now = omega (arith, all, few, c.requires.within) in
@@ -17,7 +17,7 @@ get-requires c =
     omega (arith, ap length same, whole)
 
 pub returns : goal.returns
-returns c =
+returns g c =
     let all = joined_length (map arc_value c.args.chunks.now) c.requires.full in
     let few = length-map c.args.chunks.now arc_value in
     let chunk : c.args.place / 128 < length c.args.chunks.now = omega (arith, all, few, c.requires.within) in
