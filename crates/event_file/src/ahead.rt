@@ -9,6 +9,7 @@ use crate::fault::FileFault;
 use crate::reading::{insert_lines, next_event};
 use crate::writing::is_text_of;
 use event_store::{Desk, Naming};
+use event_text::EventScratch;
 use nostr_event::Event;
 use std::alloc::{AllocError, Global};
 use std::marker::Model;
@@ -50,9 +51,10 @@ fn read_ahead(alloc: Global, text: &[u8]) -> Result<(Vec<Arc<Event>>, usize), Al
     ensures within { IfOk result (λ r. length r.0.items ≤ r.1) }
     ensures inside { IfOk result (λ r. r.1 ≤ length text.now) }
 {
+    let mut scratch = EventScratch::new();
     let mut events = Vec::new(alloc);
     let mut rest = text;
-    while let Some((event, after)) = next_event(alloc, rest) {
+    while let Some((event, after)) = next_event(alloc, &mut scratch, rest) {
         events.push(event)?;
         rest = after;
     }

@@ -9,7 +9,7 @@ ghost use Rattle.event_file.specs.declared.fault.LineFault.TheVariants.{Wrong as
 
 use crate::fault::{FileFault, LineFault};
 use event_store::{Desk, Naming};
-use event_text::event_of_bytes;
+use event_text::{EventScratch, event_of_bytes};
 use mirror_run::cut_line;
 use nostr_event::{Event, EventFault};
 use serde_json::Value;
@@ -38,11 +38,11 @@ fn event_of_value(alloc: Global, line: &[u8]) -> Result<Arc<Event>, LineFault>
 }
 
 /// The event of a line.
-fn event_of(alloc: Global, line: &[u8]) -> Result<Arc<Event>, LineFault>
+fn event_of(alloc: Global, scratch: &mut EventScratch, line: &[u8]) -> Result<Arc<Event>, LineFault>
     ensures event { IfOk result (λ e. IsEventOf line.now (arc_value e)) }
     ensures none { result ≡ Err wrong → (e : EventView) → ¬ IsEventOf line.now e }
 {
-    match event_of_bytes(alloc, line) {
+    match event_of_bytes(alloc, scratch, line) {
         Some(Ok(event)) => Ok(Arc::new(alloc, event)?),
         Some(Err(_)) => Err(LineFault::Wrong),
         None => event_of_value(alloc, line),
@@ -53,7 +53,7 @@ fn event_of(alloc: Global, line: &[u8]) -> Result<Arc<Event>, LineFault>
 pub fn holds_event(alloc: Global, line: &[u8]) -> Result<bool, AllocError>
     ensures { IfOk result (λ b. MatchBool b ((e : EventView) × IsEventOf line.now e) ((e : EventView) → ¬ IsEventOf line.now e)) }
 {
-    match event_of(alloc, line) {
+    match event_of(alloc, &mut EventScratch::new(), line) {
         Ok(_) => Ok(true),
         Err(LineFault::Wrong) => Ok(false),
         Err(LineFault::Memory) => Err(AllocError),
@@ -61,7 +61,11 @@ pub fn holds_event(alloc: Global, line: &[u8]) -> Result<bool, AllocError>
 }
 
 /// The event of the first line, and the text behind it, unless the line is empty or its event can't be read.
-pub fn next_event(alloc: Global, text: &[u8]) -> Option<(Arc<Event>, &[u8])>
+pub fn next_event<'a>(
+    alloc: Global,
+    scratch: &mut EventScratch,
+    text: &'a [u8],
+) -> Option<(Arc<Event>, &'a [u8])>
     ensures next { IfSome result (λ n. HoldEvents (lines_of text.now) (arc_value n.0 ∷ []) (lines_of n.1.now)) }
     ensures shorter { IfSome result (λ n. length n.1.now < length text.now) }
     ensures behind { IfSome result (λ n. n.1.now ≡ drop (length text.now - length n.1.now) text.now) }
@@ -70,7 +74,7 @@ pub fn next_event(alloc: Global, text: &[u8]) -> Option<(Arc<Event>, &[u8])>
     if line.is_empty() {
         return None;
     }
-    match event_of(alloc, line) {
+    match event_of(alloc, scratch, line) {
         Ok(event) => Some((event, rest)),
         Err(_) => None,
     }
@@ -78,11 +82,12 @@ pub fn next_event(alloc: Global, text: &[u8]) -> Option<(Arc<Event>, &[u8])>
 
 /// An event and those of the lines behind it, as far as each has one that can be read, and the text behind these. It reads 2,048
 /// at most.
-fn next_events(
+fn next_events<'a>(
     alloc: Global,
+    scratch: &mut EventScratch,
     first: Arc<Event>,
-    text: &[u8],
-) -> Result<(Vec<Arc<Event>>, &[u8]), AllocError>
+    text: &'a [u8],
+) -> Result<(Vec<Arc<Event>>, &'a [u8]), AllocError>
     ensures hold { (lines : List (List ℕ)) → HoldEvents lines (arc_value first ∷ []) (lines_of text.now) → IfOk result (λ r. HoldEvents lines (map arc_value r.0.items) (lines_of r.1.now)) }
     ensures shorter { IfOk result (λ r. length r.0.items + length r.1.now ≤ length text.now + 1) }
     ensures some { IfOk result (λ r. 0 < length r.0.items) }
@@ -91,7 +96,7 @@ fn next_events(
     events.push(first)?;
     let mut rest = text;
     for _ in 1..BATCH {
-        let Some((event, after)) = next_event(alloc, rest) else {
+        let Some((event, after)) = next_event(alloc, scratch, rest) else {
             break;
         };
         events.push(event)?;
@@ -119,12 +124,13 @@ fn insert_next<'a, W: Wait, J: Naming, D: Wait + Drop>(
     if line.is_empty() {
         return Ok((1, rest));
     }
-    let first = match event_of(alloc, line) {
+    let mut scratch = EventScratch::new();
+    let first = match event_of(alloc, &mut scratch, line) {
         Ok(event) => event,
         Err(LineFault::Wrong) => return Err(FileFault::Line(1)),
         Err(LineFault::Memory) => return Err(FileFault::Memory),
     };
-    let Ok((events, left)) = next_events(alloc, first, rest) else {
+    let Ok((events, left)) = next_events(alloc, &mut scratch, first, rest) else {
         return Err(FileFault::Memory);
     };
     let Ok(taken) = desk.insert_all(rt, &events) else {

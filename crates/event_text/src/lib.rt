@@ -6,6 +6,8 @@
 
 mod fields;
 mod reading;
+mod scratch;
 mod tags;
 
 pub use reading::{event_in, event_of_bytes};
+pub use scratch::EventScratch;

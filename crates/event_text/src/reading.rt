@@ -6,7 +6,8 @@ ghost use Rattle.event_text.specs.Tokens.{IsNext};
 ghost use Rattle.event_text.specs.Fields.{Hold, Tells};
 
 use crate::fields::{Fields, fields_in};
-use json::{Reader, Scratch, Token};
+use crate::scratch::EventScratch;
+use json::{Reader, Token};
 use neg_codec::Id;
 use nostr_event::{Draft, Event, Text};
 use simdutf8::compat::from_utf8;
@@ -56,11 +57,10 @@ pub fn event_in(alloc: Global, reader: &mut Reader<'_>, depth: usize) -> Option<
 }
 
 // The same of a whole text.
-fn event_of_text(alloc: Global, text: &str) -> Option<Result<Event, Id>>
+fn event_of_text(alloc: Global, scratch: &mut EventScratch, text: &str) -> Option<Result<Event, Id>>
     ensures { IfSome result (λ r. (d : Data) × (read text.now ≡ Some d) × Tells d r) }
 {
-    let mut scratch = Scratch::new(alloc);
-    let mut reader = Reader::new(text, &mut scratch).ok()?;
+    let mut reader = Reader::new(text, scratch.lend(alloc)).ok()?;
     let event = event_in(alloc, &mut reader, MOST_DEPTH)?;
     if reader.next().is_some() {
         return None;
@@ -69,8 +69,12 @@ fn event_of_text(alloc: Global, text: &str) -> Option<Result<Event, Id>>
 }
 
 /// The same of a whole text, which is in UTF-8.
-pub fn event_of_bytes(alloc: Global, bytes: &[u8]) -> Option<Result<Event, Id>>
+pub fn event_of_bytes(
+    alloc: Global,
+    scratch: &mut EventScratch,
+    bytes: &[u8],
+) -> Option<Result<Event, Id>>
     ensures { IfSome result (λ r. IsUtf8 bytes.now × ((d : Data) × (read bytes.now ≡ Some d) × Tells d r)) }
 {
-    event_of_text(alloc, from_utf8(bytes).ok()?)
+    event_of_text(alloc, scratch, from_utf8(bytes).ok()?)
 }

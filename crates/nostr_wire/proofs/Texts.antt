@@ -1,6 +1,6 @@
 -- What a text of a value's tokens is read as.
 use Rattle.std.proofs.Common.{◌≡◌, ◌≤◌, ◌++◌, ℕ, suc, max, List, [], ◌∷◌, Some, option_and_then, codes, refl, sym, ap, ap₂, ◌∙◌, append_assoc, append-nil, arith}
-use Rattle.json.specs.Print.{print, print_from, quoted}
+use Rattle.json.specs.Print.{print_from, quoted}
 use Rattle.json.specs.Lex.{tokens}
 use Rattle.json.specs.Json as json
 use Rattle.json.specs.Tree as tree

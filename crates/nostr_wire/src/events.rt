@@ -4,6 +4,7 @@
 ghost use Rattle.std.specs.Prelude.{◌≡◌, ◌∷◌, [], ℕ, Option, Some, true, codes, IfOk, IfErr, IfSome};
 ghost use Rattle.json.specs.Token.{begin_array, string as string_token};
 ghost use Rattle.json.specs.Json.{after_end_array};
+ghost use Rattle.json.specs.Lex.{tokens};
 ghost use Rattle.serde_json.specs.Data.{Data};
 ghost use Rattle.event_text.specs.Fields.{Tells};
 ghost use Rattle.nostr_wire.specs.Elements.{event as event_said, is_sub, Says};
@@ -16,8 +17,8 @@ use crate::lists::Sub;
 use crate::messages::{FromClient, FromRelay};
 use crate::names::Name;
 use crate::streaming::{MOST_DEPTH, begins_array};
-use event_text::event_in;
-use json::{Reader, Scratch, Token};
+use event_text::{EventScratch, event_in};
+use json::{Reader, Token};
 use neg_codec::Id;
 use nostr_event::{Event, EventFault, Text};
 use std::alloc::Global;
@@ -86,19 +87,31 @@ fn last_event(alloc: Global, reader: &mut Reader<'_>) -> Option<Result<Arc<Event
     }
 }
 
-/// The message in which a client publishes an event, or its fault.
-pub fn published(alloc: Global, text: &str) -> Option<Result<FromClient, WireFault>>
-    ensures ok { IfSome result (λ r. IfOk r (λ m. (most : Option ℕ) → Hears most text.now m)) }
-    ensures err { IfSome result (λ r. IfErr r (Refuses client_table text.now)) }
+// Reads the text behind the name, if it begins as an event's message does.
+fn reader_of<'a>(alloc: Global, scratch: &'a mut EventScratch, text: &'a str) -> Option<Reader<'a>>
+    ensures { IfSome result (λ r. tokens text.now ≡ begin_array ∷ string_token (codes "EVENT") ∷ r) }
 {
     if !text.as_bytes().starts_with(BEGINNING) {
         return None;
     }
-    let mut scratch = Scratch::new(alloc);
-    let mut reader = Reader::new(text, &mut scratch).ok()?;
-    if !begins(&mut reader) {
-        return None;
+    let mut reader = Reader::new(text, scratch.lend(alloc)).ok()?;
+    if begins(&mut reader) {
+        Some(reader)
+    } else {
+        None
     }
+}
+
+/// The message in which a client publishes an event, or its fault.
+pub fn published(
+    alloc: Global,
+    scratch: &mut EventScratch,
+    text: &str,
+) -> Option<Result<FromClient, WireFault>>
+    ensures ok { IfSome result (λ r. IfOk r (λ m. (most : Option ℕ) → Hears most text.now m)) }
+    ensures err { IfSome result (λ r. IfErr r (Refuses client_table text.now)) }
+{
+    let mut reader = reader_of(alloc, scratch, text)?;
     match last_event(alloc, &mut reader)? {
         Ok(event) => Some(Ok(FromClient::Event(event))),
         Err(fault) => Some(Err(fault)),
@@ -106,18 +119,15 @@ pub fn published(alloc: Global, text: &str) -> Option<Result<FromClient, WireFau
 }
 
 /// The message in which a relay gives an event, or its fault.
-pub fn given(alloc: Global, text: &str) -> Option<Result<FromRelay, WireFault>>
+pub fn given(
+    alloc: Global,
+    scratch: &mut EventScratch,
+    text: &str,
+) -> Option<Result<FromRelay, WireFault>>
     ensures ok { IfSome result (λ r. IfOk r (λ m. Reads relay_table text.now (relay_form m))) }
     ensures err { IfSome result (λ r. IfErr r (Refuses relay_table text.now)) }
 {
-    if !text.as_bytes().starts_with(BEGINNING) {
-        return None;
-    }
-    let mut scratch = Scratch::new(alloc);
-    let mut reader = Reader::new(text, &mut scratch).ok()?;
-    if !begins(&mut reader) {
-        return None;
-    }
+    let mut reader = reader_of(alloc, scratch, text)?;
     let sub = name_in(alloc, &mut reader)?;
     match last_event(alloc, &mut reader)? {
         Ok(event) => Some(Ok(FromRelay::Event { sub, event })),

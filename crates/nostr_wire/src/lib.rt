@@ -18,5 +18,5 @@ pub use fault::WireFault;
 pub use lists::{Bytes, Filters, Sub};
 pub use messages::{FromClient, FromRelay};
 pub use names::{Heading, Name};
-pub use reading::{read_client, read_client_few, read_relay};
+pub use reading::{read_client, read_client_few, read_relay, read_relay_in};
 pub use writing::{write_client, write_relay, write_relay_in};

@@ -15,6 +15,7 @@ use crate::fault::WireFault;
 use crate::lists::{Filters, Sub};
 use crate::messages::{FromClient, FromRelay};
 use crate::streaming::request_text;
+use event_text::EventScratch;
 use nostr_filter::Filter;
 use serde_json::Value;
 use std::alloc::{AllocError, Global};
@@ -251,11 +252,16 @@ fn value_of(alloc: Global, text: &str) -> Result<Value, WireFault>
     }
 }
 
-fn client_text(alloc: Global, text: &str, most: Option<usize>) -> Result<FromClient, WireFault>
+fn client_text(
+    alloc: Global,
+    scratch: &mut EventScratch,
+    text: &str,
+    most: Option<usize>,
+) -> Result<FromClient, WireFault>
     ensures ok { IfOk result (λ m. Hears most text.now m) }
     ensures err { IfErr result (λ f. Refuses client_table text.now f) }
 {
-    if let Some(event) = published(alloc, text) {
+    if let Some(event) = published(alloc, scratch, text) {
         return event;
     }
     let mut value = value_of(alloc, text)?;
@@ -263,11 +269,11 @@ fn client_text(alloc: Global, text: &str, most: Option<usize>) -> Result<FromCli
     Ok(message)
 }
 
-fn relay_text(alloc: Global, text: &str) -> Result<FromRelay, WireFault>
+fn relay_text(alloc: Global, scratch: &mut EventScratch, text: &str) -> Result<FromRelay, WireFault>
     ensures ok { IfOk result (λ m. Reads relay_table text.now (relay_form m)) }
     ensures err { IfErr result (λ f. Refuses relay_table text.now f) }
 {
-    if let Some(event) = given(alloc, text) {
+    if let Some(event) = given(alloc, scratch, text) {
         return event;
     }
     let mut value = value_of(alloc, text)?;
@@ -282,7 +288,7 @@ pub fn read_client(alloc: Global, text: &str) -> Result<FromClient, WireFault>
     ensures fault { IfErr result (λ f. Refuses client_table text.now f) }
     ensures no_message { IfErr result (λ f. f ≢ WireFault.Memory → (m : Form) → ¬ Reads client_table text.now m) }
 {
-    let read = client_text(alloc, text, None);
+    let read = client_text(alloc, &mut EventScratch::new(), text, None);
     read
 }
 
@@ -292,8 +298,14 @@ fn may_be_great(text: &str) -> bool {
 }
 
 /// The same, but that of a request's filters only the first are kept, so many and one more: where it has more than so many, these
-/// tell that, and take no more memory. Each of the others is read, too, and given back before the next one is.
-pub fn read_client_few(alloc: Global, text: &str, most: usize) -> Result<FromClient, WireFault>
+/// tell that, and take no more memory. Each of the others is read, too, and given back before the next one is. The memory that
+/// an event's reading takes is kept for the next text.
+pub fn read_client_few(
+    alloc: Global,
+    scratch: &mut EventScratch,
+    text: &str,
+    most: usize,
+) -> Result<FromClient, WireFault>
     ensures message { IfOk result (λ m. Hears (Some most) text.now m) }
     ensures fault { IfErr result (λ f. Refuses client_table text.now f) }
 {
@@ -302,7 +314,7 @@ pub fn read_client_few(alloc: Global, text: &str, most: usize) -> Result<FromCli
             return Ok(message);
         }
     }
-    client_text(alloc, text, Some(most))
+    client_text(alloc, scratch, text, Some(most))
 }
 
 /// What a relay says in the text, or the text's first fault.
@@ -312,6 +324,20 @@ pub fn read_relay(alloc: Global, text: &str) -> Result<FromRelay, WireFault>
     ensures fault { IfErr result (λ f. Refuses relay_table text.now f) }
     ensures no_message { IfErr result (λ f. f ≢ WireFault.Memory → (m : Form) → ¬ Reads relay_table text.now m) }
 {
-    let read = relay_text(alloc, text);
+    read_relay_in(alloc, &mut EventScratch::new(), text)
+}
+
+/// The same. The memory that an event's reading takes is kept for the next text.
+pub fn read_relay_in(
+    alloc: Global,
+    scratch: &mut EventScratch,
+    text: &str,
+) -> Result<FromRelay, WireFault>
+    ensures message { IfOk result (λ m. Reads relay_table text.now (relay_form m)) }
+    ensures no_other { IfOk result (λ m. (other : Form) → Reads relay_table text.now other → other ≡ relay_form m) }
+    ensures fault { IfErr result (λ f. Refuses relay_table text.now f) }
+    ensures no_message { IfErr result (λ f. f ≢ WireFault.Memory → (m : Form) → ¬ Reads relay_table text.now m) }
+{
+    let read = relay_text(alloc, scratch, text);
     read
 }

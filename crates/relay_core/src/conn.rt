@@ -21,6 +21,7 @@ use crate::storing::StoringFault;
 use crate::talk::Talk;
 use event_log::Kept;
 use event_store::{InsertFault, Naming, Placed, Reader};
+use event_text::EventScratch;
 use neg_codec::Id;
 use nostr_wire::FromRelay;
 use std::alloc::Global;
@@ -76,10 +77,26 @@ impl Conn {
         ensures limits { self.new.limits ≡ self.old.limits }
         ensures reader { IsPrefix reader.old reader.new }
     {
+        self.serve_with(reader, &mut EventScratch::new(), text)
+    }
+
+    /// The same, in memory that is kept for the next text.
+    pub fn serve_with<J: Naming>(
+        &mut self,
+        reader: &mut Reader<J>,
+        scratch: &mut EventScratch,
+        text: &str,
+    ) -> Result<Step, ConnFault>
+        ensures served { IfOk result (λ s. GoesOnBy (λ old new. Serves self.old.limits reader.new text.now old (turn_of s new)) self.old.kept self.new.kept) }
+        ensures none_acknowledged { IfOk result (λ s. AcknowledgeNone (map relay_form s.out.items)) }
+        ensures refused { IfErr result (λ f. RefusesRightly (λ t. TextAsks self.old.limits text.now t × (reader.new ≡ reader.old)) self.old.kept f self.new.kept) }
+        ensures limits { self.new.limits ≡ self.old.limits }
+        ensures reader { IsPrefix reader.old reader.new }
+    {
         let Some(mut talk) = self.talk.take() else {
             return Err(ConnFault::Closed);
         };
-        let step = serve_text(&mut talk, self.alloc, &self.limits, reader, text)?;
+        let step = serve_text(&mut talk, self.alloc, &self.limits, reader, scratch, text)?;
         self.talk = Some(talk);
         Ok(step)
     }

@@ -15,6 +15,7 @@ use crate::sessions;
 use crate::step::Step;
 use crate::talk::Talk;
 use event_store::{Naming, Reader};
+use event_text::EventScratch;
 use nostr_event::Event;
 use nostr_wire::{FromClient, WireFault, read_client_few};
 use std::alloc::{AllocError, Global};
@@ -95,6 +96,7 @@ pub fn serve_text<J: Naming>(
     alloc: Global,
     limits: &RelayLimits,
     reader: &mut Reader<J>,
+    scratch: &mut EventScratch,
     text: &str,
 ) -> Result<Step, Broken>
     ensures turn { IfOk result (λ s. Serves limits.now reader.new text.now talk.old (turn_of s talk.new)) }
@@ -105,7 +107,7 @@ pub fn serve_text<J: Naming>(
         let message = notice(alloc, "invalid: message too long")?;
         return Ok(Step::one(alloc, message)?);
     }
-    match read_client_few(alloc, text, limits.filters) {
+    match read_client_few(alloc, scratch, text, limits.filters) {
         Ok(message) => bring(talk, alloc, limits, reader, message),
         Err(fault) => Ok(refuse(alloc, fault)?),
     }

@@ -11,8 +11,9 @@ ghost use Rattle.ws_link.specs.Spoken.{IsClient};
 
 use crate::head::HeadStream;
 use crate::notes::Notes;
+use event_text::EventScratch;
 use nostr_event::Text;
-use nostr_wire::{FromClient, FromRelay, Sub, WireFault, read_relay, write_client};
+use nostr_wire::{FromClient, FromRelay, Sub, WireFault, read_relay_in, write_client};
 use std::alloc::Global;
 use std::io::{Read, Write};
 use std::random::RandomSource;
@@ -142,6 +143,7 @@ pub fn close<S: Read + Write, K: MaskKeys>(
 pub fn heard<S: Read + Write, K: MaskKeys>(
     alloc: Global,
     wire: &mut Wire<S, K>,
+    scratch: &mut EventScratch,
     notes: &mut Notes,
 ) -> Result<Option<FromRelay>, LinkFault>
     ensures hears { IfOk result (MayHear (talk_of wire.old) (talk_of wire.new)) }
@@ -149,7 +151,7 @@ pub fn heard<S: Read + Write, K: MaskKeys>(
     ensures err { IfErr result IsOfStream }
 {
     match wire.listen() {
-        Ok(Message::Text(text)) => meant(alloc, text.as_str(), notes),
+        Ok(Message::Text(text)) => meant(alloc, scratch, text.as_str(), notes),
         Ok(Message::Close) => {
             notes.tell(Reason::Closed);
             Err(LinkFault::Link)
@@ -162,11 +164,16 @@ pub fn heard<S: Read + Write, K: MaskKeys>(
 
 /// What a relay says in the text. A message of another name, and an event that is refused, say nothing, and what it says of
 /// itself is noted.
-pub fn meant(alloc: Global, text: &str, notes: &mut Notes) -> Result<Option<FromRelay>, LinkFault>
+pub fn meant(
+    alloc: Global,
+    scratch: &mut EventScratch,
+    text: &str,
+    notes: &mut Notes,
+) -> Result<Option<FromRelay>, LinkFault>
     ensures means { IfOk result (Means text.now) }
     ensures err { IfErr result IsOfStream }
 {
-    match read_relay(alloc, text) {
+    match read_relay_in(alloc, scratch, text) {
         Ok(FromRelay::Notice { text }) => {
             notes.hear(text);
             Ok(None)

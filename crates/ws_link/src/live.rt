@@ -7,6 +7,7 @@ ghost use Rattle.ws_link.specs.Live.{live, requesting, Asked, Tells, MayTell, Br
 
 use crate::client::{connected, copy_of, meant, named, say};
 use crate::notes::{Explains, Notes};
+use event_text::EventScratch;
 use nostr_event::{Event, Text};
 use nostr_filter::Filter;
 use nostr_wire::{Filters, FromClient, FromRelay, Sub};
@@ -223,11 +224,12 @@ fn meant_in_turn<W: Wait>(
 ) -> Result<Option<FromRelay>, LinkFault>
     ensures { IfOk result (Means text.now) }
 {
+    let mut scratch = EventScratch::new();
     if text.len() <= LONG_TEXT {
-        return meant(alloc, text, notes);
+        return meant(alloc, &mut scratch, text, notes);
     }
     let held = turn.lock(rt);
-    let message = meant(alloc, text, notes);
+    let message = meant(alloc, &mut scratch, text, notes);
     drop(held);
     message
 }

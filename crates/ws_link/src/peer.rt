@@ -14,6 +14,7 @@ ghost use Rattle.ws_link.specs.Parts.{Tells, MayAnswer};
 use crate::client::{close, connected, copy_of, heard, named, say};
 use crate::link::Link;
 use crate::notes::{Explains, Notes};
+use event_text::EventScratch;
 use http_server::Log;
 use neg_session::{Pair, Peer, PeerFault};
 use nostr_event::Text;
@@ -264,8 +265,9 @@ fn answer<S: Read + Write, K: MaskKeys>(
     ensures answers { IfOk result (λ answer. MayAnswer (talk_of wire.old) (talk_of wire.new) (Some answer)) }
     ensures grows { Grows (talk_of wire.old) (talk_of wire.new) }
 {
+    let mut scratch = EventScratch::new();
     for _read in 0..MOST_READS {
-        match answer_in(alloc, wire, notes)? {
+        match answer_in(alloc, wire, &mut scratch, notes)? {
             Some(answer) => return Ok(answer),
             None => {}
         }
@@ -278,12 +280,13 @@ fn answer<S: Read + Write, K: MaskKeys>(
 fn answer_in<S: Read + Write, K: MaskKeys>(
     alloc: Global,
     wire: &mut Wire<S, K>,
+    scratch: &mut EventScratch,
     notes: &mut Notes,
 ) -> Result<Option<Vec<u8>>, LinkFault>
     ensures answers { IfOk result (MayAnswer (talk_of wire.old) (talk_of wire.new)) }
     ensures grows { Grows (talk_of wire.old) (talk_of wire.new) }
 {
-    match heard(alloc, wire, notes)? {
+    match heard(alloc, wire, scratch, notes)? {
         Some(message) => told(alloc, part_in(message), notes),
         None => Ok(None),
     }

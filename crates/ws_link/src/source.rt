@@ -18,6 +18,7 @@ ghost use Rattle.ws_link.specs.Taken.{Tells, MayTell, AreDue, TakesDue};
 use crate::client::{close, connected, copy_of, heard, named, say};
 use crate::link::Link;
 use crate::notes::{Explains, Notes};
+use event_text::EventScratch;
 use mirror_core::{Fetch, Source, SourceFault};
 use neg_codec::Id;
 use nostr_event::{Event, Text};
@@ -269,8 +270,9 @@ fn read_events<S: Read + Write, K: MaskKeys>(
     let mut due = due_at_first(alloc, ids)?;
     let mut events = Vec::new(alloc);
     let mut others = 0usize;
+    let mut scratch = EventScratch::new();
     for _read in 0..ids.len().saturating_add(TOO_MANY) {
-        match read_event(alloc, wire, &mut due, &mut events, notes)? {
+        match read_event(alloc, wire, &mut scratch, &mut due, &mut events, notes)? {
             Came::Due => {}
             Came::End => return Ok(events),
             Came::Other => others = others.saturating_add(1),
@@ -299,6 +301,7 @@ enum Came {
 fn read_event<S: Read + Write, K: MaskKeys>(
     alloc: Global,
     wire: &mut Wire<S, K>,
+    scratch: &mut EventScratch,
     due: &mut BTreeSet<Id>,
     events: &mut Vec<Arc<Event>>,
     notes: &mut Notes,
@@ -306,7 +309,7 @@ fn read_event<S: Read + Write, K: MaskKeys>(
     ensures takes { IfOk result (TakesDue (talk_of wire.old) (map arc_value events.old.items) due.old.keys (talk_of wire.new) (map arc_value events.new.items) due.new.keys) }
     ensures grows { Grows (talk_of wire.old) (talk_of wire.new) }
 {
-    match hear(alloc, wire, notes)? {
+    match hear(alloc, wire, scratch, notes)? {
         Part::Event(event) => {
             if comes_due(due, &event) {
                 events.push(event)?;
@@ -340,12 +343,13 @@ enum Part {
 fn hear<S: Read + Write, K: MaskKeys>(
     alloc: Global,
     wire: &mut Wire<S, K>,
+    scratch: &mut EventScratch,
     notes: &mut Notes,
 ) -> Result<Part, LinkFault>
     ensures tells { IfOk result (MayTell (talk_of wire.old) (talk_of wire.new)) }
     ensures grows { Grows (talk_of wire.old) (talk_of wire.new) }
 {
-    match heard(alloc, wire, notes)? {
+    match heard(alloc, wire, scratch, notes)? {
         Some(message) => Ok(part_in(message)),
         None => Ok(Part::Other),
     }

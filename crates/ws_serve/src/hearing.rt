@@ -20,6 +20,7 @@ use crate::together::{answer_one, take_events};
 use crate::turns::{Turns, serve_text};
 use event_log::Keeper;
 use event_store::{Desk, Naming, Reader};
+use event_text::EventScratch;
 use nostr_event::Text;
 use nostr_wire::FromRelay;
 use relay_core::{Conn, Step};
@@ -205,7 +206,7 @@ fn answer<W: Wait, S: Write, J: Naming, D: Wait + Drop, H: Keeper<J>>(
     ensures limits { conn.new.limits ≡ conn.old.limits }
     ensures reader { IsPrefix reader.old reader.new }
 {
-    let Step { out, store } = serve_text(rt, conn, reader, turns, text)?;
+    let Step { out, store } = serve_text(rt, conn, reader, turns, &mut EventScratch::new(), text)?;
     say_all(alloc, socket, out)?;
     match store {
         Some(event) => answer_one(rt, alloc, socket, conn, reader, desk, keeper, event),

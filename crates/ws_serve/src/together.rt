@@ -22,6 +22,7 @@ use crate::socket::Socket;
 use crate::turns::{Turns, serve_text};
 use event_log::{Keeper, Kept};
 use event_store::{Desk, InsertFault, Naming, Placed, Reader};
+use event_text::EventScratch;
 use neg_codec::Id;
 use nostr_event::Event;
 use nostr_wire::FromRelay;
@@ -148,10 +149,11 @@ fn gather<W: Wait, S: Write, J: Naming>(
     ensures failed { OnErr result (Served conn.new socket.new reader.new) }
     ensures reader { IsPrefix reader.old reader.new }
 {
+    let mut scratch = EventScratch::new();
     for _event in 0..MOST_TOGETHER {
         counts.reads += 1;
         counts.texts += 1;
-        let Step { out, store } = serve_text(rt, conn, reader, turns, text.as_str())?;
+        let Step { out, store } = serve_text(rt, conn, reader, turns, &mut scratch, text.as_str())?;
         let Some(event) = store else {
             return Ok(Behind {
                 heard: Ok(None),

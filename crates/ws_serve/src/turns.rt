@@ -10,6 +10,7 @@ ghost use Rattle.ws_socket.specs.Faults.{IsOfStream};
 
 use crate::fault::on_link;
 use event_store::{Naming, Reader};
+use event_text::EventScratch;
 use relay_core::{Conn, Step};
 use std::sync::{Mutex, Wait};
 use ws_socket::LinkFault;
@@ -39,6 +40,7 @@ pub fn serve_text<W: Wait, J: Naming>(
     conn: &mut Conn,
     reader: &mut Reader<J>,
     turns: Turns<'_>,
+    scratch: &mut EventScratch,
     text: &str,
 ) -> Result<Step, LinkFault>
     ensures served { IfOk result (λ s. GoesOnBy (λ old new. Serves conn.old.limits reader.new text.now old (turn_of s new)) conn.old.kept conn.new.kept) }
@@ -48,10 +50,10 @@ pub fn serve_text<W: Wait, J: Naming>(
     ensures reader { IsPrefix reader.old reader.new }
 {
     if text.len() <= LONG_TEXT {
-        return on_link(conn.serve(reader, text));
+        return on_link(conn.serve_with(reader, scratch, text));
     }
     let held = turns.lock.lock(rt);
-    let step = on_link(conn.serve(reader, text));
+    let step = on_link(conn.serve_with(reader, scratch, text));
     drop(held);
     step
 }

@@ -1,7 +1,7 @@
 use Rattle.std.proofs.lemmas.Result.{IfOk-weaker, IfErr-weaker}
 use Rattle.nostr_wire.specs.Forms.{relay_form, relay_table}
 use Rattle.nostr_wire.proofs.Laws.{one_message, refused_none}
-use Rattle.nostr_wire.proofs.reading.read_relay.Goals as goal
+use Rattle.nostr_wire.proofs.reading.read_relay_in.Goals as goal
 
 pub returns-clause-no_other : goal.returns-clause-no_other
 returns-clause-no_other c =
