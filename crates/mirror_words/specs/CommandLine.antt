@@ -53,9 +53,13 @@ tells_version a = record a { top = record a.top { has_version = true } }
 abbrev pub program : App
 program = wants_subcommand (tells_version (new_app (codes "nostr-mirror")))
 
+-- the program with the jobs of texts that it reads from standard input
+abbrev pub reads_texts : App
+reads_texts = with_subcommand (with_subcommand (with_subcommand program recon.top) plan.top) check.top
+
 -- one of the subcommands has to be named, and no other word
 abbrev pub nostr_mirror : App
-nostr_mirror = with_subcommand (with_subcommand (with_subcommand (with_subcommand (with_subcommand (with_subcommand program recon.top) plan.top) check.top) serve.top) sync.top) mirror.top
+nostr_mirror = with_subcommand (with_subcommand (with_subcommand reads_texts serve.top) sync.top) mirror.top
 
 -- the name of the subcommand
 abbrev pub name_of : Words → Text

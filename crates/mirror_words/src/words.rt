@@ -1,10 +1,10 @@
 //! The job that the program's words name.
 
 ghost use Rattle.std.specs.Prelude.{◌≡◌, ◌≤◌, false, map, codes, Some, IfOk, OnOk, IfErr, string_bytes};
-ghost use Rattle.clap.specs.Words.{app_of, rule_of, shape_of, subcommand_name_of, subcommand_of, subcommand_rows_of, found_of, first_of, one_of, rows_of};
+ghost use Rattle.clap.specs.Words.{app_of, rule_of, shape_of, with_subcommand, subcommand_name_of, subcommand_of, subcommand_rows_of, found_of, first_of, one_of, rows_of};
 ghost use Rattle.clap.specs.declared.builder.command.Command.TheViews.{out-Command as fields_of};
 ghost use Rattle.clap.specs.Simple.{new_shape};
-ghost use Rattle.mirror_words.specs.CommandLine.{nostr_mirror, program as the_program, recon as the_recon, serve as the_serve, sync as the_sync, mirror as the_mirror, limit_rule, settings_rule, progress_rule, strict_rule, IsPathOf, Tells, name_of, IsJob, IsWithin, IsLimitOf, limit_text, IsNamed, IsAccepted, IsDue};
+ghost use Rattle.mirror_words.specs.CommandLine.{nostr_mirror, reads_texts, program as the_program, recon as the_recon, serve as the_serve, sync as the_sync, mirror as the_mirror, limit_rule, settings_rule, progress_rule, strict_rule, IsPathOf, Tells, name_of, IsJob, IsWithin, IsLimitOf, limit_text, IsNamed, IsAccepted, IsDue};
 
 use crate::usage::{WordsFault, fault_of};
 use crate::version::version;
@@ -146,31 +146,34 @@ fn program<'a>(alloc: Global) -> Result<Command<'a>, AllocError>
     Ok(program)
 }
 
+/// A program with one more subcommand.
+fn with<'a>(program: Command<'a>, subcommand: Command<'a>) -> Result<Command<'a>, AllocError>
+    requires { (fields_of subcommand).has_globals ≡ false }
+    ensures { IfOk result (λ c. app_of c ≡ with_subcommand (app_of program.entry) (shape_of subcommand.entry)) }
+{
+    program.subcommand(subcommand)
+}
+
+/// The program with the jobs of texts that it reads from standard input.
+fn of_texts<'a>(alloc: Global) -> Result<Command<'a>, AllocError>
+    ensures { IfOk result (λ c. app_of c ≡ reads_texts) }
+{
+    let plan =
+        "Shares out the offers of a plan text, read from standard input, and prints the plan";
+    let check =
+        "Prints the busiest load of a plan, read from standard input, if it is shown to be least";
+    let program = with(program(alloc)?, recon(alloc)?)?;
+    let program = with(program, bare(alloc, "plan", plan))?;
+    with(program, bare(alloc, "check", check))
+}
+
 /// The words that the program takes.
 pub fn command<'a>(alloc: Global) -> Result<Command<'a>, AllocError>
     ensures { IfOk result (λ c. app_of c ≡ nostr_mirror) }
 {
-    let recon = recon(alloc)?;
-    let plan = bare(
-        alloc,
-        "plan",
-        "Shares out the offers of a plan text, read from standard input, and prints the plan",
-    );
-    let check = bare(
-        alloc,
-        "check",
-        "Prints the busiest load of a plan, read from standard input, if it is shown to be least",
-    );
-    let serve = serve(alloc)?;
-    let sync = sync(alloc)?;
-    let mirror = mirror(alloc)?;
-    program(alloc)?
-        .subcommand(recon)?
-        .subcommand(plan)?
-        .subcommand(check)?
-        .subcommand(serve)?
-        .subcommand(sync)?
-        .subcommand(mirror)
+    let program = with(of_texts(alloc)?, serve(alloc)?)?;
+    let program = with(program, sync(alloc)?)?;
+    with(program, mirror(alloc)?)
 }
 
 /// The limit that the words of a subcommand name, or the default.

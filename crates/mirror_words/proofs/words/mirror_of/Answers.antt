@@ -1,4 +1,4 @@
-use Rattle.std.proofs.Common.{◌≡◌, ◌∙◌, List, Option, None, Some, codes, ap, sym, subst}
+use Rattle.std.proofs.Common.{◌≡◌, ◌∙◌, List, Option, None, Some, codes, ap, subst}
 use Rattle.std.specs.Prelude.{option_map}
 use Rattle.clap.specs.Words.{Row, Text, first_of, found_of, one_of, rows_of, subcommand_rows_of}
 use Rattle.clap.proofs.WalkLemmas.{one_text-rows}

@@ -1,4 +1,4 @@
-use Rattle.std.proofs.Common.{◌≡◌, ◌∙◌, Option, codes, subst}
+use Rattle.std.proofs.Common.{◌∙◌, Option, codes, subst}
 use Rattle.clap.specs.Words.{Text, found_of}
 use Rattle.clap.proofs.WalkLemmas.{first_value-rows}
 use Rattle.mirror_words.specs.CommandLine.{IsPathOf}
