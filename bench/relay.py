@@ -1,7 +1,7 @@
 #!/usr/bin/env python3
 """Measures `serve` and `sync`.
 
-    bench/relay.py [--baseline PATH] [--mirror PATH] [--events N] [--only WORD,WORD,..] [--runs R] [--fsync WORD]
+    bench/relay.py [--baseline PATH] [--mirror PATH] [--events N] [--held N] [--only WORD,WORD,..] [--runs R] [--fsync WORD]
 
 Each row starts the program anew. `serve` reads a file of events with right ids (`inputs.py`), and is then asked by clients of
 this script (`wire.py`): it takes all events from one client, from eight, and in the order of their times, answers 1,000
@@ -11,7 +11,8 @@ are the same program's. Shown are the processor time that the work took, of requ
 and writing of the file, and the greatest peak of resident memory.
 
 With `--baseline`, a plain program with the same commands, both run in turn, R times each; the least times are shown, and
-the ratio of ours to its. With `--fsync`, the settings of all have it.
+the ratio of ours to its. With `--fsync`, the settings of all have it. With `--held`, a relay that takes events has so many of them
+as it starts, and takes the others.
 """
 import argparse
 import json
@@ -156,8 +157,9 @@ def side_by_side(calls):
         thread.join()
 
 
-def row_of_putting(program, folder, lines, clients):
-    relay = Serving(program, folder, "put", clients)
+def row_of_putting(program, folder, lines, clients, held):
+    relay = Serving(program, folder, "put", clients, lines[:held])
+    lines = lines[held:]
     # The connections stay until the time is read, since the file is written once they have ended.
     connections = [Client(relay.port) for _ in range(clients)]
     side_by_side([lambda i=i: put(connections[i], lines[i::clients]) for i in range(clients)])
@@ -239,6 +241,7 @@ def main():
     parser.add_argument("--baseline", help="a plain program to compare with")
     parser.add_argument("--mirror", default=program_of("mirror_app"))
     parser.add_argument("--events", type=int, default=50000)
+    parser.add_argument("--held", type=int, default=0)
     parser.add_argument("--only", default="put1,put8,rising,ids,kind,author,tag,newest,feed,connect,sync,sync16,cut")
     parser.add_argument("--runs", type=int, default=2)
     parser.add_argument("--fsync", choices=["always", "everysec", "no"])
@@ -253,9 +256,9 @@ def main():
             lines = text.readlines()
         filters = filters_of(lines, random.Random(2))
         rows = {
-            "put1": lambda it: row_of_putting(it, folder, lines, 1),
-            "put8": lambda it: row_of_putting(it, folder, lines, 8),
-            "rising": lambda it: row_of_putting(it, folder, sorted(lines, key=time_of), 1),
+            "put1": lambda it: row_of_putting(it, folder, lines, 1, options.held),
+            "put8": lambda it: row_of_putting(it, folder, lines, 8, options.held),
+            "rising": lambda it: row_of_putting(it, folder, sorted(lines, key=time_of), 1, options.held),
             "connect": lambda it: row_of_connecting(it, folder, 200),
             "sync": lambda it: row_of_syncing(it, folder, lines, 4, 0.6, programs[-1]),
             "sync16": lambda it: row_of_syncing(it, folder, lines, 16, 0.6, programs[-1]),
