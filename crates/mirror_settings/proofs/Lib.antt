@@ -3,3 +3,4 @@ mod Colons
 mod Urls
 mod Refusals
 mod Tables
+mod Parts

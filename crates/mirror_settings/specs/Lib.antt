@@ -1,4 +1,5 @@
 pub mod Addresses
 pub mod Keys
+pub mod Parts
 pub mod Relays
 pub mod Settings

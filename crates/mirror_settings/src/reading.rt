@@ -6,6 +6,8 @@ ghost use Rattle.toml.specs.Parse.{parse_document};
 ghost use Rattle.toml.specs.View.{table_view};
 ghost use Rattle.mirror_settings.specs.Settings.{Fails, HasEvents, HasListen, HasConns, HasRelays, HasFilter, HasWorkers, HasBases, HasRounds, HasPushMs, HasTimeoutMs, HasFsync, HasSlowBytes, HasMirroring, AreGoodBelow, Tells, TellsFor, Refuses, RefusesTable, RefusesTableFor, Stops};
 ghost use Rattle.mirror_settings.specs.Settings.{reads_relays as relays_are_read};
+ghost use Rattle.mirror_settings.specs.Parts.{TellsServing, TellsPlanning, TellsFetching, TellsPace, TellsAdmission, TellsRunning};
+ghost use Rattle.mirror_settings.specs.Parts.{RefusesFrom, RefusesPlanning};
 
 use crate::address::Address;
 use crate::fault::{SettingsFault, SettingsKey};
@@ -26,6 +28,55 @@ const SLOW_BYTES: u64 = 10_000;
 
 /// What `every_ms` is where it is left out: five minutes.
 const EVERY_MS: u64 = 300_000;
+
+/// What is read of the events file and of whom the run serves.
+#[derive(Drop)]
+struct Serving {
+    events: Text,
+    listen: Option<Address>,
+    conns: Option<u64>,
+}
+
+/// What is read of how fetches are planned.
+#[derive(Drop)]
+struct Planning {
+    workers: u64,
+    bases: Loads,
+    rounds: u64,
+}
+
+/// What is read of the relays and of what is fetched from them.
+#[derive(Drop)]
+struct Fetching {
+    relays: Relays,
+    filter: Filter,
+    planning: Planning,
+}
+
+/// What is read of how long the run waits for others and for the disk.
+#[derive(Clone, Copy)]
+struct Pace {
+    push_ms: Option<u64>,
+    timeout_ms: Option<u64>,
+    fsync: Syncing,
+    slow_bytes: u64,
+}
+
+/// What is read of the clients.
+#[derive(Clone, Copy)]
+struct Admission {
+    clients: Option<u64>,
+    ping_ms: Option<u64>,
+    read_only: bool,
+}
+
+/// What is read of how the run goes on.
+#[derive(Clone, Copy)]
+struct Running {
+    pace: Pace,
+    admission: Admission,
+    mirroring: Mirroring,
+}
 
 fn events_at(alloc: Global, table: &Table) -> Result<Text, SettingsFault>
     ensures ok { IfOk result (HasEvents (table_view table.now)) }
@@ -199,6 +250,109 @@ fn mirroring_of(table: &Table, mirror: bool) -> Result<Mirroring, SettingsFault>
     })
 }
 
+/// What a table tells of the events file and of whom the run serves.
+fn serving_of(
+    alloc: Global,
+    table: &Table,
+    sync: bool,
+    mirror: bool,
+) -> Result<Serving, SettingsFault>
+    ensures ok { IfOk result (TellsServing sync mirror (table_view table.now)) }
+    ensures err { IfErr result (RefusesTable sync mirror (table_view table.now)) }
+{
+    let events = events_at(alloc, table)?;
+    let listen = listen_at(alloc, table, sync)?;
+    let conns = conns_at(table, mirror)?;
+    Ok(Serving {
+        events,
+        listen,
+        conns,
+    })
+}
+
+/// What a table tells of how fetches from this many relays are planned.
+fn planning_of(
+    alloc: Global,
+    table: &Table,
+    sync: bool,
+    count: usize,
+) -> Result<Planning, SettingsFault>
+    ensures ok { IfOk result (TellsPlanning sync count (table_view table.now)) }
+    ensures err { IfErr result (RefusesPlanning sync count (table_view table.now)) }
+{
+    let workers = workers_at(table, sync)?;
+    let bases = bases_at(alloc, table, sync, count)?;
+    let rounds = rounds_at(table, sync)?;
+    Ok(Planning {
+        workers,
+        bases,
+        rounds,
+    })
+}
+
+/// What a table tells of the relays and of what is fetched from them.
+fn fetching_of(alloc: Global, table: &Table, sync: bool) -> Result<Fetching, SettingsFault>
+    ensures ok { IfOk result (TellsFetching sync (table_view table.now)) }
+    ensures err { IfErr result (λ e. (mirror : Bool) → RefusesFrom 3 sync mirror (table_view table.now) e) }
+{
+    let relays = relays_at(alloc, table, sync)?;
+    let filter = filter_at(alloc, table, sync)?;
+    let count = relays.as_slice().len();
+    let planning = planning_of(alloc, table, sync, count)?;
+    Ok(Fetching {
+        relays,
+        filter,
+        planning,
+    })
+}
+
+/// What a table tells of how long the run waits for others and for the disk.
+fn pace_of(table: &Table, sync: bool) -> Result<Pace, SettingsFault>
+    ensures ok { IfOk result (TellsPace sync (table_view table.now)) }
+    ensures err { IfErr result (λ e. (mirror : Bool) → RefusesFrom 8 sync mirror (table_view table.now) e) }
+{
+    let push_ms = whole_at(table, SettingsKey::PushMs, 1, 60_000)?;
+    let timeout_ms = whole_at(table, SettingsKey::TimeoutMs, 1, 3_600_000)?;
+    let fsync = fsync_at(table)?;
+    let slow_bytes = slow_bytes_at(table, sync)?;
+    Ok(Pace {
+        push_ms,
+        timeout_ms,
+        fsync,
+        slow_bytes,
+    })
+}
+
+/// What a table tells of the clients.
+fn admission_of(table: &Table, mirror: bool) -> Result<Admission, SettingsFault>
+    ensures ok { IfOk result (TellsAdmission mirror (table_view table.now)) }
+    ensures err { IfErr result (λ e. (sync : Bool) → RefusesFrom 12 sync mirror (table_view table.now) e) }
+{
+    let clients = whole_at(table, SettingsKey::Clients, 1, 100_000)?;
+    let ping_ms = whole_at(table, SettingsKey::PingMs, 1, 3_600_000)?;
+    let read_only = flag_at(table, SettingsKey::ReadOnly, mirror)?;
+    Ok(Admission {
+        clients,
+        ping_ms,
+        read_only,
+    })
+}
+
+/// What a table tells of how the run goes on.
+fn running_of(table: &Table, sync: bool, mirror: bool) -> Result<Running, SettingsFault>
+    ensures ok { IfOk result (TellsRunning sync mirror (table_view table.now)) }
+    ensures err { IfErr result (RefusesFrom 8 sync mirror (table_view table.now)) }
+{
+    let pace = pace_of(table, sync)?;
+    let admission = admission_of(table, mirror)?;
+    let mirroring = mirroring_of(table, mirror)?;
+    Ok(Running {
+        pace,
+        admission,
+        mirroring,
+    })
+}
+
 /// The settings that a table tells of a run that reads relays or doesn't, and is a mirror or isn't.
 fn settings_of(
     alloc: Global,
@@ -209,40 +363,31 @@ fn settings_of(
     ensures ok { IfOk result (Tells sync mirror (table_view table.now)) }
     ensures err { IfErr result (RefusesTable sync mirror (table_view table.now)) }
 {
-    let events = events_at(alloc, table)?;
-    let listen = listen_at(alloc, table, sync)?;
-    let conns = conns_at(table, mirror)?;
-    let relays = relays_at(alloc, table, sync)?;
-    let filter = filter_at(alloc, table, sync)?;
-    let workers = workers_at(table, sync)?;
-    let count = relays.as_slice().len();
-    let bases = bases_at(alloc, table, sync, count)?;
-    let rounds = rounds_at(table, sync)?;
-    let push_ms = whole_at(table, SettingsKey::PushMs, 1, 60_000)?;
-    let timeout_ms = whole_at(table, SettingsKey::TimeoutMs, 1, 3_600_000)?;
-    let fsync = fsync_at(table)?;
-    let slow_bytes = slow_bytes_at(table, sync)?;
-    let clients = whole_at(table, SettingsKey::Clients, 1, 100_000)?;
-    let ping_ms = whole_at(table, SettingsKey::PingMs, 1, 3_600_000)?;
-    let read_only = flag_at(table, SettingsKey::ReadOnly, mirror)?;
-    let mirroring = mirroring_of(table, mirror)?;
-    Ok(Settings {
-        events,
-        listen,
-        conns,
+    let serving = serving_of(alloc, table, sync, mirror)?;
+    let fetching = fetching_of(alloc, table, sync)?;
+    let running = running_of(table, sync, mirror)?;
+    let Fetching {
         relays,
         filter,
-        workers,
-        bases,
-        rounds,
-        push_ms,
-        timeout_ms,
-        fsync,
-        slow_bytes,
-        clients,
-        ping_ms,
-        read_only,
-        mirroring,
+        planning,
+    } = fetching;
+    Ok(Settings {
+        events: serving.events,
+        listen: serving.listen,
+        conns: serving.conns,
+        relays,
+        filter,
+        workers: planning.workers,
+        bases: planning.bases,
+        rounds: planning.rounds,
+        push_ms: running.pace.push_ms,
+        timeout_ms: running.pace.timeout_ms,
+        fsync: running.pace.fsync,
+        slow_bytes: running.pace.slow_bytes,
+        clients: running.admission.clients,
+        ping_ms: running.admission.ping_ms,
+        read_only: running.admission.read_only,
+        mirroring: running.mirroring,
     })
 }
 

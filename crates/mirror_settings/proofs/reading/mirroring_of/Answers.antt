@@ -1,4 +1,4 @@
-use Rattle.std.proofs.Common.{◌≡◌, Bool, sym, subst}
+use Rattle.std.proofs.Common.{Bool, sym, subst}
 use Rattle.std.specs.Prelude.{IfErr}
 use Rattle.toml.specs.View.{table_view}
 use Rattle.mirror_settings.specs.Settings.{AreGoodBelow, RefusesTable}
