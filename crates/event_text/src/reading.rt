@@ -22,25 +22,28 @@ fn event_of(alloc: Global, fields: Fields<'_>) -> Option<Result<Event, Id>>
     ensures { IfSome result (λ r. (found : Members) → Hold found fields.entry → Tells (object found) r) }
 {
     let Fields {
-        id,
+        id: Some(id),
+        pubkey: Some(pubkey),
+        created_at: Some(created_at),
+        kind: Some(kind),
+        content: Some(content),
+        sig: Some(sig),
+        ..
+    } = fields
+    else {
+        return None;
+    };
+    let draft = Draft {
         pubkey,
         created_at,
         kind,
-        tags,
-        content,
-        sig,
-    } = fields;
-    let id = Id(id?);
-    let draft = Draft {
-        pubkey: pubkey?,
-        created_at: created_at?,
-        kind: kind?,
-        tags: tags?,
-        content: Text::new(String::from_str(alloc, content?).ok()?),
+        tags: fields.tags?,
+        content: Text::new(String::from_str(alloc, content).ok()?),
     };
-    match Event::from_parts(alloc, id, draft, sig?).ok()? {
-        Some(event) => Some(Ok(event)),
-        None => Some(Err(id)),
+    match Event::from_parts(alloc, Id(id), draft, sig) {
+        Ok(Some(event)) => Some(Ok(event)),
+        Ok(None) => Some(Err(Id(id))),
+        Err(_) => None,
     }
 }
 
