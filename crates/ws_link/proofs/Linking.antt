@@ -1,5 +1,5 @@
 -- How a link goes on when its wire is put back.
-use Rattle.std.proofs.Common.{◌≡◌, Option, None, Some, Result, Ok, Err, OnOk, OnErr}
+use Rattle.std.proofs.Common.{◌≡◌, None, Some, Result, Ok, Err, OnOk, OnErr}
 use Rattle.wire.specs.Line.{Line, talk_of}
 use Rattle.wire.specs.Talk.{Grows}
 use Rattle.ws_socket.specs.declared.fault.LinkFault.{LinkFault}

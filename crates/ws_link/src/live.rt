@@ -1,7 +1,9 @@
 //! A subscription over a WebSocket.
-ghost use Rattle.std.specs.Prelude.{◌≡◌, IfOk, true};
+ghost use Rattle.std.specs.Prelude.{◌≡◌, IfOk, OnOk, true};
 ghost use Rattle.nostr_wire.specs.Forms.{client_form};
+ghost use Rattle.nostr_wire.specs.Writing.{text_of};
 ghost use Rattle.wire.specs.Line.{talk_of};
+ghost use Rattle.wire.specs.Talk.{Says};
 ghost use Rattle.ws_link.specs.Messages.{Means};
 ghost use Rattle.ws_link.specs.Live.{live, requesting, Asked, Tells, MayTell, Brings};
 
@@ -74,7 +76,7 @@ impl<S: Read + Write + Drop, R: RandomSource + Drop> WsSubscription<S, RandomKey
         ensures { IfOk result (λ s. Asked filter (talk_of s)) }
     {
         let mut wire = connected(alloc, source, stream, host, path, notes)?;
-        say(alloc, &mut wire, &request(alloc, filter)?, notes)?;
+        ask(alloc, &mut wire, filter, notes)?;
         Ok(WsSubscription {
             alloc,
             wire,
@@ -82,6 +84,19 @@ impl<S: Read + Write + Drop, R: RandomSource + Drop> WsSubscription<S, RandomKey
             notes: Notes::none(),
         })
     }
+}
+
+/// Asks for what the filter matches.
+fn ask<S: Read + Write, K: MaskKeys>(
+    alloc: Global,
+    wire: &mut Wire<S, K>,
+    filter: Filter,
+    notes: &mut Notes,
+) -> Result<(), LinkFault>
+    ensures { OnOk result (Says (talk_of wire.old) (talk_of wire.new) (text_of (requesting filter))) }
+{
+    let request = request(alloc, filter)?;
+    say(alloc, wire, &request, notes)
 }
 
 /// The subscription's name.

@@ -1,10 +1,11 @@
 //! A peer over a WebSocket.
-ghost use Rattle.std.specs.Prelude.{◌≡◌, ◌+◌, ◌<◌, ◌^◌, ◌-◌, [], ◌∷◌, ◌++◌, IfOk, IfErr, IfSome, OnErr, true, false, Some, None, Err, Ok};
+ghost use Rattle.std.specs.Prelude.{◌≡◌, ◌+◌, ◌<◌, ◌^◌, ◌-◌, [], ◌∷◌, ◌++◌, IfOk, IfErr, IfSome, OnOk, OnErr, true, false, Some, None, Err, Ok};
 ghost use Rattle.std.specs.Option.{option_copied};
 ghost use Rattle.neg_session.specs.Exchange.{exchange};
 ghost use Rattle.nostr_wire.specs.Forms.{client_form};
+ghost use Rattle.nostr_wire.specs.Writing.{text_of};
 ghost use Rattle.wire.specs.Line.{talk_of};
-ghost use Rattle.wire.specs.Talk.{Grows};
+ghost use Rattle.wire.specs.Talk.{Says, Grows};
 ghost use Rattle.ws_socket.specs.Faults.{IsOfStream};
 ghost use Rattle.ws_link.specs.Wired.{Wired, unused, failed_by, with_bytes_of, GoesOn};
 ghost use Rattle.ws_link.specs.Failing.{answer_of, FailsBy};
@@ -20,7 +21,7 @@ use neg_session::{Pair, Peer, PeerFault};
 use nostr_event::Text;
 use nostr_filter::{Filter, FilterFault};
 use nostr_wire::{Bytes, FromClient, FromRelay, Sub};
-use std::alloc::Global;
+use std::alloc::{AllocError, Global};
 use std::io::{Read, Write};
 use std::marker::Model;
 use std::random::RandomSource;
@@ -192,18 +193,9 @@ impl<S: Read + Write + Drop, K: MaskKeys + Drop> WsPeer<S, K> {
         ensures dead { self.live ≡ false → result ≡ Err LinkFault.Link }
         ensures err { IfErr result IsOfStream }
     {
-        let alloc = self.link.alloc;
-        let Some(wire) = &mut self.link.wire else {
-            return Err(LinkFault::Link);
-        };
-        let sub = session(alloc)?;
-        say(
-            alloc,
-            wire,
-            &FromClient::NegClose { sub },
-            &mut self.link.notes,
-        )?;
-        close(wire, &mut self.link.notes)
+        let mut wire = self.link.take_out()?;
+        end(self.link.alloc, &mut wire, &mut self.link.notes)?;
+        close(&mut wire, &mut self.link.notes)
     }
 }
 
@@ -222,14 +214,47 @@ fn ask_over<S: Read + Write, K: MaskKeys>(
     ensures kept { OnErr result (pairs.new.items ≡ pairs.old.items) }
     ensures grows { Grows (talk_of wire.old) (talk_of wire.new) }
 {
-    say(alloc, wire, &message(alloc, filter, question)?, notes)?;
+    put(alloc, wire, filter, question, notes)?;
     let answer = answer(alloc, wire, notes)?;
-    let pair = Pair {
+    pairs.push(pair_of(alloc, question, answer.as_slice())?)?;
+    Ok(answer)
+}
+
+/// Puts a question. The filter opens the session, if there is one.
+fn put<S: Read + Write, K: MaskKeys>(
+    alloc: Global,
+    wire: &mut Wire<S, K>,
+    filter: Option<Filter>,
+    question: &[u8],
+    notes: &mut Notes,
+) -> Result<(), LinkFault>
+    ensures said { OnOk result (Says (talk_of wire.old) (talk_of wire.new) (text_of (asking filter question.now))) }
+    ensures grows { Grows (talk_of wire.old) (talk_of wire.new) }
+{
+    let message = message(alloc, filter, question)?;
+    say(alloc, wire, &message, notes)
+}
+
+/// A question and its answer.
+fn pair_of(alloc: Global, question: &[u8], answer: &[u8]) -> Result<Pair, AllocError>
+    ensures { IfOk result (λ p. p ≡ exchange question.now answer.now) }
+{
+    Ok(Pair {
         asked: question.to_vec(alloc)?,
         answered: answer.to_vec(alloc)?,
-    };
-    pairs.push(pair)?;
-    Ok(answer)
+    })
+}
+
+/// Ends the session.
+fn end<S: Read + Write, K: MaskKeys>(
+    alloc: Global,
+    wire: &mut Wire<S, K>,
+    notes: &mut Notes,
+) -> Result<(), LinkFault>
+    ensures { IfErr result IsOfStream }
+{
+    let sub = session(alloc)?;
+    say(alloc, wire, &FromClient::NegClose { sub }, notes)
 }
 
 /// The session's name.

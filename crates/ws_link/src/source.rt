@@ -177,11 +177,25 @@ fn fetch_over<S: Read + Write, K: MaskKeys>(
     ensures kept { OnErr result (fetches.new.items ≡ fetches.old.items) }
     ensures grows { Grows (talk_of wire.old) (talk_of wire.new) }
 {
-    say(alloc, wire, &request(alloc, ids)?, notes)?;
+    ask(alloc, wire, ids, notes)?;
     let events = read_events(alloc, wire, ids, notes)?;
     end(alloc, wire, notes)?;
     fetches.push(Fetch::of(alloc, ids, &events)?)?;
     Ok(events)
+}
+
+/// Asks for the events with these ids.
+fn ask<S: Read + Write, K: MaskKeys>(
+    alloc: Global,
+    wire: &mut Wire<S, K>,
+    ids: &[Id],
+    notes: &mut Notes,
+) -> Result<(), LinkFault>
+    ensures said { OnOk result (Says (talk_of wire.old) (talk_of wire.new) (text_of (requesting ids.now))) }
+    ensures grows { Grows (talk_of wire.old) (talk_of wire.new) }
+{
+    let request = request(alloc, ids)?;
+    say(alloc, wire, &request, notes)
 }
 
 /// Ends the subscription.

@@ -3,4 +3,4 @@ use Rattle.ws_link.proofs.peer.ask_over.Goals as goal
 
 pub returns-clause-exchanged : goal.returns-clause-exchanged
 returns-clause-exchanged g c =
-    (talk_of c.say.new.wire, rw c.in_ok-message.ensures at c.in_ok-say.ensures.said, c.in_ok-answer.ensures.answers)
+    (talk_of c.put.new.wire, c.in_ok-put.ensures.said, c.in_ok-answer.ensures.answers)
