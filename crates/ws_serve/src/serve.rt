@@ -62,7 +62,24 @@ pub fn serve_kept<W: Wait, S: Read + Write + Drop, J: Naming, D: Wait + Drop, H:
         lock: turn,
         reads_long: true,
     };
-    let served = serve(rt, alloc, &mut talk, reader, desk, keeper, turns);
+    serve_all(rt, alloc, &mut talk, reader, desk, keeper, turns)
+}
+
+/// Serves turn by turn until the connection is over, and sends what was answered. It gives the number of texts served.
+fn serve_all<W: Wait, S: Read + Write, J: Naming, D: Wait + Drop, H: Keeper<J>>(
+    rt: &W,
+    alloc: Global,
+    talk: &mut Talk<S, J>,
+    reader: &mut Reader<J>,
+    desk: &Mutex<Desk<J, D>>,
+    keeper: &H,
+    turns: Turns<'_>,
+) -> Result<u64, LinkFault>
+    ensures served { IfOk result (λ n. n ≤ 1000000) }
+    ensures fault { IfErr result IsOfStream }
+    ensures reader { IsPrefix reader.old reader.new }
+{
+    let served = serve(rt, alloc, talk, reader, desk, keeper, turns);
     // What was answered goes out, also where a fault ended the connection.
     let sent = talk.send();
     served?;
