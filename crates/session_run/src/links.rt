@@ -162,6 +162,31 @@ fn peer_places<S: Drop, K: Drop>(
     Ok(places)
 }
 
+/// The peer of a place, of this number, whose session is told as it ends.
+fn told_peer<'a, S: Drop, K: Drop, R, P>(
+    rt: &'a R,
+    alloc: Global,
+    settings: &Settings,
+    left_out: RelaySet,
+    place: PeerPlace<S, K>,
+    relay: usize,
+    progress: &'a Progress<P>,
+) -> Result<ToldPeer<'a, WsPeer<S, K>, R, P>, Refusal>
+    ensures faults { IfOk result (λ told. told.peer.faults ≡ 0) }
+    ensures number { IfOk result (λ told. told.relay ≡ relay) }
+{
+    let name = name_of(alloc, settings, relay)?;
+    Ok(ToldPeer {
+        peer: place.into_peer()?,
+        relay,
+        name,
+        is_asked: !is_in(left_out, relay),
+        heard: Mutex::new(Heard::Nothing),
+        rt,
+        progress,
+    })
+}
+
 /// The peers of the places, in their order and numbered so, whose sessions are told as they end.
 fn peers_in<'a, S: Drop, K: Drop, R, P>(
     rt: &'a R,
@@ -177,17 +202,8 @@ fn peers_in<'a, S: Drop, K: Drop, R, P>(
     let mut peers = Vec::new(alloc);
     for place in places {
         let relay = peers.len();
-        let peer = place.into_peer()?;
-        let name = name_of(alloc, settings, relay)?;
-        peers.push(ToldPeer {
-            peer,
-            relay,
-            name,
-            is_asked: !is_in(left_out, relay),
-            heard: Mutex::new(Heard::Nothing),
-            rt,
-            progress,
-        })?;
+        let told = told_peer(rt, alloc, settings, left_out, place, relay, progress)?;
+        peers.push(told)?;
     }
     Ok(peers)
 }

@@ -182,6 +182,40 @@ fn fetch_round<
     Ok(round)
 }
 
+/// The same from those of the relays that didn't stop, or are given ids.
+fn ask_round<
+    J: Naming + Send + Sync,
+    D: Wait + Drop + Send + Sync,
+    R: Host,
+    P: Write + Send,
+    E: Write + Send + Drop,
+>(
+    rt: &R,
+    alloc: Global,
+    settings: &Settings,
+    relays: &[u16],
+    plan: &Plan,
+    stopped: RelaySet,
+    desk: &Mutex<Desk<J, D>>,
+    keeping: &Keeping<J, E>,
+    progress: &Progress<P>,
+) -> Result<Round, Refusal>
+    ensures cells { IfOk result (λ round. length round.cells.items ≡ length plan.now.gives) }
+    ensures came { IfOk result (λ round. CameOver plan.now.gives round.cells.items) }
+{
+    let asked = asked_of(alloc, relays, planned(plan), stopped)?;
+    fetch_round(
+        rt,
+        alloc,
+        settings,
+        asked.as_slice(),
+        plan,
+        desk,
+        keeping,
+        progress,
+    )
+}
+
 /// Prints a later round and its plan.
 fn say_round<W: Write>(
     alloc: Global,
@@ -227,13 +261,13 @@ pub fn fetch_rounds<
     let mut stopped = RelaySet::empty();
     for round in 1..settings.rounds {
         let given = planned(&plan);
-        let asked = asked_of(alloc, relays.as_slice(), given, stopped)?;
-        let ended = fetch_round(
+        let ended = ask_round(
             rt,
             alloc,
             settings,
-            asked.as_slice(),
+            relays.as_slice(),
             &plan,
+            stopped,
             desk,
             keeping,
             progress,
@@ -249,13 +283,13 @@ pub fn fetch_rounds<
         }
         say_round(alloc, writer, round.saturating_add(1), &plan)?;
     }
-    let asked = asked_of(alloc, relays.as_slice(), planned(&plan), stopped)?;
-    let ended = fetch_round(
+    let ended = ask_round(
         rt,
         alloc,
         settings,
-        asked.as_slice(),
+        relays.as_slice(),
         &plan,
+        stopped,
         desk,
         keeping,
         progress,

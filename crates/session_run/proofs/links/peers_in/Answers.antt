@@ -20,8 +20,8 @@ pub loop-place-preserved : goal.loop-place-preserved
 loop-place-preserved g c =
     let before = c.loop-place.invariant in
     let seen = c.loop-place.yielded in
-    let small : c.in_ok-peer.peer.faults < 2 ^ 64 - 1 = omega (arith, c.in_ok-peer.ensures) in
-    let number : c.len-relay.result ≡ length c.loop-place.peers.items = omega (arith, c.len-relay.ensures) in
+    let small : c.in_ok-told.told.peer.faults < 2 ^ 64 - 1 = omega (arith, c.in_ok-told.ensures.faults) in
+    let number : c.in_ok-told.told.relay ≡ length c.loop-place.peers.items = omega (arith, c.in_ok-told.ensures.number, c.len-relay.ensures) in
     rw c.in_ok-push.ensures.items
     (record {
       faults = All-push (λ p. p.peer.faults < 2 ^ 64 - 1) c.loop-place.peers.items _ before.faults small;

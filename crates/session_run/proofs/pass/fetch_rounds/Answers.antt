@@ -45,9 +45,9 @@ returns-then-len-eq0 g c =
 
 pub returns : goal.returns
 returns g c =
-    let cells = c.as_slice-4.result.now in
+    let cells = c.as_slice-3.result.now in
     all_ended c.args.settings.now.rounds _ _ c.loop-round.round _ _ c.loop-round.all c.counts_of-2.result c.with.result cells c.loop-round.invariant.at c.counts_of-2.ensures
     (record { given = c.with.ensures.given; missed = c.with.ensures.missed; left = c.with.ensures.left })
-    (ap length c.as_slice-4.ensures.value ∙ c.in_ok-ended-2.ensures.cells)
-    (subst (λ (l : List Cell). CameOver c.loop-round.plan.gives l) (sym c.as_slice-4.ensures.value) c.in_ok-ended-2.ensures.came)
+    (ap length c.as_slice-3.ensures.value ∙ c.in_ok-ended-2.ensures.cells)
+    (subst (λ (l : List Cell). CameOver c.loop-round.plan.gives l) (sym c.as_slice-3.ensures.value) c.in_ok-ended-2.ensures.came)
     (as_many c.args.settings.now.rounds _ _ c.loop-round.round _ _ c.loop-round.all cells c.loop-round.invariant.at (omega arith) c.loop-round.invariant.few)
