@@ -88,9 +88,17 @@ impl Round {
         ensures legal { IfOk result (λ answers. Legal lanes.now (zip events.now answers.items)) }
     {
         let mut round = Round::new(alloc, lanes)?;
-        let mut answers = Vec::new(alloc);
+        round.answers(events)
+    }
+
+    // The answers to these events, one each, of a round before any event.
+    fn answers(&mut self, events: &[RoundEvent]) -> Result<Vec<Answer>, AllocError>
+        ensures one_each { IfOk result (λ answers. length answers.items ≡ length events.now) }
+        ensures legal { IfOk result (λ answers. (lanes : List ℕ) → Leaves lanes [] self.old → Legal lanes (zip events.now answers.items)) }
+    {
+        let mut answers = Vec::new(self.alloc);
         for event in events {
-            answers.push(round.step(event)?)?;
+            answers.push(self.step(event)?)?;
         }
         Ok(answers)
     }
