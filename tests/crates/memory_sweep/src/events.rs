@@ -1,6 +1,7 @@
 //! Bytes in hex, events, filters, and the texts that clients and relays send each other.
 
 use crate::said::Said;
+use event_text::EventScratch;
 use id_text::parse_bytes;
 use neg_codec::Id;
 use nostr_event::{Event, EventFault, Spelling, bytes32_of, id_of, id_text};
@@ -255,7 +256,7 @@ fn long_request(alloc: Global) -> Option<String> {
 
 /// Reads a request of which two filters are kept.
 fn read_few(alloc: Global, text: &str) -> Option<Said> {
-    match read_client_few(alloc, text, 1) {
+    match read_client_few(alloc, &mut EventScratch::new(), text, 1) {
         Ok(message) => Said::ample(write_client(alloc, &message).ok()?.as_str() == REQUEST),
         Err(WireFault::Memory) => Said::memory(true),
         Err(_) => Said::wrong(),

@@ -2,7 +2,7 @@
 mod vectors;
 
 use super::events::vectors::{VECTORS, Vector};
-use event_text::event_of_bytes;
+use event_text::{EventScratch, event_of_bytes};
 use neg_codec::{Id, Item};
 use nostr_event::{
     Draft, Event, EventFault, EventField, Spelling, Tag, Tags, Text, bytes32_of, id_of, id_text,
@@ -183,7 +183,7 @@ fn parsed(alloc: Global, text: &str) -> Result<Value, Fail> {
 fn read(alloc: Global, text: &str) -> Result<Event, Fail> {
     let value = parsed(alloc, text)?;
     let event = Event::from_json(alloc, &value).ok().ok_or("no event")?;
-    match event_of_bytes(alloc, text.as_bytes()) {
+    match event_of_bytes(alloc, &mut EventScratch::new(), text.as_bytes()) {
         Some(Ok(other)) if other.text() == event.text() => Ok(event),
         None => Ok(event),
         _ => Err(Fail::new("its tokens tell another event")),
@@ -194,7 +194,7 @@ fn read(alloc: Global, text: &str) -> Result<Event, Fail> {
 fn fault_of(alloc: Global, text: &str) -> Result<Option<EventFault>, Fail> {
     let value = parsed(alloc, text)?;
     let fault = Event::from_json(alloc, &value).err();
-    match event_of_bytes(alloc, text.as_bytes()) {
+    match event_of_bytes(alloc, &mut EventScratch::new(), text.as_bytes()) {
         Some(Ok(_)) if fault.is_none() => Ok(fault),
         Some(Err(_)) if fault == Some(EventFault::WrongId) => Ok(fault),
         None => Ok(fault),
@@ -311,21 +311,23 @@ fn events_from_outside(rt: HostRuntime) -> Result<(), Fail> {
 #[test]
 fn events_of_tokens(rt: HostRuntime) -> Result<(), Fail> {
     let alloc = rt.alloc();
+    // One for all, long and short.
+    let mut scratch = EventScratch::new();
     for vector in &VECTORS {
         let text = whole(alloc, vector.draft, vector.plain)?;
-        assert!(rt; matches!(event_of_bytes(alloc, text.as_bytes()), Some(Ok(_))));
+        assert!(rt; matches!(event_of_bytes(alloc, &mut scratch, text.as_bytes()), Some(Ok(_))));
     }
     let twice = CONTROL.replacen(alloc, "\"kind\":1", "\"kind\":2,\"kind\":1", 1)?;
-    assert!(rt; matches!(event_of_bytes(alloc, twice.as_bytes()), Some(Ok(_))));
+    assert!(rt; matches!(event_of_bytes(alloc, &mut scratch, twice.as_bytes()), Some(Ok(_))));
     let wrong = CONTROL.replacen(alloc, "\"kind\":1", "\"kind\":2", 1)?;
     let stated = bytes32_of(CONTROL_PLAIN);
-    assert!(rt; matches!(event_of_bytes(alloc, wrong.as_bytes()), Some(Err(id)) if Some(id.0) == stated));
+    assert!(rt; matches!(event_of_bytes(alloc, &mut scratch, wrong.as_bytes()), Some(Err(id)) if Some(id.0) == stated));
     // What has another member, or more behind it, is left to others.
     let more = CONTROL.replacen(alloc, "{", "{\"x\":1,", 1)?;
-    assert!(rt; event_of_bytes(alloc, more.as_bytes()).is_none());
+    assert!(rt; event_of_bytes(alloc, &mut scratch, more.as_bytes()).is_none());
     let behind = format!(in alloc; "{CONTROL}1")?;
-    assert!(rt; event_of_bytes(alloc, behind.as_bytes()).is_none());
-    assert!(rt; event_of_bytes(alloc, b"\xff").is_none());
+    assert!(rt; event_of_bytes(alloc, &mut scratch, behind.as_bytes()).is_none());
+    assert!(rt; event_of_bytes(alloc, &mut scratch, b"\xff").is_none());
     Ok(())
 }
 
