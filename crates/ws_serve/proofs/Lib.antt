@@ -11,3 +11,4 @@ pub mod Reading
 pub mod Gathering
 pub mod Beginning
 pub mod Placing
+pub mod Failing
