@@ -1,10 +1,12 @@
-use Rattle.std.proofs.Common.{◌∙◌, map}
+use Rattle.std.proofs.Common.{◌∙◌, map, refl}
+use Rattle.std.proofs.lemmas.Result.{IfOk-from_err}
 use Rattle.std.specs.Arc.{arc_value}
 use Rattle.std.specs.Vec.Iter.{into_iter_items}
-use Rattle.event_list.proofs.Prefixes.{prefix_trans}
+use Rattle.event_list.proofs.Prefixes.{prefix_self, prefix_trans}
 use Rattle.ws_serve.specs.declared.together.Stored.{Stored}
 use Rattle.ws_serve.specs.Gathered.{ids_of}
 use Rattle.ws_serve.proofs.Beginning.{fails}
+use Rattle.ws_serve.proofs.Failing.{stream_fault}
 use Rattle.ws_serve.proofs.Gathering.{of_some}
 use Rattle.ws_serve.proofs.Placing.{kept_same, of_more_in, of_begun_in, split_in}
 use Rattle.ws_serve.proofs.together.answer_each.Goals as goal
@@ -30,3 +32,42 @@ loop-one-preserved g c =
       kept = kept_same _ _ c.in_ok-room.ensures.kept ∙ c.loop-one.invariant.kept;
       limits = c.tell.ensures.limits ∙ c.loop-one.invariant.limits;
     }
+
+pub returns-in_err-all-clause-fault : goal.returns-in_err-all-clause-fault
+returns-in_err-all-clause-fault g c = stream_fault c.from_residual.result c.in_err-all.field-0.0 c.from_residual.ensures.1 c.in_err-all.ensures.fault
+
+pub returns-in_err-all-clause-says : goal.returns-in_err-all-clause-says
+returns-in_err-all-clause-says g c = IfOk-from_err c.from_residual.result _ c.from_residual.ensures.0
+
+pub returns-in_err-all-clause-kept : goal.returns-in_err-all-clause-kept
+returns-in_err-all-clause-kept g c = IfOk-from_err c.from_residual.result _ c.from_residual.ensures.0
+
+pub returns-in_err-all-clause-limits : goal.returns-in_err-all-clause-limits
+returns-in_err-all-clause-limits g c = refl
+
+pub returns-in_err-all-clause-reader : goal.returns-in_err-all-clause-reader
+returns-in_err-all-clause-reader g c = prefix_self c.args.reader.now
+
+pub returns-in_err-room-clause-fault : goal.returns-in_err-room-clause-fault
+returns-in_err-room-clause-fault g c = stream_fault c.from_residual-in_err-room.result c.in_err-room.field-0.0 c.from_residual-in_err-room.ensures.1 c.in_err-room.ensures.fault
+
+pub returns-in_err-room-clause-says : goal.returns-in_err-room-clause-says
+returns-in_err-room-clause-says g c = IfOk-from_err c.from_residual-in_err-room.result _ c.from_residual-in_err-room.ensures.0
+
+pub returns-in_err-room-clause-kept : goal.returns-in_err-room-clause-kept
+returns-in_err-room-clause-kept g c = IfOk-from_err c.from_residual-in_err-room.result _ c.from_residual-in_err-room.ensures.0
+
+pub returns-in_err-room-clause-limits : goal.returns-in_err-room-clause-limits
+returns-in_err-room-clause-limits g c = c.tell.ensures.limits ∙ c.loop-one.invariant.limits
+
+pub returns-in_err-room-clause-reader : goal.returns-in_err-room-clause-reader
+returns-in_err-room-clause-reader g c = prefix_trans _ _ _ c.loop-one.invariant.reader c.tell.ensures.reader
+
+pub returns-clause-kept : goal.returns-clause-kept
+returns-clause-kept g c = c.loop-one.invariant.kept
+
+pub returns-clause-limits : goal.returns-clause-limits
+returns-clause-limits g c = c.loop-one.invariant.limits
+
+pub returns-clause-reader : goal.returns-clause-reader
+returns-clause-reader g c = c.loop-one.invariant.reader
