@@ -1,5 +1,6 @@
 -- What logs and media hold after one call and another.
 use Rattle.std.proofs.Common.{◌≡◌, ℕ, ◌+◌, ◌≤◌, Bool, true, false, List, [], ◌∷◌, ◌++◌, length, take, drop, Option, None, Some, IfSome, slice_get, refl, sym, ap, subst, ◌∙◌, arith, append-nil, append_assoc, length-append, take-append-drop}
+use Rattle.std.specs.Prelude.{Result, Ok, Err, IsErr, IfOk, OnErr}
 use mathlib.Core.List.{IsPrefix}
 use Rattle.std.proofs.lemmas.Grind.{flat_map-append}
 use Rattle.std.proofs.lemmas.List.{take_all}
@@ -350,3 +351,29 @@ back_again torn events again len safe safe_len a b same p s h = (
   subst (λ (es : List EventView). IsPrefix safe es) (sym same) (prefix_self safe),
   subst (λ (es : List EventView). IfSome b (HoldsLines true es safe_len safe safe_len)) (sym same) (back_lines torn events len safe safe_len a b p s h),
 )
+
+-- ---- beginnings
+
+-- what begins a list begins the same list
+pub begins_as : (safe old new : List EventView) → IsPrefix safe old → new ≡ old → IsPrefix safe new
+begins_as safe old new p is = subst (IsPrefix safe) (sym is) p
+
+-- what is the same as a beginning begins
+pub begins_from : (safe old new : List EventView) → old ≡ safe → IsPrefix old new → IsPrefix safe new
+begins_from safe old new is p = subst (λ (es : List EventView). IsPrefix es new) is p
+
+-- what begins a list begins the list that this one grows to
+pub begins_grown : (safe old mid new : List EventView) → IsPrefix safe old → mid ≡ old → IsPrefix mid new → IsPrefix safe new
+begins_grown safe old mid new p is q = prefix_trans safe old new p (begins_from old mid new is q)
+
+-- ---- results
+
+-- what is said of a value says nothing of an error
+pub no_ok : {T E : Type 0} (r : Result T E) (P : T → Type 0) → IsErr r → IfOk r P
+no_ok (Ok x) P is = absurd (cc is)
+no_ok (Err e) P is = tt
+
+-- what is said of an error says nothing of a value
+pub on_err : {T E : Type 0} (r : Result T E) (P : Type 0) → P → OnErr r P
+on_err (Ok x) P p = tt
+on_err (Err e) P p = p
