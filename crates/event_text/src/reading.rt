@@ -79,5 +79,7 @@ pub fn event_of_bytes(
 ) -> Option<Result<Event, Id>>
     ensures { IfSome result (λ r. IsUtf8 bytes.now × ((d : Data) × (read bytes.now ≡ Some d) × Tells d r)) }
 {
-    event_of_text(alloc, scratch, from_utf8(bytes).ok()?)
+    let event = event_of_text(alloc, scratch, from_utf8(bytes).ok()?);
+    scratch.rest(bytes.len());
+    event
 }

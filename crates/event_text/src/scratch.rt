@@ -3,8 +3,11 @@
 use json::Scratch;
 use std::alloc::Global;
 
-/// Memory that reading takes beside the events. It is made, and cleared, for the first text, and kept for the next ones: it is as
-/// long as the longest of them and some 16 KiB.
+/// Behind a longer text nothing is kept.
+const MOST_KEPT: usize = 16_384;
+
+/// Memory that reading takes beside the events: as much as the text, and some 16 KiB. It is made, and cleared, for the first text,
+/// and kept for the next ones, but not behind a long one: who waits for the next text holds no more than twice 16 KiB.
 #[derive(Drop)]
 pub struct EventScratch {
     made: Option<Scratch>,
@@ -19,5 +22,12 @@ impl EventScratch {
     /// It, made if it wasn't yet.
     pub fn lend(&mut self, alloc: Global) -> &mut Scratch {
         self.made.get_or_insert_with(|| Scratch::new(alloc))
+    }
+
+    /// Gives it back, if a text of so many bytes was long.
+    pub fn rest(&mut self, text: usize) {
+        if text > MOST_KEPT {
+            self.made = None;
+        }
     }
 }

@@ -261,7 +261,9 @@ fn client_text(
     ensures ok { IfOk result (λ m. Hears most text.now m) }
     ensures err { IfErr result (λ f. Refuses client_table text.now f) }
 {
-    if let Some(event) = published(alloc, scratch, text) {
+    let event = published(alloc, scratch, text);
+    scratch.rest(text.len());
+    if let Some(event) = event {
         return event;
     }
     let mut value = value_of(alloc, text)?;
@@ -273,7 +275,9 @@ fn relay_text(alloc: Global, scratch: &mut EventScratch, text: &str) -> Result<F
     ensures ok { IfOk result (λ m. Reads relay_table text.now (relay_form m)) }
     ensures err { IfErr result (λ f. Refuses relay_table text.now f) }
 {
-    if let Some(event) = given(alloc, scratch, text) {
+    let event = given(alloc, scratch, text);
+    scratch.rest(text.len());
+    if let Some(event) = event {
         return event;
     }
     let mut value = value_of(alloc, text)?;
