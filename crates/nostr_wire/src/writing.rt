@@ -1,8 +1,9 @@
 // Messages written as texts.
 ghost use Rattle.std.specs.Prelude.{◌≡◌, ◌≢◌, ◌∷◌, ◌++◌, [], map, IfOk, OnOk, string_bytes};
 ghost use Rattle.std.specs.Arc.{arc_value};
+ghost use Rattle.serde_json.specs.Data.{string};
 ghost use Rattle.serde_json.specs.View.{view};
-ghost use Rattle.nostr_wire.specs.Elements.{data_of, sub, filter};
+ghost use Rattle.nostr_wire.specs.Elements.{Says, data_of, sub, filter};
 ghost use Rattle.nostr_wire.specs.Forms.{client_form, event_form, okay_form, relay_form, client_table, relay_table};
 ghost use Rattle.nostr_wire.specs.Reading.{SayEach, IsMessage, Reads};
 ghost use Rattle.nostr_wire.specs.Writing.{array_of, text_of};
@@ -15,17 +16,36 @@ use json::{Token, Writer};
 use neg_codec::Id;
 use nostr_event::Event;
 use nostr_filter::Filter;
-use serde_json::{Value, json};
+use serde_json::Value;
 use std::alloc::{AllocError, Global};
 use std::sync::Arc;
+
+// The values of an array, of which the first is a name.
+fn begun(alloc: Global, name: &str) -> Result<Vec<Value>, AllocError>
+    ensures { IfOk result (λ values. map view values.items ≡ string name.now ∷ []) }
+{
+    let mut values = Vec::new(alloc);
+    values.push(Value::try_from_str(alloc, name)?)?;
+    Ok(values)
+}
+
+// Puts an element's value behind the values.
+fn put<A: Element>(values: &mut Vec<Value>, alloc: Global, element: &A) -> Result<(), AllocError>
+    ensures values { OnOk result (map view values.new.items ≡ map view values.old.items ++ data_of (A.said element.now) ∷ []) }
+    ensures says { OnOk result (Says (data_of (A.said element.now)) (A.said element.now)) }
+{
+    values.push(element.write(alloc)?)?;
+    Ok(())
+}
 
 // The array of a name and one element.
 fn one<A: Element>(alloc: Global, name: &str, first: &A) -> Result<Value, AllocError>
     ensures value { IfOk result (λ v. view v ≡ array_of (record { name = name.now; said = A.said first.now ∷ [] })) }
     ensures says { IfOk result (λ _. SayEach (A.said first.now ∷ []) (data_of (A.said first.now) ∷ [])) }
 {
-    let first = first.write(alloc)?;
-    json!(in alloc; [name, first])
+    let mut values = begun(alloc, name)?;
+    put(&mut values, alloc, first)?;
+    Ok(Value::Array(values))
 }
 
 // The array of a name and two elements.
@@ -38,9 +58,10 @@ fn two<A: Element, B: Element>(
     ensures value { IfOk result (λ v. view v ≡ array_of (record { name = name.now; said = A.said first.now ∷ B.said second.now ∷ [] })) }
     ensures says { IfOk result (λ _. SayEach (A.said first.now ∷ B.said second.now ∷ []) (data_of (A.said first.now) ∷ data_of (B.said second.now) ∷ [])) }
 {
-    let first = first.write(alloc)?;
-    let second = second.write(alloc)?;
-    json!(in alloc; [name, first, second])
+    let mut values = begun(alloc, name)?;
+    put(&mut values, alloc, first)?;
+    put(&mut values, alloc, second)?;
+    Ok(Value::Array(values))
 }
 
 // The array of a name and three elements.
@@ -56,10 +77,11 @@ fn three<A: Element, B: Element, C: Element>(
     ensures says { IfOk result (λ _. SayEach (A.said first.now ∷ B.said second.now ∷ C.said third.now ∷ [])
         (data_of (A.said first.now) ∷ data_of (B.said second.now) ∷ data_of (C.said third.now) ∷ [])) }
 {
-    let first = first.write(alloc)?;
-    let second = second.write(alloc)?;
-    let third = third.write(alloc)?;
-    json!(in alloc; [name, first, second, third])
+    let mut values = begun(alloc, name)?;
+    put(&mut values, alloc, first)?;
+    put(&mut values, alloc, second)?;
+    put(&mut values, alloc, third)?;
+    Ok(Value::Array(values))
 }
 
 // Puts the filters behind the values.
@@ -79,9 +101,8 @@ fn request(alloc: Global, name: &Sub, filters: &Filters) -> Result<Value, AllocE
     ensures says { IfOk result (λ _. SayEach (sub name.now ∷ map filter filters.now) (map data_of (sub name.now ∷ map filter filters.now))) }
     ensures some { IfOk result (λ _. filters.now ≢ []) }
 {
-    let mut values = Vec::new(alloc);
-    values.push(Value::try_from_str(alloc, "REQ")?)?;
-    values.push(name.write(alloc)?)?;
+    let mut values = begun(alloc, "REQ")?;
+    put(&mut values, alloc, name)?;
     put_filters(&mut values, alloc, filters.as_slice())?;
     Ok(Value::Array(values))
 }
