@@ -1,6 +1,7 @@
 //! Events that are read and checked, and written again, for measuring.
 
 use crate::reading::read;
+use nostr_event::Event;
 use std::alloc::Global;
 use std::io;
 use std::io::{BufWriter, Read, Write};
@@ -27,6 +28,13 @@ pub fn copy(rt: &HostRuntime, alloc: Global, is_whole: bool) -> io::Result<bool>
     }
 }
 
+/// Writes an event as compact JSON, in a line of its own.
+fn put<W: Write>(alloc: Global, event: &Event, out: &mut W) -> io::Result<()> {
+    let copy = event.to_json(alloc)?.to_string(alloc)?;
+    out.write_all(copy.as_bytes())?;
+    out.write_all(b"\n")
+}
+
 /// How many events the text holds, or the number of the first line that holds none.
 fn copied<W: Write>(
     alloc: Global,
@@ -41,9 +49,7 @@ fn copied<W: Write>(
             return Ok(Err(number));
         };
         if is_whole {
-            let copy = event.to_json(alloc)?.to_string(alloc)?;
-            out.write_all(copy.as_bytes())?;
-            out.write_all(b"\n")?;
+            put(alloc, &event, out)?;
         }
     }
     Ok(Ok(number))

@@ -36,13 +36,18 @@ fn main(rt: HostRuntime) -> io::Result<ExitCode> {
         words.push(word.as_str())?;
     }
     let end = match words.as_slice() {
-        [_, "events", "read"] => End::of(copying::copy(&rt, alloc, false)?),
-        [_, "events", "copy"] => End::of(copying::copy(&rt, alloc, true)?),
-        [_, "rolls", what, times] => filling::fill(&rt, alloc, what, times)?,
-        [_, "store"] => End::of(storing::store(&rt, alloc, false)?),
-        [_, "store", "reads"] => End::of(storing::store(&rt, alloc, true)?),
-        _ => End::Unknown,
+        [_, "events", "read"] => copying::copy(&rt, alloc, false).map(End::of),
+        [_, "events", "copy"] => copying::copy(&rt, alloc, true).map(End::of),
+        [_, "rolls", what, times] => filling::fill(&rt, alloc, what, times),
+        [_, "store"] => storing::store(&rt, alloc, false).map(End::of),
+        [_, "store", "reads"] => storing::store(&rt, alloc, true).map(End::of),
+        _ => Ok(End::Unknown),
     };
+    tell(&rt, end?)
+}
+
+/// The exit status. Where the words name no job, it tells which there are.
+fn tell(rt: &HostRuntime, end: End) -> io::Result<ExitCode> {
     match end {
         End::Done => Ok(ExitCode::SUCCESS),
         End::Refused => Ok(ExitCode::FAILURE),

@@ -80,16 +80,36 @@ fn measured<J: Naming, R: Print + Eprint + CpuClock + Wait>(
 {
     let (mut desk, mut readers) = open_store::<J, &R>(rt, alloc, blank, 1).ok()?;
     let mut reader = readers.pop()?;
-    let times = events.len();
-    let start = rt.process_cpu_time().ok()?;
-    let fresh = inserted(rt, alloc, &mut desk, &mut reader, events);
-    tell(rt, "insert", times, fresh, start)?;
+    inserts(rt, alloc, &mut desk, &mut reader, events)?;
     if has_reads {
-        let all = reader.all().ok()?;
-        pins(rt, alloc, &mut reader, all.events())?;
-        choices(rt, alloc, &all)?;
+        reads(rt, alloc, &mut reader)?;
     }
     Some(())
+}
+
+/// Measures the inserts.
+fn inserts<J: Naming, R: Print + Eprint + CpuClock + Wait>(
+    rt: &R,
+    alloc: Global,
+    desk: &mut Desk<J, &R>,
+    reader: &mut Reader<J>,
+    events: Vec<Arc<Event>>,
+) -> Option<()> {
+    let times = events.len();
+    let start = rt.process_cpu_time().ok()?;
+    let fresh = inserted(rt, alloc, desk, reader, events);
+    tell(rt, "insert", times, fresh, start)
+}
+
+/// Measures the reads.
+fn reads<J: Naming, R: Print + Eprint + CpuClock + Wait>(
+    rt: &R,
+    alloc: Global,
+    reader: &mut Reader<J>,
+) -> Option<()> {
+    let all = reader.all().ok()?;
+    pins(rt, alloc, reader, all.events())?;
+    choices(rt, alloc, &all)
 }
 
 /// How many of the events were new. An insert that is refused is made once more.
