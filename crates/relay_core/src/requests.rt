@@ -1,5 +1,5 @@
 //! Requests for events (REQ of NIP-01).
-ghost use Rattle.std.specs.Prelude.{◌≡◌, ◌≤◌, ◌+◌, ◌-◌, List, [], ◌∷◌, ◌++◌, false, nat_le, map, filter_map, slice_get, option_to_list, bytes_eq, IfOk, IfErr, OnOk, SomeIff};
+ghost use Rattle.std.specs.Prelude.{◌≡◌, ◌≤◌, ◌+◌, ◌-◌, List, [], ◌∷◌, ◌++◌, false, nat_le, map, filter_map, slice_get, option_to_list, bytes_eq, None, IfOk, IfErr, OnOk, SomeIff};
 ghost use Rattle.std.specs.List.{list_any};
 ghost use Rattle.std.specs.Arc.{arc_value};
 ghost use Rattle.std.specs.declared.alloc.Global.{Global as AGlobal};
@@ -12,7 +12,7 @@ ghost use Rattle.nostr_wire.specs.Forms.{relay_form};
 ghost use Rattle.nostr_wire.specs.declared.messages.FromClient.{FromClient};
 ghost use Rattle.relay_core.specs.Asking.{Asks};
 ghost use Rattle.relay_core.specs.Limits.{most_values};
-ghost use Rattle.relay_core.specs.Messages.{event_to};
+ghost use Rattle.relay_core.specs.Messages.{event_to, closed as closed_form};
 ghost use Rattle.relay_core.specs.Requests.{stored_events as all_stored, open_sizes, subscribed, Requests};
 ghost use Rattle.relay_core.specs.Turns.{turn_of};
 
@@ -134,6 +134,13 @@ fn are_within(subs: &[Subscription], filters: &Filters) -> bool
     }
 }
 
+// A request is refused.
+fn refuse(alloc: Global, name: Sub, why: &str) -> Result<Step, AllocError>
+    ensures { IfOk result (λ s. (map relay_form s.out.items ≡ closed_form name why.now ∷ []) × (s.store ≡ None)) }
+{
+    Step::one(alloc, closed(alloc, name, why)?)
+}
+
 /// Serves a request, which ends the subscription of its name.
 pub fn request<J: Naming>(
     talk: &mut Talk,
@@ -148,17 +155,11 @@ pub fn request<J: Naming>(
     ensures reader { IsPrefix reader.old reader.new }
 {
     talk.end_sub(&name);
-    if filters.as_slice().len() > limits.filters {
-        let message = closed(alloc, name, "blocked: too many filters")?;
-        return Ok(Step::one(alloc, message)?);
-    }
-    if !are_within(talk.subs(), &filters) {
-        let message = closed(alloc, name, "blocked: too many filters")?;
-        return Ok(Step::one(alloc, message)?);
+    if filters.as_slice().len() > limits.filters || !are_within(talk.subs(), &filters) {
+        return Ok(refuse(alloc, name, "blocked: too many filters")?);
     }
     if talk.subs().len() >= limits.subs {
-        let message = closed(alloc, name, "blocked: too many subscriptions")?;
-        return Ok(Step::one(alloc, message)?);
+        return Ok(refuse(alloc, name, "blocked: too many subscriptions")?);
     }
     subscribe(talk, alloc, reader, name, filters)
 }

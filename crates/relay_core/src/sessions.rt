@@ -1,5 +1,7 @@
 //! Negentropy sessions (NIP-77).
-ghost use Rattle.std.specs.Prelude.{◌≡◌, ◌≤◌, option_map, IfOk, IfErr, IfSome, None};
+ghost use Rattle.std.specs.Prelude.{◌≡◌, ◌≤◌, ◌∷◌, [], map, option_map, IfOk, IfErr, IfSome, None};
+ghost use Rattle.nostr_wire.specs.Forms.{relay_form};
+ghost use Rattle.relay_core.specs.Messages.{ended as ended_form};
 ghost use mathlib.Core.List.{IsPrefix};
 ghost use Rattle.nostr_wire.specs.declared.messages.FromClient.{FromClient};
 ghost use Rattle.relay_core.specs.Asking.{Asks};
@@ -63,6 +65,13 @@ fn reply(
     }
 }
 
+// A message is refused.
+fn refuse(alloc: Global, name: Sub, why: &str) -> Result<Step, AllocError>
+    ensures { IfOk result (λ s. (map relay_form s.out.items ≡ ended_form name why.now ∷ []) × (s.store ≡ None)) }
+{
+    Step::one(alloc, ended(alloc, name, why)?)
+}
+
 /// Answers a message of the session of this name. A bad one ends it.
 pub fn go_on(
     talk: &mut Talk,
@@ -74,13 +83,13 @@ pub fn go_on(
     ensures { IfOk result (λ s. GoesOn limits.now name query.now talk.old (turn_of s talk.new)) }
 {
     let Some(snapshot) = talk.session(&name) else {
-        return Step::one(alloc, ended(alloc, name, "closed: no such session")?);
+        return refuse(alloc, name, "closed: no such session");
     };
     match reply(alloc, snapshot.roll(), query, limits.limit)? {
         Some(message) => Step::one(alloc, FromRelay::NegMsg { sub: name, message }),
         None => {
             talk.end_session(&name);
-            Step::one(alloc, ended(alloc, name, "invalid: bad message")?)
+            refuse(alloc, name, "invalid: bad message")
         }
     }
 }
@@ -120,14 +129,10 @@ pub fn open<J: Naming>(
 {
     talk.end_session(&name);
     if talk.sessions_len() >= limits.sessions {
-        let message = ended(alloc, name, "blocked: too many sessions")?;
-        return Ok(Step::one(alloc, message)?);
+        return Ok(refuse(alloc, name, "blocked: too many sessions")?);
     }
     match reader.pin_few(alloc, filter, limits.records)? {
         Some(snapshot) => Ok(begin(talk, alloc, limits, name, snapshot, query)?),
-        None => {
-            let message = ended(alloc, name, "blocked: this query is too big")?;
-            Ok(Step::one(alloc, message)?)
-        }
+        None => Ok(refuse(alloc, name, "blocked: this query is too big")?),
     }
 }
