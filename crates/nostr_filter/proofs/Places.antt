@@ -1,5 +1,5 @@
 -- Texts that are looked up by their places.
-use Rattle.std.proofs.Common.{◌≡◌, ◌∙◌, ◌∷◌, [], List, ℕ, Result, Ok, Err, inl, inr, refl, sym, ap, length, arith}
+use Rattle.std.proofs.Common.{◌≡◌, ◌∙◌, ◌∷◌, [], List, ℕ, Result, Ok, Err, inl, inr, refl, sym, ap, length, take, ◌+◌, ◌<◌, ◌++◌, ◌||◌, get_or, bytes_eq, arith}
 use Rattle.std.specs.Prelude.{is_ok}
 use Rattle.std.specs.declared.cmp.Ordering.{Ordering}
 use Rattle.std.specs.Ordering.{nat_cmp, is_eq, ordering_index}
@@ -8,7 +8,8 @@ use Rattle.std.specs.List.{list_any}
 use Rattle.std.specs.List.Sorted.{IsSearchInRange, IsBinarySearchResult, IsNonDecreasingBy}
 use Rattle.std.proofs.lemmas.Bool.{cases_lt}
 use Rattle.std.proofs.lemmas.Cmp.{nat_list_cmp_total}
-use Rattle.std.proofs.lemmas.List.Folds.{list_any_at, list_any_none}
+use Rattle.std.proofs.lemmas.List.{take_more}
+use Rattle.std.proofs.lemmas.List.Folds.{list_any-append, list_any_at, list_any_none}
 use Rattle.std.proofs.lemmas.List.Sorted.{searchable_from_sorted}
 use Rattle.std.proofs.lemmas.Map.Text.{is_eq-slice_cmp}
 use Rattle.nostr_filter.specs.Members.{has_text, text_at, is_at, AreInOrder}
@@ -29,3 +30,11 @@ pub looked : (texts : List (List ℕ)) (places : List ℕ) (text : List ℕ) (r 
 looked texts places text r ordered within found_there =
     found (λ p. slice_cmp nat_cmp (text_at texts p) text) places r within found_there (searchable_from_sorted nat_list_cmp_total (text_at texts) places text ordered.ascend)
     ∙ (matched texts places text ∙ ordered.all text)
+
+-- the places to one more number are those of one more text
+pub one_more : (texts : List (List ℕ)) (places : List ℕ) (i : ℕ) (text : List ℕ) → i < length texts
+    → is_at texts places text ≡ has_text (take i texts) text → is_at texts (places ++ i ∷ []) text ≡ has_text (take (i + 1) texts) text
+one_more texts places i text below so_far =
+    let last = get_or texts i [] ∷ [] in
+    list_any-append (λ p. bytes_eq (text_at texts p) text) places (i ∷ []) ∙ ap (λ b. b || has_text last text) so_far
+    ∙ sym (list_any-append (λ t. bytes_eq t text) (take i texts) last) ∙ ap (λ ts. has_text ts text) (sym (take_more texts i [] below))
