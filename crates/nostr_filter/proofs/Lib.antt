@@ -13,3 +13,4 @@ pub mod TagLooking
 pub mod TagReading
 pub mod Taken
 pub mod Tagged
+pub mod Viewed
