@@ -1,7 +1,7 @@
 // A filter written as its JSON object.
-ghost use Rattle.std.specs.Prelude.{◌≡◌, ◌<◌, ◌^◌, true, IfOk, OnOk, option_map, All};
+ghost use Rattle.std.specs.Prelude.{◌≡◌, ◌<◌, ◌^◌, true, IfOk, OnOk, option_map, codes, All};
 ghost use Rattle.hex.specs.Hex.{encode_lower};
-ghost use Rattle.serde_json.specs.Data.{put as put_member, string};
+ghost use Rattle.serde_json.specs.Data.{put as put_member, string, no_members};
 ghost use Rattle.serde_json.specs.View.{view, members_view};
 ghost use Rattle.nostr_event.specs.EventView.{IsBytesOf};
 ghost use Rattle.nostr_filter.specs.Tags.{are_in_order, tag_name};
@@ -100,6 +100,34 @@ fn put_value(
     Ok(())
 }
 
+// The members that are numbers.
+fn whole_map(alloc: Global, filter: &Filter) -> Result<Map<String, Value>, AllocError>
+    ensures { IfOk result (λ m. members_view m.entries ≡ put_given (codes "limit") (option_map whole_data filter.now.limit)
+        (put_given (codes "since") (option_map whole_data filter.now.since) (put_given (codes "until") (option_map whole_data filter.now.until) no_members))) }
+{
+    let mut map = Map::new(alloc);
+    put_value(&mut map, alloc, "until", whole_given(filter.until))?;
+    put_value(&mut map, alloc, "since", whole_given(filter.since))?;
+    put_value(&mut map, alloc, "limit", whole_given(filter.limit))?;
+    Ok(map)
+}
+
+// Puts the lists that are given.
+fn put_lists(
+    map: &mut Map<String, Value>,
+    alloc: Global,
+    authors: Option<Value>,
+    ids: Option<Value>,
+    kinds: Option<Value>,
+) -> Result<(), AllocError>
+    ensures { OnOk result (members_view map.new.entries ≡ put_given (codes "authors") (option_map view authors)
+        (put_given (codes "ids") (option_map view ids) (put_given (codes "kinds") (option_map view kinds) (members_view map.old.entries)))) }
+{
+    put_value(map, alloc, "kinds", kinds)?;
+    put_value(map, alloc, "ids", ids)?;
+    put_value(map, alloc, "authors", authors)
+}
+
 // The members but for the conditions on tags.
 fn named_map(alloc: Global, filter: &Filter) -> Result<Map<String, Value>, AllocError>
     ensures members { IfOk result (λ m. members_view m.entries ≡ named_members filter.now) }
@@ -107,16 +135,11 @@ fn named_map(alloc: Global, filter: &Filter) -> Result<Map<String, Value>, Alloc
     ensures ids { IfOk result (λ _. All32 filter.now.ids) }
     ensures kinds { IfOk result (λ _. AllKinds filter.now.kinds) }
 {
-    let mut map = Map::new(alloc);
     let authors = hex_given(alloc, &filter.authors)?;
     let ids = hex_given(alloc, &filter.ids)?;
     let kinds = kinds_given(alloc, &filter.kinds)?;
-    put_value(&mut map, alloc, "until", whole_given(filter.until))?;
-    put_value(&mut map, alloc, "since", whole_given(filter.since))?;
-    put_value(&mut map, alloc, "limit", whole_given(filter.limit))?;
-    put_value(&mut map, alloc, "kinds", kinds)?;
-    put_value(&mut map, alloc, "ids", ids)?;
-    put_value(&mut map, alloc, "authors", authors)?;
+    let mut map = whole_map(alloc, filter)?;
+    put_lists(&mut map, alloc, authors, ids, kinds)?;
     Ok(map)
 }
 
