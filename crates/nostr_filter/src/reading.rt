@@ -1,9 +1,9 @@
 // A filter read from its JSON object.
-ghost use Rattle.std.specs.Prelude.{◌≡◌, ◌≢◌, IfOk, IfErr, IsTrue};
+ghost use Rattle.std.specs.Prelude.{◌≡◌, ◌≢◌, Some, IfOk, IfErr, IsTrue, codes};
 ghost use Rattle.serde_json.specs.Data.{object, no_members};
 ghost use Rattle.serde_json.specs.View.{view};
 ghost use Rattle.nostr_filter.specs.declared.filter.Filter.{Filter as FilterView};
-ghost use Rattle.nostr_filter.specs.FilterJson.{Passes, Reads, Refuses, HasShapes};
+ghost use Rattle.nostr_filter.specs.FilterJson.{whole_of, field as read_field, Passes, Reads, Refuses, HasShapes};
 
 use crate::conditions::{Bytes32List, Kinds};
 use crate::fault::{FilterFault, FilterField};
@@ -25,6 +25,31 @@ pub struct Shapes {
     pub until: Option<u64>,
 }
 
+// The fields that are numbers.
+struct Wholes {
+    limit: Option<u64>,
+    since: Option<u64>,
+    until: Option<u64>,
+}
+
+// They, of a value that passes all tests.
+fn wholes_of(value: &Value) -> Result<Wholes, FilterFault>
+    requires { Passes (view value.now) }
+    ensures limit { IfOk result (λ w. read_field whole_of (codes "limit") (view value.now) ≡ Some w.limit) }
+    ensures since { IfOk result (λ w. read_field whole_of (codes "since") (view value.now) ≡ Some w.since) }
+    ensures until { IfOk result (λ w. read_field whole_of (codes "until") (view value.now) ≡ Some w.until) }
+    ensures err { IfErr result (λ f. Refuses (view value.now) f) }
+{
+    let limit = whole_at(value, FilterField::Limit, "limit")?;
+    let since = whole_at(value, FilterField::Since, "since")?;
+    let until = whole_at(value, FilterField::Until, "until")?;
+    Ok(Wholes {
+        limit,
+        since,
+        until,
+    })
+}
+
 // The fields but the conditions on tags, of a value that passes all tests.
 fn shapes_of(alloc: Global, value: &Value) -> Result<Shapes, FilterFault>
     requires { Passes (view value.now) }
@@ -34,9 +59,11 @@ fn shapes_of(alloc: Global, value: &Value) -> Result<Shapes, FilterFault>
     let authors = bytes_at(alloc, value, "authors")?;
     let ids = bytes_at(alloc, value, "ids")?;
     let kinds = kinds_at(alloc, value, "kinds")?;
-    let limit = whole_at(value, FilterField::Limit, "limit")?;
-    let since = whole_at(value, FilterField::Since, "since")?;
-    let until = whole_at(value, FilterField::Until, "until")?;
+    let Wholes {
+        limit,
+        since,
+        until,
+    } = wholes_of(value)?;
     Ok(Shapes {
         authors,
         ids,

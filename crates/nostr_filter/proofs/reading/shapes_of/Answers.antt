@@ -1,7 +1,7 @@
 use Rattle.std.proofs.Common.{Some, refl}
 use Rattle.std.proofs.lemmas.Result.{err_from_is_err_and}
 use Rattle.serde_json.specs.View.{view}
-use Rattle.nostr_filter.specs.declared.fault.FilterField.TheVariants.{Kinds, Limit, Since, Until}
+use Rattle.nostr_filter.specs.declared.fault.FilterField.TheVariants.{Kinds}
 use Rattle.nostr_filter.proofs.ShapeTests.{refuse_or, tags_pass, named_refuse}
 use Rattle.nostr_filter.proofs.reading.shapes_of.Goals as goal
 
@@ -15,20 +15,4 @@ returns-in_err-kinds-clause-err c =
 pub returns-in_err-limit-clause-err : goal.returns-in_err-limit-clause-err
 returns-in_err-limit-clause-err c =
     let p = err_from_is_err_and c.from_residual-in_err-limit.result c.from_residual-in_err-limit.ensures.1 in
-    let d = view c.args.value.now in
-    let both = tags_pass d c.requires.0 in
-    rw (p.1, p.2) (rw (c.in_err-limit.ensures.err.0) (named_refuse d (Some Limit) both.0 both.1 (rw (c.in_ok-authors.ensures.0, c.in_ok-ids.ensures.0, c.in_ok-kinds.ensures.ok, c.in_err-limit.ensures.err.1) refl)))
-
-pub returns-in_err-since-clause-err : goal.returns-in_err-since-clause-err
-returns-in_err-since-clause-err c =
-    let p = err_from_is_err_and c.from_residual-in_err-since.result c.from_residual-in_err-since.ensures.1 in
-    let d = view c.args.value.now in
-    let both = tags_pass d c.requires.0 in
-    rw (p.1, p.2) (rw (c.in_err-since.ensures.err.0) (named_refuse d (Some Since) both.0 both.1 (rw (c.in_ok-authors.ensures.0, c.in_ok-ids.ensures.0, c.in_ok-kinds.ensures.ok, c.in_ok-limit.ensures.ok, c.in_err-since.ensures.err.1) refl)))
-
-pub returns-in_err-until-clause-err : goal.returns-in_err-until-clause-err
-returns-in_err-until-clause-err c =
-    let p = err_from_is_err_and c.from_residual-in_err-until.result c.from_residual-in_err-until.ensures.1 in
-    let d = view c.args.value.now in
-    let both = tags_pass d c.requires.0 in
-    rw (p.1, p.2) (rw (c.in_err-until.ensures.err.0) (named_refuse d (Some Until) both.0 both.1 (rw (c.in_ok-authors.ensures.0, c.in_ok-ids.ensures.0, c.in_ok-kinds.ensures.ok, c.in_ok-limit.ensures.ok, c.in_ok-since.ensures.ok, c.in_err-until.ensures.err.1) refl)))
+    rw (p.1, p.2) c.in_err-limit.ensures.err
