@@ -18,21 +18,15 @@ returns-clause-text c =
     let e : EventView = record { id = c.args.id.now; draft = d; sig = c.args.sig.now } in
     rw (
       object_is e,
-      c.in_ok-put_text-8.ensures.text,
-      c.in_ok-put_tags.ensures.text,
-      c.in_ok-put_text-7.ensures.text,
-      c.in_ok-put_quoted-3.ensures.text,
-      c.in_ok-put_text-6.ensures.text,
-      c.in_ok-put_quoted-2.ensures.text,
-      c.in_ok-put_text-5.ensures.text,
-      c.in_ok-put_number-2.ensures.text,
-      c.in_ok-put_text-4.ensures.text,
-      c.in_ok-put_quoted.ensures.text,
-      c.in_ok-put_text-3.ensures.text,
-      c.in_ok-put_number.ensures.text,
       c.in_ok-put_text-2.ensures.text,
-      c.in_ok-put_string.ensures.text,
+      c.in_ok-put_tags.ensures.text,
       c.in_ok-put_text.ensures.text,
+      c.in_ok-put_text_and_digits-3.ensures.text,
+      c.in_ok-put_text_and_digits-2.ensures.text,
+      c.in_ok-put_text_and_number-2.ensures.text,
+      c.in_ok-put_text_and_digits.ensures.text,
+      c.in_ok-put_text_and_number.ensures.text,
+      c.in_ok-put_text_and_string.ensures.text,
       c.as_str.ensures,
       c.digits32_of.ensures,
       c.digits32_of-2.ensures,
@@ -48,8 +42,7 @@ returns-clause-utf8 c = λ u.
     let id : IsUtf8 c.digits32_of.result = subst IsUtf8 (sym c.digits32_of.ensures) (digits_utf8 _) in
     let key : IsUtf8 c.digits32_of-2.result = subst IsUtf8 (sym c.digits32_of-2.ensures) (digits_utf8 _) in
     let sig : IsUtf8 c.digits64_of.result = subst IsUtf8 (sym c.digits64_of.ensures) (digits_utf8 _) in
-    let created_at = c.in_ok-put_number.ensures.utf8 (c.in_ok-put_text-2.ensures.utf8 (c.in_ok-put_string.ensures.utf8 (c.in_ok-put_text.ensures.utf8 u))) in
-    let kind = c.in_ok-put_number-2.ensures.utf8 (c.in_ok-put_text-4.ensures.utf8 (c.in_ok-put_quoted.ensures.utf8 id (c.in_ok-put_text-3.ensures.utf8 created_at))) in
-    let keys = c.in_ok-put_quoted-2.ensures.utf8 key (c.in_ok-put_text-5.ensures.utf8 kind) in
-    let sigs = c.in_ok-put_quoted-3.ensures.utf8 sig (c.in_ok-put_text-6.ensures.utf8 keys) in
-    c.in_ok-put_text-8.ensures.utf8 (c.in_ok-put_tags.ensures.utf8 (c.in_ok-put_text-7.ensures.utf8 sigs))
+    let created_at = c.in_ok-put_text_and_number.ensures.utf8 (c.in_ok-put_text_and_string.ensures.utf8 u) in
+    let kind = c.in_ok-put_text_and_number-2.ensures.utf8 (c.in_ok-put_text_and_digits.ensures.utf8 id created_at) in
+    let sigs = c.in_ok-put_text_and_digits-3.ensures.utf8 sig (c.in_ok-put_text_and_digits-2.ensures.utf8 key kind) in
+    c.in_ok-put_text-2.ensures.utf8 (c.in_ok-put_tags.ensures.utf8 (c.in_ok-put_text.ensures.utf8 sigs))
