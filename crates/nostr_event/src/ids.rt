@@ -1,7 +1,8 @@
 // The text of a draft, and the digest of it that is an event's id.
-ghost use Rattle.std.specs.Prelude.{◌≡◌, ◌<◌, ◌∷◌, ◌++◌, flat_map, length, OnOk, IfOk, string_bytes, decimal};
+ghost use Rattle.std.specs.Prelude.{◌≡◌, ◌<◌, ◌∷◌, ◌++◌, flat_map, length, OnOk, IfOk, string_bytes, decimal, codes};
 ghost use Rattle.std.specs.Char.{digit_char};
 ghost use Rattle.std.specs.Str.{IsUtf8};
+ghost use Rattle.hex.specs.Hex.{encode_lower};
 ghost use Rattle.sha2.specs.Sha256.{sha256};
 ghost use Rattle.nostr_event.specs.IdText.{escape_letter, byte_text, string_text, tag_text, tags_text, id_text_of};
 
@@ -186,22 +187,42 @@ fn room_for(draft: &Draft) -> usize {
         .max(MOST_TEXTS)
 }
 
+// The text up to the tags.
+fn put_head(out: &mut Vec<u8>, draft: &Draft, spelling: Spelling) -> Result<(), AllocError>
+    ensures text { OnOk result (out.new.items ≡ out.old.items ++ (codes "[0," ++ string_text spelling (encode_lower draft.now.pubkey) ++ codes ","
+        ++ decimal draft.now.created_at ++ codes "," ++ decimal draft.now.kind ++ codes ",")) }
+    ensures utf8 { OnOk result (IsUtf8 out.old.items → IsUtf8 out.new.items) }
+{
+    out.extend_from_slice(b"[0,")?;
+    put_quoted(out, &digits32_of(&draft.pubkey), spelling)?;
+    out.push(b',')?;
+    put_number(out, draft.created_at)?;
+    out.push(b',')?;
+    put_number(out, u64::from(draft.kind))?;
+    out.push(b',')?;
+    Ok(())
+}
+
+// The tags, and all behind them.
+fn put_tail(out: &mut Vec<u8>, draft: &Draft, spelling: Spelling) -> Result<(), AllocError>
+    ensures text { OnOk result (out.new.items ≡ out.old.items ++ (tags_text spelling draft.now.tags ++ codes ","
+        ++ string_text spelling draft.now.content ++ codes "]")) }
+    ensures utf8 { OnOk result (IsUtf8 out.old.items → IsUtf8 out.new.items) }
+{
+    put_tags(out, &draft.tags, spelling)?;
+    out.push(b',')?;
+    put_string(out, draft.content.as_str(), spelling)?;
+    out.push(b']')?;
+    Ok(())
+}
+
 fn id_bytes(alloc: Global, draft: &Draft, spelling: Spelling) -> Result<Vec<u8>, AllocError>
     ensures text { IfOk result (λ v. v.items ≡ id_text_of spelling draft.now) }
     ensures utf8 { IfOk result (λ v. IsUtf8 v.items) }
 {
     let mut out = Vec::with_capacity(alloc, room_for(draft))?;
-    out.extend_from_slice(b"[0,")?;
-    put_quoted(&mut out, &digits32_of(&draft.pubkey), spelling)?;
-    out.push(b',')?;
-    put_number(&mut out, draft.created_at)?;
-    out.push(b',')?;
-    put_number(&mut out, u64::from(draft.kind))?;
-    out.push(b',')?;
-    put_tags(&mut out, &draft.tags, spelling)?;
-    out.push(b',')?;
-    put_string(&mut out, draft.content.as_str(), spelling)?;
-    out.push(b']')?;
+    put_head(&mut out, draft, spelling)?;
+    put_tail(&mut out, draft, spelling)?;
     Ok(out)
 }
 
