@@ -14,6 +14,7 @@ use Rattle.neg_initiator.specs.Session.{Session, Starts, Taken, IsDone}
 use Rattle.neg_initiator.specs.Settled.{HasOnePrint, ToldApart, OneTime, Settled, Needs, Has}
 use Rattle.neg_initiator.proofs.Ends.{settled_first, settled_last}
 use Rattle.neg_session.specs.Exchange.{Exchange, gained}
+use Rattle.neg_session.specs.Asking.{MayAsk}
 use Rattle.neg_session.specs.Ran.{trusted_of, IsRight, LastAnswer, IsRefusedAnswer, AsksForFew, Ran}
 use Rattle.neg_session.specs.Going.{Knows, IsRead, Going}
 use Rattle.neg_session.specs.Faults.{fault_of}
@@ -151,3 +152,16 @@ module _ (own : List Item) (limits : SessionLimits) (asked : ℕ) (old now new :
   pub ran_unanswered : asked ≤ limits.rounds → (f : PeerFault) → (f ≡ peer.Failed → after < last) → (f ≡ peer.Memory → last ≡ after) → Ran own limits old new before last (Err (fault_of f))
   ran_unanswered room peer.Failed rose same_count = ran_quiet room PeerFailed (λ e. rose refl) (λ no. absurd (no refl)) (λ c e. cc) (λ e. cc) (λ e. cc) (λ e. cc)
   ran_unanswered room peer.Memory rose same_count = ran_quiet room Memory (λ e. cc) (λ no. same_count refl) (λ c e. cc) (λ e. cc) (λ e. cc) (λ e. cc)
+
+  -- which the session tells as its own fault
+  pub ran_told : asked < limits.rounds → (f : PeerFault) → (f ≡ peer.Failed → after < last) → (f ≡ peer.Memory → last ≡ after) → (r : Result Outcome SessionFault) (e : SessionFault) → r ≡ Err e → e ≡ fault_of f
+      → Ran own limits old new before last r
+  ran_told round f rose same_count r e is told =
+      let ends : Err (fault_of f) ≡ r = ap Err (sym told) ∙ sym is in
+      subst (Ran own limits old new before last) ends (ran_unanswered (omega (arith, round)) f rose same_count)
+
+  -- it failed at a question that may come next
+  pub may_fail : (Fails : List ℕ → Type 0) (asks : List ℕ) → asks ≡ question → (f : PeerFault) → (f ≡ peer.Failed → Fails asks) → (r : Result Outcome SessionFault) (e : SessionFault) → r ≡ Err e → e ≡ fault_of f → r ≡ Err PeerFailed
+      → (q : List ℕ) × MayAsk limits.limit own (gained old new) q × Fails q
+  may_fail Fails asks is_asked peer.Failed fails r e is told failed = (question, rw same going.may, subst Fails is_asked (fails refl))
+  may_fail Fails asks is_asked peer.Memory fails r e is told failed = absurd cc

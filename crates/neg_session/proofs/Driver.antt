@@ -1,6 +1,8 @@
 -- How a session goes on, or ends, after another exchange.
-use Rattle.std.proofs.Common.{◌≡◌, ℕ, ◌+◌, ◌<◌, ◌≤◌, ◌++◌, ◌⊎◌, inl, inr, List, [], ◌∷◌, length, Result, Ok, Err, sym, ap, ◌∙◌, subst, arith, append_assoc, length-append}
-use Rattle.std.specs.Prelude.{◌↔◌, All, Contains}
+use Rattle.std.proofs.Common.{◌≡◌, ℕ, ◌+◌, ◌<◌, ◌≤◌, ◌++◌, ◌-◌, ◌⊎◌, ◌==◌, inl, inr, Bool, false, List, [], ◌∷◌, length, Result, Ok, Err, sym, ap, ◌∙◌, subst, arith, append_assoc, length-append}
+use Rattle.std.specs.Prelude.{◌↔◌, All, Contains, Vec}
+use Rattle.std.specs.Global.{Global}
+use Rattle.std.proofs.lemmas.Bool.{eqb-true, eqb-false}
 use Rattle.std.proofs.lemmas.List.Elements.{All-push, All-contains}
 use Rattle.neg_codec.specs.declared.CodecFault.{CodecFault}
 use Rattle.neg_codec.specs.declared.Id.{Id}
@@ -12,6 +14,8 @@ use Rattle.neg_codec.specs.Text.{Spells}
 use Rattle.neg_codec.specs.Encoding.{text_of}
 use Rattle.item_roll.specs.Truth.{IsTrueOf, Follows}
 use Rattle.neg_initiator.specs.declared.initiator.Outcome.{Outcome}
+use Rattle.neg_initiator.specs.declared.initiator.Next.{Next}
+use Rattle.neg_initiator.specs.declared.initiator.Next.TheVariants.{Ask, Done}
 use Rattle.neg_initiator.specs.Listed.{IsListed, IsListedWhere, IsUnlisted, Distinct, PassesMost}
 use Rattle.neg_initiator.specs.Session.{Session, Taken, GoesOn, IsDone, NotAskedAgain, RefusesReply, IsAskDue}
 use Rattle.neg_initiator.specs.Settled.{IsSkipped}
@@ -20,6 +24,7 @@ use Rattle.neg_session.specs.Exchange.{Exchange, exchange, gained, answered_byte
 use Rattle.neg_session.specs.Explaining.{Explains}
 use Rattle.neg_session.specs.Asking.{Resumes, Chained}
 use Rattle.neg_session.specs.Ran.{trusted_of, LastAnswer, IsRefusedAnswer, IsOffered, IsWithheld, AsksForFew, IsShown, IsDue, Ran}
+use Rattle.neg_session.specs.Turn.{GoesBy, EndsBy}
 use Rattle.neg_session.specs.Going.{Knows, IsRead, Going}
 use Rattle.neg_session.specs.declared.limits.SessionLimits.{SessionLimits}
 use Rattle.neg_session.specs.declared.fault.SessionFault.{SessionFault}
@@ -203,14 +208,43 @@ module _ (own : List Item) (limits : SessionLimits) (asked : ℕ) (old now new :
       is : {f : SessionFault} → ◌≡◌ {A = Result Outcome SessionFault} (Err e) (Err f) → e ≡ f
       is h = cc
 
-  not_refused : (m : List Span) → message_at reply ≡ Ok m → (c : CodecFault) → IsRefusedAnswer c reply → ⊥
-  not_refused m read c refused = let r = read in cc
+  -- an answer that was taken asks for few ids, whatever comes next
+  taken_for_few : (next : Session) (n : Next) → GoesBy reply s next n → AsksForFew limits.limit own limits.need (exchange question reply)
+  taken_for_few next (Ask text) g = asks_for_few next g.answered g.read g.taken g.within (inr (text.items, g.leaves.spelled, next_resumes next g.answered text.items g.spells g.taken g.leaves))
+  taken_for_few next Done g = asks_for_few next g.answered g.read g.taken g.within (inl g.leaves.skips_all)
 
-  -- no question may follow
-  pub ran_rounds : asked < limits.rounds → asked + 1 ≡ limits.rounds → IsAskDue own reply → AsksForFew limits.limit own limits.need (exchange question reply) → (m : List Span) → message_at reply ≡ Ok m → Ran own limits old new before last (Err Rounds)
-  ran_rounds round end due few m read = ran_fault round Rounds (λ e. cc) (λ c e. cc) (λ e. (end, due, few)) (λ e. cc) (λ e. cc) (λ c r l. absurd (not_refused m read c l))
+  due_here : IsAskDue s.roll reply → IsAskDue own reply
+  due_here due = subst (λ (w : List Item). IsAskDue w reply) going.roll due
 
-  -- the answers have too many bytes
-  pub ran_log_full : asked < limits.rounds → left < length reply → (asked + 1 < limits.rounds) ⊎ (IsAskDue own reply → ⊥) → AsksForFew limits.limit own limits.need (exchange question reply) → (m : List Span) → message_at reply ≡ Ok m
-      → Ran own limits old new before last (Err LogFull)
-  ran_log_full round more lowest few m read = ran_fault round LogFull (λ e. cc) (λ c e. cc) (λ e. cc) (λ e. cc) (λ e. (more, lowest, few)) (λ c r l. absurd (not_refused m read c l))
+  due_there : IsAskDue own reply → IsAskDue s.roll reply
+  due_there due = subst (λ (w : List Item). IsAskDue w reply) (sym going.roll) due
+
+  -- the answer ends it with a fault
+  pub ran_ended : (answer : List ℕ) → answer ≡ reply → asked < limits.rounds → (is_last : Bool) → is_last ≡ (asked + 1 == limits.rounds) → (next : Session) (e : SessionFault) → EndsBy answer left is_last s next e
+      → Ran own limits old new before last (Err e)
+  ran_ended answer is round is_last means next e by =
+      let ends : EndsBy reply left is_last s next e = subst (λ (r : List ℕ). EndsBy r left is_last s next e) is by in
+      ran_fault round e ends.failed ends.bad
+      (λ h. let r = ends.rounds h in (eqb-true (asked + 1) limits.rounds (sym means ∙ r.0), due_here r.1, taken_for_few next r.2.0 r.2.1))
+      ends.need_full
+      (λ h. let f = ends.log_full h in (f.0, elim f.1 [ inl more ↦ inl (fewer more) | inr over ↦ inr (λ due. over (due_there due)) ], taken_for_few next f.2.0 f.2.1))
+      ends.refused
+    where
+      fewer : is_last ≡ false → asked + 1 < limits.rounds
+      fewer more = let no : asked + 1 ≡ limits.rounds → ⊥ = eqb-false (asked + 1) limits.rounds (sym means ∙ more) in omega (arith, no, round)
+
+  -- the next question is asked
+  pub going_asked : OneMessage → (answer : List ℕ) → answer ≡ reply → (next : Session) (n : Next) → GoesBy answer s next n → (text : Vec ℕ Global) → n ≡ Ask text → (size : ℕ) → size ≡ length reply → length answer ≤ left
+      → Going own limits (asked + 1) old new before last text.items (left - size) next
+  going_asked one answer heard next n goes text is size is_size room =
+      let g : GoesBy reply s next (Ask text) = subst (λ (m : Next). GoesBy reply s next m) is (subst (λ (r : List ℕ). GoesBy r s next n) heard goes) in
+      let same_length : length answer ≡ length reply = ap length heard in
+      going_more one next g.answered text.items (left - size) (omega (arith, same_length)) g.spells g.read g.taken g.within g.leaves g.due
+
+  -- all is settled
+  pub ran_answered : OneMessage → (answer : List ℕ) → answer ≡ reply → (next : Session) (n : Next) → GoesBy answer s next n → n ≡ Done → asked < limits.rounds → length answer ≤ left
+      → (o : Outcome) → o.need.keys ≡ next.need → o.have.keys ≡ next.have → ((t : Item × Item) → Contains (trusted_of o) t ↔ Contains next.trusted t) → Distinct o.trusted.items
+      → Ran own limits old new before last (Ok o)
+  ran_answered one answer heard next n goes is round room =
+      let g : GoesBy reply s next Done = subst (λ (m : Next). GoesBy reply s next m) is (subst (λ (r : List ℕ). GoesBy r s next n) heard goes) in
+      ran_done one next g.answered round (subst (λ (r : List ℕ). length r ≤ left) heard room) g.spells g.read g.taken g.within g.leaves g.due

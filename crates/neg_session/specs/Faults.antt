@@ -1,5 +1,7 @@
 -- The numbers of a session's faults.
-use Rattle.std.specs.Prelude.{ℕ}
+use Rattle.std.specs.Prelude.{◌≡◌, ℕ}
+use Rattle.neg_initiator.specs.declared.fault.InitFault.{InitFault}
+use Rattle.neg_initiator.specs.declared.fault.InitFault.TheVariants as initiator
 use Rattle.neg_session.specs.declared.fault.SessionFault.{SessionFault}
 use Rattle.neg_session.specs.declared.fault.SessionFault.TheVariants.{PeerFailed, Bad, Rounds, NeedFull, LogFull, Memory}
 use Rattle.neg_session.specs.declared.peer.PeerFault.{PeerFault}
@@ -17,3 +19,10 @@ number_of Memory = 6
 abbrev pub fault_of : PeerFault → SessionFault
 fault_of peer.Failed = PeerFailed
 fault_of peer.Memory = Memory
+
+-- what a fault of the initiator makes of it; a spent one is never asked
+abbrev pub IsToldAs : InitFault → SessionFault → Type 0
+IsToldAs (initiator.Bad c) e = e ≡ Bad c
+IsToldAs initiator.NeedFull e = e ≡ NeedFull
+IsToldAs initiator.Memory e = e ≡ Memory
+IsToldAs initiator.Spent e = ⊥

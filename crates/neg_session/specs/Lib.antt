@@ -5,5 +5,6 @@ pub mod Limits
 pub mod Most
 pub mod Faults
 pub mod Ran
+pub mod Turn
 pub mod Going
 pub mod Local

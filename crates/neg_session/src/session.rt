@@ -1,8 +1,12 @@
 //! A whole session.
 
-ghost use Rattle.std.specs.Prelude.{◌≡◌, ◌<◌, ◌^◌, ◌-◌, ◌+◌, ℕ, List, length, IfSome, None, Err};
+ghost use Rattle.std.specs.Prelude.{◌≡◌, ◌≢◌, ◌<◌, ◌≤◌, ◌^◌, ◌-◌, ◌+◌, ℕ, List, length, IfOk, OnOk, IfErr, IsTrue, Err};
+ghost use Rattle.neg_initiator.specs.Session.{IsAskDue};
+ghost use Rattle.neg_initiator.specs.declared.phase.Phase.TheVariants as phase;
 ghost use Rattle.neg_session.specs.Exchange.{gained};
 ghost use Rattle.neg_session.specs.Asking.{MayAsk};
+ghost use Rattle.neg_session.specs.Faults.{IsToldAs};
+ghost use Rattle.neg_session.specs.Turn.{GoesBy, EndsBy};
 ghost use Rattle.neg_session.specs.Ran.{Ran};
 
 use crate::fault::SessionFault;
@@ -13,12 +17,39 @@ use neg_codec::one_message;
 use neg_initiator::{InitFault, Initiator, Next, Outcome};
 use std::alloc::Global;
 
-/// How many bytes may still be answered after an answer.
-fn left_after(left: usize, answer: &[u8]) -> Option<usize>
-    ensures some { IfSome result (λ n. n + length answer.now ≡ left) }
-    ensures none { result ≡ None → left < length answer.now }
+/// How a session ends whose answer wasn't taken.
+fn told_as(fault: InitFault) -> SessionFault
+    requires { fault ≢ InitFault.Spent }
+    ensures { IsToldAs fault result }
 {
-    left.checked_sub(answer.len())
+    match fault {
+        InitFault::Bad(fault) => SessionFault::Bad(fault),
+        InitFault::NeedFull => SessionFault::NeedFull,
+        InitFault::Memory => SessionFault::Memory,
+        InitFault::Spent => unreachable!(),
+    }
+}
+
+/// Takes an answer, and gives what comes next. So many bytes may still be answered, this one's among them, and after the last
+/// answer nothing may be asked.
+fn take_answer(
+    initiator: &mut Initiator,
+    answer: &[u8],
+    left: usize,
+    is_last: bool,
+) -> Result<Next, SessionFault>
+    requires { initiator.old.phase ≡ phase.Asking }
+    ensures goes { IfOk result (GoesBy answer.now initiator.old initiator.new) }
+    ensures room { OnOk result (length answer.now ≤ left) }
+    ensures last { OnOk result (IsTrue is_last → IsAskDue initiator.old.roll answer.now → ⊥) }
+    ensures ends { IfErr result (EndsBy answer.now left is_last initiator.old initiator.new) }
+{
+    match initiator.take(answer) {
+        Ok(Next::Ask(_)) if is_last => Err(SessionFault::Rounds),
+        Ok(_) if left < answer.len() => Err(SessionFault::LogFull),
+        Ok(next) => Ok(next),
+        Err(fault) => Err(told_as(fault)),
+    }
 }
 
 /// Asks the peer until all is settled, and gives what was found. A fault ends the session, and the
@@ -44,27 +75,14 @@ pub fn reconcile_with<P: Peer>(
     let mut left = limits.log;
     for round in 0..limits.rounds {
         let answer = peer.ask(&question)?;
-        match initiator.take(&answer) {
+        let is_last = round + 1 == limits.rounds;
+        match take_answer(&mut initiator, &answer, left, is_last) {
             Ok(Next::Ask(next)) => {
-                if round + 1 == limits.rounds {
-                    return Err(SessionFault::Rounds);
-                }
-                match left_after(left, &answer) {
-                    Some(rest) => left = rest,
-                    None => return Err(SessionFault::LogFull),
-                }
+                left -= answer.len();
                 question = next;
             }
-            Ok(Next::Done) => {
-                return match left_after(left, &answer) {
-                    Some(_) => Ok(initiator.outcome()),
-                    None => Err(SessionFault::LogFull),
-                };
-            }
-            Err(InitFault::Bad(fault)) => return Err(SessionFault::Bad(fault)),
-            Err(InitFault::NeedFull) => return Err(SessionFault::NeedFull),
-            Err(InitFault::Memory) => return Err(SessionFault::Memory),
-            Err(InitFault::Spent) => unreachable!(),
+            Ok(Next::Done) => return Ok(initiator.outcome()),
+            Err(fault) => return Err(fault),
         }
     }
     Err(SessionFault::Rounds)
