@@ -1,3 +1,4 @@
+pub mod Arrays
 pub mod Printed
 pub mod FieldTests
 pub mod Find
