@@ -1,5 +1,6 @@
 -- Items of JSON arrays that read as one thing each.
-use Rattle.std.proofs.Common.{◌≡◌, ℕ, zero, suc, ◌<◌, ◌^◌, List, [], ◌∷◌, ◌++◌, length, get_or, map, Option, None, Some, is_some, ◌&&◌, option_map, option_and_then, All, nat_lt, true, refl, ap, ◌∙◌, arith}
+use Rattle.std.proofs.Common.{◌≡◌, ℕ, zero, suc, ◌+◌, ◌<◌, ◌^◌, List, [], ◌∷◌, ◌++◌, length, get_or, map, take, Option, None, Some, is_some, ◌&&◌, option_map, option_and_then, All, nat_lt, true, refl, sym, ap, ap₂, ◌∙◌, arith}
+use Rattle.std.proofs.lemmas.List.{take_more, map-append}
 use Rattle.std.proofs.lemmas.List.Elements.{All-head, All-tail}
 use Rattle.std.proofs.lemmas.Bool.{and_parts, lt-ltb}
 use Rattle.std.specs.List.{list_all}
@@ -18,6 +19,15 @@ each_some p (v ∷ vs) (x ∷ xs) e =
     let head : p (view v) ≡ Some x = cc in
     let tail : map (λ w. p (view w)) vs ≡ map Some xs = cc in
     rw (head, each_some p vs xs tail) refl
+
+-- one more value reads as one more thing
+pub each_more : {X : Type 0} (p : Data → Option X) (vs : List Value) (i : ℕ) (v : Value) (xs : List X) (x : X) → i < length vs → v ≡ get_or vs i v
+    → map (λ u. p (view u)) (take i vs) ≡ map Some xs → p (view v) ≡ Some x → map (λ u. p (view u)) (take (i + 1) vs) ≡ map Some (xs ++ x ∷ [])
+each_more {X = X} p vs i v xs x below at so_far here =
+    let read = λ (u : Value). p (view u) in
+    let whole : take (i + 1) vs ≡ take i vs ++ v ∷ [] = take_more vs i v below ∙ ap (λ u. take i vs ++ u ∷ []) (sym at) in
+    ap (map read) whole ∙ map-append read (take i vs) (v ∷ []) ∙ ap₂ (λ os (o : Option X). os ++ o ∷ []) so_far here
+    ∙ sym (map-append Some xs (x ∷ []))
 
 none_after : {X : Type 0} (o : Option X) → option_and_then (λ x. option_map (λ (xs : List X). x ∷ xs) None) o ≡ None
 none_after None = refl

@@ -2,8 +2,14 @@ use Rattle.std.proofs.Common.{◌≡◌, ◌∙◌, None, Some, inr, map, refl, 
 use Rattle.std.proofs.lemmas.List.{take_all}
 use Rattle.serde_json.specs.View.{view}
 use Rattle.nostr_filter.specs.FilterJson.{kind_of}
-use Rattle.nostr_filter.proofs.Items.{each_none, each_some}
+use Rattle.nostr_filter.proofs.Items.{each_more, each_none, each_some}
 use Rattle.nostr_filter.proofs.fields.kinds_in.Goals as goal
+
+pub loop-value-preserved : goal.loop-value-preserved
+loop-value-preserved c =
+    let v = c.value-item.result in
+    let here : kind_of (view v) ≡ Some c.in-Some.kind = sym (rw c.in-Some.is at c.kind_at.ensures) in
+    rw c.in_ok-push.ensures.items (each_more kind_of c.args.values.now c.loop-value.value-index v c.loop-value.kinds.items c.in-Some.kind c.loop-value-test.true c.value-item.is c.loop-value.invariant here)
 
 pub returns-in_default-clause-err : goal.returns-in_default-clause-err
 returns-in_default-clause-err c =
