@@ -68,11 +68,11 @@ pub fn reconcile_with<P: Peer>(
     ensures becomes { P.becomes peer.old peer.new }
 {
     one_message();
+    let mut left = limits.log;
     let Ok((mut initiator, mut question)) = Initiator::start(alloc, roll, limits.limit, limits.need)
     else {
         return Err(SessionFault::Memory);
     };
-    let mut left = limits.log;
     for round in 0..limits.rounds {
         let answer = peer.ask(&question)?;
         let is_last = round + 1 == limits.rounds;
