@@ -23,7 +23,8 @@ use Rattle.neg_initiator.specs.Listed.{Distinct, PassesMost}
 use Rattle.neg_initiator.specs.declared.phase.Phase.{Phase}
 use Rattle.std.proofs.lemmas.Bool.{le-ltb}
 use Rattle.neg_initiator.specs.Made.{asking}
-use Rattle.neg_initiator.specs.Session.{Session, Taken, HasOpen, LeavesOpen, IsAskDue}
+use Rattle.neg_initiator.specs.First.{IsFirstAsk}
+use Rattle.neg_initiator.specs.Session.{Session, IsSound, Taken, HasOpen, LeavesOpen, IsAskDue}
 use Rattle.neg_initiator.specs.Settled.{HasOnePrint, IsSkipped}
 use Rattle.neg_initiator.specs.Settling.{Findings, Finds, Settles}
 use Rattle.neg_initiator.specs.Trusting.{bounds_of, TrustsSkipped, IsSkippedPrint, IsOwnPrint}
@@ -210,15 +211,15 @@ all_told P rs ends h =
     append_nil_stretches [] = refl
     append_nil_stretches (x ∷ xs) = ap (λ (t : List Stretch). x ∷ t) (append_nil_stretches xs)
 
-pub told_limit : (a : List Item) (e : Written) (upper : Item) (d : Written) → Told a e upper d → d.limit ≡ e.limit
+told_limit : (a : List Item) (e : Written) (upper : Item) (d : Written) → Told a e upper d → d.limit ≡ e.limit
 told_limit a e upper d (inl w) = ap (λ (x : Written). x.limit) w.now
 told_limit a e upper d (inr c) = ap (λ (x : Written). x.limit) c.now
 
-pub record Begun (a : List Item) (asked : List Span) : Type 0 where
-  pub truth : All (IsTrueOf a) (stretches asked)
-  pub skips_nothing : All (λ s. IsSkip s → ⊥) (stretches asked)
+record Begun (a : List Item) (asked : List Span) : Type 0 where
+  truth : All (IsTrueOf a) (stretches asked)
+  skips_nothing : All (λ s. IsSkip s → ⊥) (stretches asked)
 
-pub begun : (a : List Item) (limit : ℕ) (d e : Written) → e ≡ record { limit = limit; spans = []; end = least } → Told a e infinity d → Begun a d.spans
+begun : (a : List Item) (limit : ℕ) (d e : Written) → e ≡ record { limit = limit; spans = []; end = least } → Told a e infinity d → Begun a d.spans
 begun a limit d e is told =
     elim (subst (λ (w : Written). Told a w infinity d) is told) [
       | inl w ↦ begun_by w.spans w.tells w.holds (ap (λ (x : Written). x.spans) w.now ∙ ap (λ (g : List Span). g ++ w.spans) (gap_same least))
@@ -231,7 +232,7 @@ begun a limit d e is told =
       skips_nothing = all_told (λ s. IsSkip s → ⊥) rs tells.ends tells.none_skipped;
     })
 
-pub first_split : (a : List Item) (limit : ℕ) (d e : Written) → e ≡ record { limit = limit; spans = []; end = least }
+first_split : (a : List Item) (limit : ℕ) (d e : Written) → e ≡ record { limit = limit; spans = []; end = least }
     → (d ≡ told_more e infinity (split_of a (count_below a e.end) (count_below a infinity) infinity)) ⊎ Cut a e infinity d
     → (d.spans ≡ split_of a (count_below a least) (count_below a infinity) infinity) ⊎ (limit ≤ length (text_of d.spans) + 256)
 first_split a limit d e is exact =
@@ -240,6 +241,33 @@ first_split a limit d e is exact =
       | inl now ↦ inl (ap (λ (x : Written). x.spans) now ∙ ap (λ (g : List Span). g ++ all) (gap_same least))
       | inr c ↦ inr c.full
     ]
+
+pub first_ask_of : (a : List Item) (limit : ℕ) (d e : Written) (asked : List Span) → asked ≡ d.spans → IsRoll a → IsDraft d → e ≡ record { limit = limit; spans = []; end = least } → Told a e infinity d
+    → (d ≡ told_more e infinity (split_of a (count_below a e.end) (count_below a infinity) infinity)) ⊎ Cut a e infinity d → IsFirstAsk a limit asked
+first_ask_of a limit d e asked same roll draft is told exact = subst (IsFirstAsk a limit) (sym same) (
+    let b = begun a limit d e is told in
+    record {
+      roll = roll;
+      ascends = draft.ascends;
+      none_empty = draft.none_empty;
+      skips_joined = draft.skips_joined;
+      truth = b.truth;
+      short = omega (arith, draft.fits, told_limit a e infinity d told, ap (λ (w : Written). w.limit) is);
+      skips_nothing = b.skips_nothing;
+      split = first_split a limit d e is exact;
+    }
+    )
+
+-- a session that begins with it is sound
+pub first_sound : (a : List Item) (limit : ℕ) (s : Session) → IsFirstAsk a limit s.asked → s.roll ≡ a → s.limit ≡ limit → 4096 ≤ limit → IsSound s
+first_sound a limit s first roll_is limit_is enough = record {
+  roll = subst IsRoll (sym roll_is) first.roll;
+  ascends = first.ascends;
+  none_empty = first.none_empty;
+  skips_joined = first.skips_joined;
+  truth = subst (λ (b : List Item). All (IsTrueOf b) (stretches s.asked)) (sym roll_is) first.truth;
+  enough = subst (λ (n : ℕ). 4096 ≤ n) (sym limit_is) enough;
+}
 
 -- ---- whether there are ranges
 

@@ -1,6 +1,6 @@
 //! What a session has found out.
 
-ghost use Rattle.std.specs.Prelude.{◌≡◌, ◌<◌, ◌↔◌, OnOk, Contains, IsTrue, length};
+ghost use Rattle.std.specs.Prelude.{◌≡◌, ◌<◌, ◌↔◌, [], OnOk, Contains, IsTrue, length};
 ghost use Rattle.neg_codec.specs.declared.Id.{Id};
 ghost use Rattle.neg_initiator.specs.Listed.{Distinct};
 ghost use Rattle.neg_initiator.specs.Lookups.{looked_up, ids_in, IsSet};
@@ -21,6 +21,23 @@ pub struct Found {
     pub trusted: Vec<(Key, Bound)>,
     /// How many ids may be needed.
     pub most: usize,
+}
+
+impl Found {
+    /// Nothing yet, where at most so many ids may be needed. It takes no memory.
+    pub fn none(alloc: Global, most: usize) -> Found
+        ensures need { ids_in result.need ≡ [] }
+        ensures have { ids_in result.have ≡ [] }
+        ensures trusted { result.trusted.items ≡ [] }
+        ensures most { result.most ≡ most }
+    {
+        Found {
+            need: Ids::none(alloc),
+            have: Ids::none(alloc),
+            trusted: Vec::new(alloc),
+            most,
+        }
+    }
 }
 
 /// Puts an id in where the others lack it.
