@@ -1,5 +1,5 @@
 //! The client's side of a link.
-ghost use Rattle.std.specs.Prelude.{◌≡◌, IfOk, IfErr, OnOk, true};
+ghost use Rattle.std.specs.Prelude.{◌≡◌, IfOk, IfErr, OnOk, true, string_bytes};
 ghost use Rattle.nostr_wire.specs.Elements.{is_sub};
 ghost use Rattle.nostr_wire.specs.Forms.{client_form};
 ghost use Rattle.nostr_wire.specs.Writing.{text_of};
@@ -14,7 +14,7 @@ use crate::notes::Notes;
 use event_text::EventScratch;
 use nostr_event::Text;
 use nostr_wire::{FromClient, FromRelay, Sub, WireFault, read_relay_in, write_client};
-use std::alloc::Global;
+use std::alloc::{AllocError, Global};
 use std::io::{Read, Write};
 use std::random::RandomSource;
 use tungstenite::handshake::client::{request_of, start};
@@ -107,19 +107,26 @@ pub fn copy_of(alloc: Global, text: &Text) -> Result<Text, LinkFault>
     Ok(Text::new(String::from_str(alloc, text.as_str())?))
 }
 
+/// The text of a message.
+fn written(alloc: Global, message: FromClient) -> Result<String, AllocError>
+    ensures { IfOk result (λ s. string_bytes s ≡ text_of (client_form message)) }
+{
+    write_client(alloc, &message)
+}
+
 /// Sends a message.
 #[tactic(auto, using(wire::proofs::Growing::grows_same))]
 pub fn say<S: Read + Write, K: MaskKeys>(
     alloc: Global,
     wire: &mut Wire<S, K>,
-    message: &FromClient,
+    message: FromClient,
     notes: &mut Notes,
 ) -> Result<(), LinkFault>
-    ensures said { OnOk result (Says (talk_of wire.old) (talk_of wire.new) (text_of (client_form message.now))) }
+    ensures said { OnOk result (Says (talk_of wire.old) (talk_of wire.new) (text_of (client_form message))) }
     ensures grows { Grows (talk_of wire.old) (talk_of wire.new) }
     ensures err { IfErr result IsOfStream }
 {
-    let text = write_client(alloc, message)?;
+    let text = written(alloc, message)?;
     match wire.say(text.as_str()) {
         Ok(()) => Ok(()),
         Err(fault) => Err(notes.broken(fault)),

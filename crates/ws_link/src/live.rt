@@ -96,7 +96,7 @@ fn ask<S: Read + Write, K: MaskKeys>(
     ensures { OnOk result (Says (talk_of wire.old) (talk_of wire.new) (text_of (requesting filter))) }
 {
     let request = request(alloc, filter)?;
-    say(alloc, wire, &request, notes)
+    say(alloc, wire, request, notes)
 }
 
 /// The subscription's name.

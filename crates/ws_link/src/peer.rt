@@ -232,7 +232,7 @@ fn put<S: Read + Write, K: MaskKeys>(
     ensures grows { Grows (talk_of wire.old) (talk_of wire.new) }
 {
     let message = message(alloc, filter, question)?;
-    say(alloc, wire, &message, notes)
+    say(alloc, wire, message, notes)
 }
 
 /// A question and its answer.
@@ -254,7 +254,7 @@ fn end<S: Read + Write, K: MaskKeys>(
     ensures { IfErr result IsOfStream }
 {
     let sub = session(alloc)?;
-    say(alloc, wire, &FromClient::NegClose { sub }, notes)
+    say(alloc, wire, FromClient::NegClose { sub }, notes)
 }
 
 /// The session's name.

@@ -195,7 +195,7 @@ fn ask<S: Read + Write, K: MaskKeys>(
     ensures grows { Grows (talk_of wire.old) (talk_of wire.new) }
 {
     let request = request(alloc, ids)?;
-    say(alloc, wire, &request, notes)
+    say(alloc, wire, request, notes)
 }
 
 /// Ends the subscription.
@@ -208,7 +208,7 @@ fn end<S: Read + Write, K: MaskKeys>(
     ensures grows { Grows (talk_of wire.old) (talk_of wire.new) }
 {
     let sub = subscription(alloc)?;
-    say(alloc, wire, &FromClient::Close { sub }, notes)
+    say(alloc, wire, FromClient::Close { sub }, notes)
 }
 
 /// The subscription's name.
