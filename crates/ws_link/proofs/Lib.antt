@@ -7,3 +7,4 @@ pub mod Fetching
 pub mod Streams
 pub mod Cells
 pub mod Subscribing
+mod Failing

@@ -1,10 +1,38 @@
-use Rattle.std.proofs.Common.{map}
+use Rattle.std.proofs.Common.{map, refl}
+use Rattle.std.proofs.lemmas.Result.{IfOk-from_err}
 use Rattle.std.specs.Arc.{arc_value}
 use Rattle.wire.specs.Line.{talk_of}
-use Rattle.wire.proofs.Growing.{grows_chain}
-use Rattle.ws_link.proofs.Fetching.{answered, kept_more}
+use Rattle.wire.proofs.Growing.{grows_chain, grows_same}
+use Rattle.ws_link.proofs.Fetching.{answered, kept_more, kept_none}
 use Rattle.ws_link.proofs.source.read_events.Goals.{else-loop-read-test, then-loop-read-test+in_ok-read_event+then-others-ge-TOO_MANY, in-Due, in-Other}
 use Rattle.ws_link.proofs.source.read_events.Goals as goal
+
+pub returns-in_err-due-clause-answers : goal.returns-in_err-due-clause-answers
+returns-in_err-due-clause-answers g c = IfOk-from_err c.from_residual.result _ c.from_residual.ensures.0
+
+pub returns-in_err-due-clause-grows : goal.returns-in_err-due-clause-grows
+returns-in_err-due-clause-grows g c = grows_same (talk_of c.args.wire.now) (talk_of c.args.wire.now) refl
+
+pub loop-read-init : goal.loop-read-init
+loop-read-init g c =
+    let wire = talk_of c.args.wire.now in
+    let empty = c.new-events.ensures.items in
+    record {
+      grows = grows_same wire wire refl;
+      kept = kept_none c.args.ids.now wire c.new-events.result.items empty;
+      due = rw empty c.in_ok-due.ensures;
+    }
+
+pub returns-in_err-read_event-clause-answers : goal.returns-in_err-read_event-clause-answers
+returns-in_err-read_event-clause-answers g c = IfOk-from_err c.from_residual-in_err-read_event.result _ c.from_residual-in_err-read_event.ensures.0
+
+pub returns-in_err-read_event-clause-grows : goal.returns-in_err-read_event-clause-grows
+returns-in_err-read_event-clause-grows g c =
+    grows_chain (talk_of c.args.wire.now) (talk_of c.loop-read.wire) (talk_of c.read_event.new.wire) c.loop-read.invariant.grows c.read_event.ensures.grows
+
+pub returns-in-End-clause-grows : goal.returns-in-End-clause-grows
+returns-in-End-clause-grows g c =
+    grows_chain (talk_of c.args.wire.now) (talk_of c.loop-read.wire) (talk_of c.read_event.new.wire) c.loop-read.invariant.grows c.read_event.ensures.grows
 
 pub loop-read-preserved : goal.loop-read-preserved
 loop-read-preserved g c =
