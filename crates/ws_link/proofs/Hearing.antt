@@ -1,9 +1,12 @@
 -- What is heard, one message at a time.
-use Rattle.std.proofs.Common.{◌≡◌, ℕ, List, [], ◌∷◌, ◌++◌, get_or, ◌⊎◌, Option, None, Some, Result, Ok, Err, refl, sym, ap, ◌∙◌, arith, inl, inr}
+use Rattle.std.proofs.Common.{◌≡◌, ℕ, List, [], ◌∷◌, ◌++◌, get_or, Bool, true, false, ◌⊎◌, Option, None, Some, Result, Ok, Err, refl, sym, ap, ◌∙◌, arith, inl, inr}
+use Rattle.std.proofs.lemmas.Bool.{false≢true}
 use Rattle.std.specs.Prelude.{IfOk, String, string_bytes, codes}
 use Rattle.std.specs.declared.alloc.Global.{Global}
 use Rattle.std.specs.declared.sync.Arc.{Arc as AnArc}
 use Rattle.nostr_event.specs.EventView.{EventView}
+use Rattle.nostr_wire.specs.declared.fault.WireFault.{WireFault}
+use Rattle.nostr_wire.specs.declared.fault.WireFault.TheVariants as fault
 use Rattle.nostr_wire.specs.declared.messages.FromRelay.{FromRelay}
 use Rattle.nostr_wire.specs.Elements.{Said, sub}
 use Rattle.nostr_wire.specs.Forms.{Form, relay_form}
@@ -20,6 +23,16 @@ use Rattle.ws_link.specs.Fetched.{Brings, IsForFetch, fetch}
 use Rattle.ws_link.specs.Messages.{Hears, IsForNoCall, IsSaid, MayHear, Means}
 use Rattle.ws_link.specs.Spoken.{HearsMessage}
 use Rattle.ws_link.specs.Taken.{Tells, MayTell}
+
+-- ---- faults
+
+abbrev pub is_memory : WireFault → Bool
+is_memory fault.Memory = true
+is_memory _ = false
+
+-- a fault that isn't want of memory
+pub is_other : (f g : WireFault) → f ≡ g → is_memory g ≡ false → f ≡ fault.Memory → ⊥
+is_other f g is other memory = false≢true (sym other ∙ (sym (ap is_memory is) ∙ ap is_memory memory))
 
 -- ---- texts, and what else is read
 
