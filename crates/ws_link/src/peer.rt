@@ -189,14 +189,37 @@ impl<S: Read + Write + Drop, K: MaskKeys + Drop> WsPeer<S, K> {
     }
 
     /// Ends the session, and closes the connection.
-    pub fn finish(mut self) -> Result<(), LinkFault>
+    pub fn finish(self) -> Result<(), LinkFault>
         ensures dead { self.live ≡ false → result ≡ Err LinkFault.Link }
         ensures err { IfErr result IsOfStream }
     {
-        let mut wire = self.link.take_out()?;
-        end(self.link.alloc, &mut wire, &mut self.link.notes)?;
-        close(&mut wire, &mut self.link.notes)
+        end_link(self.link)
     }
+}
+
+/// Ends the session over the link, and closes the connection. `Link` where there is no wire.
+fn end_link<S: Read + Write + Drop, K: MaskKeys + Drop>(
+    mut link: Link<S, K, Pair>,
+) -> Result<(), LinkFault>
+    ensures dead { link.wire ≡ None → result ≡ Err LinkFault.Link }
+    ensures err { IfErr result IsOfStream }
+{
+    match link.wire.take() {
+        Some(mut wire) => end_over(link.alloc, &mut wire, &mut link.notes),
+        None => Err(LinkFault::Link),
+    }
+}
+
+/// Ends the session over the wire, and closes the connection.
+fn end_over<S: Read + Write, K: MaskKeys>(
+    alloc: Global,
+    wire: &mut Wire<S, K>,
+    notes: &mut Notes,
+) -> Result<(), LinkFault>
+    ensures { IfErr result IsOfStream }
+{
+    end(alloc, wire, notes)?;
+    close(wire, notes)
 }
 
 /// Asks over the wire, and keeps the pair. The filter opens the session, if there is one.
