@@ -1,5 +1,5 @@
 //! A peer over a WebSocket.
-ghost use Rattle.std.specs.Prelude.{◌≡◌, ◌+◌, ◌<◌, ◌^◌, ◌-◌, [], ◌∷◌, ◌++◌, IfOk, IfErr, IfSome, OnOk, OnErr, true, false, Some, None, Err, Ok};
+ghost use Rattle.std.specs.Prelude.{◌≡◌, ◌⊎◌, ◌+◌, ◌<◌, ◌^◌, ◌-◌, [], ◌∷◌, ◌++◌, IfOk, IfErr, IfSome, OnOk, OnErr, true, false, Some, None, Err, Ok};
 ghost use Rattle.std.specs.Option.{option_copied};
 ghost use Rattle.neg_session.specs.Exchange.{exchange};
 ghost use Rattle.nostr_wire.specs.Forms.{client_form};
@@ -375,29 +375,18 @@ fn part_in(message: FromRelay) -> Part
     ensures { Tells message result }
 {
     match message {
-        FromRelay::NegMsg { sub, message } => {
-            if is_ours(&sub) {
-                Part::Answer(message.into_vec())
-            } else {
-                Part::Other
-            }
-        }
-        FromRelay::NegErr { sub, reason } => {
-            if is_ours(&sub) {
-                Part::NegErr(reason)
-            } else {
-                Part::Other
-            }
-        }
-        FromRelay::Closed { sub, text } => {
-            if is_ours(&sub) {
-                Part::Closed(text)
-            } else {
-                Part::Other
-            }
-        }
+        FromRelay::NegMsg { sub, message } => if_ours(sub, Part::Answer(message.into_vec())),
+        FromRelay::NegErr { sub, reason } => if_ours(sub, Part::NegErr(reason)),
+        FromRelay::Closed { sub, text } => if_ours(sub, Part::Closed(text)),
         _other => Part::Other,
     }
+}
+
+/// The part, if the session is named.
+fn if_ours(sub: Sub, part: Part) -> Part
+    ensures { ((sub ≡ mirror) × (result ≡ part)) ⊎ (result ≡ Part.Other) }
+{
+    if is_ours(&sub) { part } else { Part::Other }
 }
 
 fn is_ours(sub: &Sub) -> bool

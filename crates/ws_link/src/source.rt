@@ -1,5 +1,5 @@
 //! A source over a WebSocket.
-ghost use Rattle.std.specs.Prelude.{◌≡◌, ◌≢◌, ◌+◌, ◌<◌, ◌^◌, ◌-◌, [], ◌∷◌, ◌++◌, map, List, IfOk, IfErr, OnOk, OnErr, true, false, Some, None, Err, Ok};
+ghost use Rattle.std.specs.Prelude.{◌≡◌, ◌≢◌, ◌⊎◌, ◌+◌, ◌<◌, ◌^◌, ◌-◌, [], ◌∷◌, ◌++◌, map, List, IfOk, IfErr, OnOk, OnErr, true, false, Some, None, Err, Ok};
 ghost use Rattle.std.specs.Arc.{arc_value};
 ghost use Rattle.std.specs.Option.{option_copied};
 ghost use Rattle.mirror_core.specs.Fetching.{Fetching, fetching, ids_of};
@@ -373,27 +373,9 @@ fn part_in(message: FromRelay) -> Part
     ensures { Tells message result }
 {
     match message {
-        FromRelay::Event { sub, event } => {
-            if is_ours(sub.as_str()) {
-                Part::Event(event)
-            } else {
-                Part::Other
-            }
-        }
-        FromRelay::Eose { sub } => {
-            if is_ours(sub.as_str()) {
-                Part::End
-            } else {
-                Part::Other
-            }
-        }
-        FromRelay::Closed { sub, text } => {
-            if is_ours(sub.as_str()) {
-                Part::Closed(text)
-            } else {
-                Part::Other
-            }
-        }
+        FromRelay::Event { sub, event } => if_ours(sub.as_str(), Part::Event(event)),
+        FromRelay::Eose { sub } => if_ours(sub.as_str(), Part::End),
+        FromRelay::Closed { sub, text } => if_ours(sub.as_str(), Part::Closed(text)),
         FromRelay::Okay {
             id: _,
             taken: _,
@@ -403,6 +385,13 @@ fn part_in(message: FromRelay) -> Part
         FromRelay::NegMsg { sub: _, message: _ } => Part::Other,
         FromRelay::NegErr { sub: _, reason: _ } => Part::Other,
     }
+}
+
+/// The part, if this is the name of the fetch's subscription.
+fn if_ours(name: &str, part: Part) -> Part
+    ensures { ((name.now ≡ fetch) × (result ≡ part)) ⊎ ((name.now ≢ fetch) × (result ≡ Part.Other)) }
+{
+    if is_ours(name) { part } else { Part::Other }
 }
 
 fn is_ours(name: &str) -> bool
