@@ -35,6 +35,13 @@ module _ {P : Type 0} (log : P → List Exchange) (faults : P → ℕ) (becomes 
     pub both_stop : (zs zs' : List End) → EachRan log faults becomes own limits xs ys zs → EachRan log faults becomes own limits xs' ys' zs' → (full → NeedTooMany (zs ++ zs')) → Stopped log faults becomes own limits (xs ++ xs') (ys ++ ys') full
     both_stop zs zs' h k many = record { ends = zs ++ zs'; ran = AllThree-append _ xs xs' ys ys' zs zs' h k; too_many = many }
 
+  -- one session, with the only peer
+  pub one_ran : (olds : List P) (old new : P) (end : End) → length olds ≡ 1
+      → Ran own limits (log (get_or olds 0 old)) (log new) (faults (get_or olds 0 old)) (faults new) (result_of end) × becomes (get_or olds 0 old) new → EachRan log faults becomes own limits olds (slice_set olds 0 new) (end ∷ [])
+  one_ran [] old new end one h = absurd (omega arith)
+  one_ran (x ∷ y ∷ zs) old new end one h = absurd (omega arith)
+  one_ran (x ∷ []) old new end one h = (h, tt)
+
   -- one session, for whose end there was no memory
   pub one_stops : (olds : List P) (old new : P) (end : End) (f : PartFault) → f ≡ Memory → length olds ≡ 1
       → Ran own limits (log (get_or olds 0 old)) (log new) (faults (get_or olds 0 old)) (faults new) (result_of end) × becomes (get_or olds 0 old) new → Stopped log faults becomes own limits olds (slice_set olds 0 new) (f ≡ TableFull)
