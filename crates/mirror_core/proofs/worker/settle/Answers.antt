@@ -73,3 +73,32 @@ pub returns-clause-held : goal.returns-clause-held
 returns-clause-held g c =
     let none = drop_of_length-le c.args.batch.now.cells.items (omega (arith, c.loop-k-test.false, c.loop-k.auto.k-end, c.len-k-end.ensures)) in
     holds_none c.loop-k.lane.own (batched_clear c.args.board.now.cells c.args.batch.now.next _ c.args.batch.now.ids.items c.loop-k.lane.own none c.loop-k.invariant.batched).holds
+
+pub returns-in_default-clause-same : goal.returns-in_default-clause-same
+returns-in_default-clause-same g c = c.release_from.ensures.same
+
+pub returns-in_default-clause-held : goal.returns-in_default-clause-held
+returns-in_default-clause-held g c = c.release_from.ensures.held
+
+pub returns-in-Err-clause-same : goal.returns-in-Err-clause-same
+returns-in-Err-clause-same g c =
+    let ended = same_then c.args.lane.now c.loop-k.lane c.end_cell.new.lane c.loop-k.invariant.same c.end_cell.ensures.same in
+    same_then c.args.lane.now c.end_cell.new.lane c.release_from-in-Err.new.lane ended c.release_from-in-Err.ensures.same
+
+pub returns-in-Err-clause-held : goal.returns-in-Err-clause-held
+returns-in-Err-clause-held g c = c.release_from-in-Err.ensures.held
+
+pub returns-clause-same : goal.returns-clause-same
+returns-clause-same g c = c.loop-k.invariant.same
+
+pub returns-clause-settles : goal.returns-clause-settles
+returns-clause-settles g c = c.loop-k.invariant.settles
+
+pub end_cell-requires-clause-board : goal.end_cell-requires-clause-board
+end_cell-requires-clause-board g c = c.loop-k.invariant.board
+
+pub release_from-requires-clause-holds : goal.release_from-requires-clause-holds
+release_from-requires-clause-holds g c = rw c.deref.ensures.value c.requires.batched.holds
+
+pub release_from-requires-in-Err-clause-board : goal.release_from-requires-in-Err-clause-board
+release_from-requires-in-Err-clause-board g c = c.end_cell.ensures.same.board ∙ c.loop-k.invariant.board
