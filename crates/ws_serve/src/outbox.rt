@@ -222,14 +222,16 @@ fn write_first<S>(
 fn drop_first(later: &mut VecDeque<FromRelay>)
     ensures { later.new.items ≡ drop 1 later.old.items }
 {
-    let _first = later.pop_front();
+    drop(later.pop_front());
 }
 
 /// The message's text, which is made where room is.
 fn written(alloc: Global, room: String, message: FromRelay) -> Result<String, AllocError>
     ensures { IfOk result (λ s. string_bytes s ≡ words_of (relay_form message)) }
 {
-    write_relay_in(alloc, room, &message)
+    let text = write_relay_in(alloc, room, &message);
+    drop(message);
+    text
 }
 
 impl<S: Read> Outbox<S> {
