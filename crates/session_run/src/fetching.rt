@@ -6,7 +6,7 @@ ghost use Rattle.session_run.specs.Rounds.{is_done, is_missed, is_left, AreCount
 
 use crate::host::Host;
 use crate::links::{SourcePlace, connect_all, name_of};
-use crate::pace::Paced;
+use crate::pace::{Paced, SharedPace};
 use crate::progress::{Progress, RelayLine};
 use crate::told::ToldSource;
 use claim_board::{Board, BoardFault, Cell};
@@ -21,7 +21,7 @@ use std::sync::{Mutex, Wait};
 use std::thread::Threads;
 use store_run::Refusal;
 use tungstenite::RandomKeys;
-use ws_link::{WsSource, cells_over_streams};
+use ws_link::{Notes, WsSource, cells_over_streams};
 
 /// What became of ids.
 #[derive(Clone, Copy)]
@@ -207,6 +207,52 @@ fn places_of<S: Drop, K: Drop>(
     Ok(places)
 }
 
+/// A source at this relay, whose answers are counted.
+fn told_source<'a, S: Drop, R, P>(
+    rt: &'a R,
+    alloc: Global,
+    settings: &Settings,
+    source: S,
+    relay: u16,
+    pace: SharedPace,
+    progress: &'a Progress<P>,
+) -> Result<ToldSource<'a, S, R, P>, AllocError>
+    ensures { IfOk result (λ told. told.source ≡ source) }
+{
+    let relay = usize::from(relay);
+    let name = name_of(alloc, settings, relay)?;
+    Ok(ToldSource {
+        source,
+        relay,
+        name,
+        pace,
+        rt,
+        progress,
+    })
+}
+
+/// Tells why a relay couldn't be reached.
+fn tell_unreached<R: Wait, P: Write>(
+    rt: &R,
+    alloc: Global,
+    settings: &Settings,
+    relay: u16,
+    why: &Notes,
+    progress: &Progress<P>,
+) -> Result<(), AllocError> {
+    let relay = usize::from(relay);
+    let name = name_of(alloc, settings, relay)?;
+    progress.fail(
+        rt,
+        RelayLine {
+            relay,
+            name: name.as_str(),
+            why,
+        },
+    );
+    Ok(())
+}
+
 /// The source of a place, and its relay. Why there is none is told.
 fn source_in<'a, R: Host, P: Write>(
     rt: &'a R,
@@ -218,27 +264,16 @@ fn source_in<'a, R: Host, P: Write>(
     ensures { IfOk result (λ o. IfSome o (λ found. found.0.source.faults < 2 ^ 64 - 1)) }
 {
     let (relay, found, pace, notes) = place.into_parts()?;
-    let name = name_of(alloc, settings, usize::from(relay))?;
-    if let Some(source) = found {
-        let fetcher = ToldSource {
-            source,
-            relay: usize::from(relay),
-            name,
-            pace,
-            rt,
-            progress,
-        };
-        return Ok(Some((fetcher, relay)));
+    match found {
+        Some(source) => {
+            let told = told_source(rt, alloc, settings, source, relay, pace, progress)?;
+            Ok(Some((told, relay)))
+        }
+        None => {
+            tell_unreached(rt, alloc, settings, relay, &notes, progress)?;
+            Ok(None)
+        }
     }
-    progress.fail(
-        rt,
-        RelayLine {
-            relay: usize::from(relay),
-            name: name.as_str(),
-            why: &notes,
-        },
-    );
-    Ok(None)
 }
 
 /// Sources at the relays, which are connected to side by side, and the relay of each. Why one can't be reached is told.

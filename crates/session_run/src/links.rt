@@ -1,6 +1,6 @@
 //! Links to relays.
 
-ghost use Rattle.std.specs.Prelude.{◌≡◌, ◌<◌, ◌^◌, ◌-◌, All, IfOk, IfSome, length, map};
+ghost use Rattle.std.specs.Prelude.{◌≡◌, ◌<◌, ◌^◌, ◌-◌, All, IfOk, IfSome, Ok, length, map};
 ghost use Rattle.std.specs.List.{range_with_len};
 
 use crate::host::Host;
@@ -162,22 +162,22 @@ fn peer_places<S: Drop, K: Drop>(
     Ok(places)
 }
 
-/// The peer of a place, of this number, whose session is told as it ends.
-fn told_peer<'a, S: Drop, K: Drop, R, P>(
+/// The peer of this number, if it could be linked, whose session is told as it ends.
+fn told_peer<'a, Q: Drop, R, P>(
     rt: &'a R,
     alloc: Global,
     settings: &Settings,
     left_out: RelaySet,
-    place: PeerPlace<S, K>,
+    linked: Result<Q, Refusal>,
     relay: usize,
     progress: &'a Progress<P>,
-) -> Result<ToldPeer<'a, WsPeer<S, K>, R, P>, Refusal>
-    ensures faults { IfOk result (λ told. told.peer.faults ≡ 0) }
+) -> Result<ToldPeer<'a, Q, R, P>, Refusal>
+    ensures peer { IfOk result (λ told. linked ≡ Ok told.peer) }
     ensures number { IfOk result (λ told. told.relay ≡ relay) }
 {
     let name = name_of(alloc, settings, relay)?;
     Ok(ToldPeer {
-        peer: place.into_peer()?,
+        peer: linked?,
         relay,
         name,
         is_asked: !is_in(left_out, relay),
@@ -202,7 +202,8 @@ fn peers_in<'a, S: Drop, K: Drop, R, P>(
     let mut peers = Vec::new(alloc);
     for place in places {
         let relay = peers.len();
-        let told = told_peer(rt, alloc, settings, left_out, place, relay, progress)?;
+        let linked = place.into_peer();
+        let told = told_peer(rt, alloc, settings, left_out, linked, relay, progress)?;
         peers.push(told)?;
     }
     Ok(peers)

@@ -20,7 +20,8 @@ pub loop-place-preserved : goal.loop-place-preserved
 loop-place-preserved g c =
     let before = c.loop-place.invariant in
     let seen = c.loop-place.yielded in
-    let small : c.in_ok-told.told.peer.faults < 2 ^ 64 - 1 = omega (arith, c.in_ok-told.ensures.faults) in
+    let none : c.in_ok-told.told.peer.faults ≡ 0 = rw c.in_ok-told.ensures.peer at c.into_peer-linked.ensures in
+    let small : c.in_ok-told.told.peer.faults < 2 ^ 64 - 1 = omega arith in
     let number : c.in_ok-told.told.relay ≡ length c.loop-place.peers.items = omega (arith, c.in_ok-told.ensures.number, c.len-relay.ensures) in
     rw c.in_ok-push.ensures.items
     (record {
