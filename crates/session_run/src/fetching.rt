@@ -1,6 +1,6 @@
 //! Fetching what a plan gives.
 
-ghost use Rattle.std.specs.Prelude.{◌≡◌, ◌+◌, ◌<◌, ◌^◌, ◌-◌, min, All, IfOk, IfSome, length, if◌then◌else◌};
+ghost use Rattle.std.specs.Prelude.{◌≡◌, ◌+◌, ◌<◌, ◌^◌, ◌-◌, ◌++◌, ◌∷◌, [], min, All, IfOk, IfSome, Some, None, length, if◌then◌else◌};
 ghost use Rattle.fetch_plan.specs.Plan.{IsPlan};
 ghost use Rattle.session_run.specs.Rounds.{is_done, is_missed, is_left, AreCounted, IsOverIfFetched};
 
@@ -16,12 +16,13 @@ use mirror_core::{End, FetchFault, Source, Stop, fetch_all};
 use mirror_settings::Settings;
 use offer_table::RelaySet;
 use std::alloc::{AllocError, Global};
+use std::fmt::Display;
 use std::io::Write;
 use std::sync::{Mutex, Wait};
 use std::thread::Threads;
 use store_run::Refusal;
 use tungstenite::RandomKeys;
-use ws_link::{Notes, WsSource, cells_over_streams};
+use ws_link::{WsSource, cells_over_streams};
 
 /// What became of ids.
 #[derive(Clone, Copy)]
@@ -115,7 +116,7 @@ pub struct Round {
 }
 
 /// A source over a connection.
-type Fetcher<'a, R, P> = ToldSource<'a, WsSource<Paced<'a, R>, RandomKeys<&'a R>>, R, P>;
+pub type Fetcher<'a, R, P> = ToldSource<'a, WsSource<Paced<'a, R>, RandomKeys<&'a R>>, R, P>;
 
 /// The relays whose sessions finished. What these found is let go.
 pub fn finished_of(alloc: Global, ends: Vec<End>) -> Result<Vec<u16>, AllocError> {
@@ -207,50 +208,40 @@ fn places_of<S: Drop, K: Drop>(
     Ok(places)
 }
 
-/// A source at this relay, whose answers are counted.
-fn told_source<'a, S: Drop, R, P>(
+/// The source that was found at this relay, whose answers are counted, and the relay. Why there is none is told.
+fn told_source<'a, S: Drop, N: Display + Drop, R: Wait, P: Write>(
     rt: &'a R,
     alloc: Global,
     settings: &Settings,
-    source: S,
     relay: u16,
+    found: Option<S>,
     pace: SharedPace,
+    why: N,
     progress: &'a Progress<P>,
-) -> Result<ToldSource<'a, S, R, P>, AllocError>
-    ensures { IfOk result (λ told. told.source ≡ source) }
+) -> Result<Option<(ToldSource<'a, S, R, P>, u16)>, AllocError>
+    ensures { IfOk result (λ o. IfSome o (λ told. found ≡ Some told.0.source)) }
 {
-    let relay = usize::from(relay);
-    let name = name_of(alloc, settings, relay)?;
-    Ok(ToldSource {
-        source,
-        relay,
-        name,
-        pace,
-        rt,
-        progress,
-    })
-}
-
-/// Tells why a relay couldn't be reached.
-fn tell_unreached<R: Wait, P: Write>(
-    rt: &R,
-    alloc: Global,
-    settings: &Settings,
-    relay: u16,
-    why: &Notes,
-    progress: &Progress<P>,
-) -> Result<(), AllocError> {
-    let relay = usize::from(relay);
-    let name = name_of(alloc, settings, relay)?;
+    let name = name_of(alloc, settings, usize::from(relay))?;
+    if let Some(source) = found {
+        let told = ToldSource {
+            source,
+            relay: usize::from(relay),
+            name,
+            pace,
+            rt,
+            progress,
+        };
+        return Ok(Some((told, relay)));
+    }
     progress.fail(
         rt,
         RelayLine {
-            relay,
+            relay: usize::from(relay),
             name: name.as_str(),
-            why,
+            why: &why,
         },
     );
-    Ok(())
+    Ok(None)
 }
 
 /// The source of a place, and its relay. Why there is none is told.
@@ -264,16 +255,24 @@ fn source_in<'a, R: Host, P: Write>(
     ensures { IfOk result (λ o. IfSome o (λ found. found.0.source.faults < 2 ^ 64 - 1)) }
 {
     let (relay, found, pace, notes) = place.into_parts()?;
-    match found {
-        Some(source) => {
-            let told = told_source(rt, alloc, settings, source, relay, pace, progress)?;
-            Ok(Some((told, relay)))
-        }
-        None => {
-            tell_unreached(rt, alloc, settings, relay, &notes, progress)?;
-            Ok(None)
-        }
+    let told = told_source(rt, alloc, settings, relay, found, pace, notes, progress)?;
+    Ok(told)
+}
+
+/// Adds the source and its relay, if there is one.
+fn add_source<S: Drop>(
+    sources: &mut Vec<S>,
+    relays: &mut Vec<u16>,
+    found: Option<(S, u16)>,
+) -> Result<(), AllocError>
+    ensures some { IfSome found (λ f. IfOk result (λ _. sources.new.items ≡ sources.old.items ++ (f.0 ∷ []))) }
+    ensures none { found ≡ None → sources.new.items ≡ sources.old.items }
+{
+    if let Some((source, relay)) = found {
+        sources.push(source)?;
+        relays.push(relay)?;
     }
+    Ok(())
 }
 
 /// Sources at the relays, which are connected to side by side, and the relay of each. Why one can't be reached is told.
@@ -291,10 +290,8 @@ pub fn sources_of<'a, R: Host, P: Write>(
     let mut sources = Vec::new(alloc);
     let mut relays = Vec::new(alloc);
     for place in places {
-        if let Some((source, relay)) = source_in(rt, alloc, settings, place, progress)? {
-            sources.push(source)?;
-            relays.push(relay)?;
-        }
+        let found = source_in(rt, alloc, settings, place, progress)?;
+        add_source(&mut sources, &mut relays, found)?;
     }
     Ok((sources, relays))
 }

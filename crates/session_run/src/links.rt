@@ -14,6 +14,7 @@ use sharing::SLOTS;
 use std::alloc::{AllocError, Global};
 use std::io::{Read, Write};
 use std::marker::Model;
+use std::mem::replace;
 use std::net::{Net, TcpListener, TcpStream, ToSocketAddrs};
 use std::random::RandomSource;
 use std::rt::Clock;
@@ -56,6 +57,17 @@ pub fn connected<R: Net<Listener = TcpListener, Stream = TcpStream>>(
     Err(reason)
 }
 
+/// A link, if it was started. Want of memory alone is a refusal.
+fn if_started<L: Drop>(started: Result<L, LinkFault>) -> Result<Option<L>, Refusal>
+    ensures { IfOk result (λ o. IfSome o (λ link. started ≡ Ok link)) }
+{
+    match started {
+        Ok(link) => Ok(Some(link)),
+        Err(LinkFault::Memory) => Err(Refusal::Memory),
+        Err(_) => Ok(None),
+    }
+}
+
 /// A peer that is this relay, or one that can't be reached.
 fn linked<'a, R: Net<Listener = TcpListener, Stream = TcpStream> + RandomSource>(
     rt: &'a R,
@@ -82,10 +94,9 @@ fn linked<'a, R: Net<Listener = TcpListener, Stream = TcpStream> + RandomSource>
         filter,
         &mut notes,
     );
-    match started {
-        Ok(peer) => Ok(peer),
-        Err(LinkFault::Memory) => Err(Refusal::Memory),
-        Err(_) => Ok(WsPeer::unreachable_by(alloc, notes)),
+    match if_started(started)? {
+        Some(peer) => Ok(peer),
+        None => Ok(WsPeer::unreachable_by(alloc, notes)),
     }
 }
 
@@ -137,7 +148,9 @@ impl<'a, 's, R: Net<Listener = TcpListener, Stream = TcpStream> + RandomSource> 
             return;
         }
         if let Some(relay) = self.settings.relays.as_slice().get(place.relay) {
-            place.peer = linked(self.rt, alloc, relay, self.settings, self.filter);
+            let linked = linked(self.rt, alloc, relay, self.settings, self.filter);
+            // What stood there, which no session began with, is let go.
+            drop(replace(&mut place.peer, linked));
         }
     }
 }
@@ -244,6 +257,27 @@ struct Connecting<'a, 's, R> {
     settings: &'s Settings,
 }
 
+/// A source that is this relay, over a connection with it, if it takes up the link, else it is noted why not.
+fn source_over<
+    'a,
+    R: Net<Listener = TcpListener, Stream = TcpStream> + RandomSource + Wait + Clock,
+>(
+    rt: &'a R,
+    alloc: Global,
+    relay: &Relay,
+    settings: &Settings,
+    stream: TcpStream,
+    pace: &SharedPace,
+    notes: &mut Notes,
+) -> Result<Option<WsSource<Paced<'a, R>, RandomKeys<&'a R>>>, Refusal>
+    ensures { IfOk result (λ o. IfSome o (λ source. source.faults ≡ 0)) }
+{
+    let pace = pace.clone()?;
+    let stream = Paced::new(rt, stream, pace, settings.timeout(), settings.slow_bytes);
+    let (host, path) = (relay.host.as_str(), relay.path.as_str());
+    if_started(WsSource::start_at(alloc, rt, stream, host, path, notes))
+}
+
 /// A source that is this relay, if it can be reached, else it is noted why not.
 fn source_at<'a, R: Net<Listener = TcpListener, Stream = TcpStream> + RandomSource + Wait + Clock>(
     rt: &'a R,
@@ -257,25 +291,12 @@ fn source_at<'a, R: Net<Listener = TcpListener, Stream = TcpStream> + RandomSour
 {
     let via = &relay.via;
     let address = format!(in alloc; "{via}")?;
-    let timeout = settings.timeout();
-    let stream = match connected(rt, address.as_str(), timeout) {
-        Ok(stream) => Paced::new(rt, stream, pace.clone()?, timeout, settings.slow_bytes),
+    match connected(rt, address.as_str(), settings.timeout()) {
+        Ok(stream) => source_over(rt, alloc, relay, settings, stream, pace, notes),
         Err(reason) => {
             notes.tell(reason);
-            return Ok(None);
+            Ok(None)
         }
-    };
-    match WsSource::start_at(
-        alloc,
-        rt,
-        stream,
-        relay.host.as_str(),
-        relay.path.as_str(),
-        notes,
-    ) {
-        Ok(source) => Ok(Some(source)),
-        Err(LinkFault::Memory) => Err(Refusal::Memory),
-        Err(_) => Ok(None),
     }
 }
 
@@ -344,7 +365,7 @@ impl<'a, 's, R: Net<Listener = TcpListener, Stream = TcpStream> + RandomSource +
             .as_slice()
             .get(usize::from(place.relay))
         {
-            place.source = source_at(
+            let source = source_at(
                 self.rt,
                 alloc,
                 relay,
@@ -352,6 +373,7 @@ impl<'a, 's, R: Net<Listener = TcpListener, Stream = TcpStream> + RandomSource +
                 &place.pace,
                 &mut place.notes,
             );
+            drop(replace(&mut place.source, source));
         }
     }
 }

@@ -1,7 +1,7 @@
 use Rattle.std.proofs.Common.{refl}
 use Rattle.std.proofs.lemmas.Result.{IfOk-weaker}
 use Rattle.session_run.proofs.Streams.{came_over_streams}
-use Rattle.session_run.proofs.pass.fn.fetch_round.keep_beside.Goals as goal
+use Rattle.session_run.proofs.pass.fn.fetch_from.keep_beside.Goals as goal
 
 pub returns : goal.returns
 returns g c = record {
