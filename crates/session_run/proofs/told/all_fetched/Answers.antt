@@ -1,8 +1,11 @@
 use Rattle.std.proofs.Common.{subst, sym}
 use Rattle.std.proofs.lemmas.List.{take_all}
-use Rattle.std.proofs.lemmas.List.Elements.{All-more, All-same}
+use Rattle.std.proofs.lemmas.List.Elements.{All-nil, All-more, All-same}
 use Rattle.ws_link.specs.Fetched.{WasFetched}
 use Rattle.session_run.proofs.told.all_fetched.Goals as goal
+
+pub loop-told-init : goal.loop-told-init
+loop-told-init g c = All-nil (λ told. WasFetched told.source)
 
 pub loop-told-preserved : goal.loop-told-preserved
 loop-told-preserved g c =
