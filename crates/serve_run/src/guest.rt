@@ -28,6 +28,36 @@ enum Stage<J: Naming> {
     Talking(Talk<Line, J>),
 }
 
+/// What a turn has come to. None tells that the connection has ended: what was answered goes out then, as far as it is taken.
+fn outcome<J: Naming>(
+    talk: &mut Talk<Line, J>,
+    turned: Result<Turned, LinkFault>,
+) -> Option<Turned> {
+    match turned {
+        Ok(Turned::Over) if !talk.has_waiting() => None,
+        Ok(turned) => Some(turned),
+        Err(_) => {
+            let _ = talk.send();
+            None
+        }
+    }
+}
+
+/// How far a connection is behind a step of its handshake, and what it is due. None tells that no memory was found.
+fn stage_behind<J: Naming>(
+    alloc: Global,
+    greeted: Greeted<Line>,
+    limits: RelayLimits,
+) -> Option<(Stage<J>, Turned)> {
+    match greeted {
+        Greeted::Waits(rest) => Some((Stage::Greeting(rest), Turned::Idle)),
+        Greeted::Done(line) => {
+            let talk = Talk::new(alloc, line, limits, MOST_WAITING).ok()?;
+            Some((Stage::Talking(talk), Turned::Ready))
+        }
+    }
+}
+
 /// A connection that is served turn by turn.
 #[derive(Drop)]
 pub struct Guest<J: Naming> {
@@ -88,79 +118,68 @@ impl<J: Naming> Guest<J> {
         turns: Turns<'_>,
         limits: RelayLimits,
     ) -> Option<Turned> {
-        match self.stage.take()? {
-            Stage::Greeting(greeting) => self.greet(alloc, greeting, limits),
-            Stage::Talking(mut talk) => {
+        match &mut self.stage {
+            Some(Stage::Talking(talk)) => {
                 let texts = talk.texts();
                 let turned = talk.turn(rt, alloc, reader, desk, keeper, turns);
-                let brought = self.client.brought();
                 let is_same = talk.texts() == texts;
-                self.behind = if is_same {
-                    self.behind.saturating_add(brought)
-                } else {
-                    0
-                };
-                self.go_on(talk, turned)
+                let turned = outcome(talk, turned);
+                self.note_brought(is_same);
+                self.end_unless(turned)
             }
+            Some(Stage::Greeting(_)) => self.greet(alloc, limits),
+            None => None,
         }
     }
 
     /// Tells its client what was published. None tells that it has ended.
     pub fn tell(&mut self, alloc: Global, reader: &mut Reader<J>) -> Option<Turned> {
-        match self.stage.take()? {
-            Stage::Greeting(greeting) => {
-                self.stage = Some(Stage::Greeting(greeting));
-                Some(Turned::Idle)
-            }
-            Stage::Talking(mut talk) => {
+        match &mut self.stage {
+            Some(Stage::Talking(talk)) => {
                 let told = talk.tell(alloc, reader);
-                self.go_on(talk, told)
+                let told = outcome(talk, told);
+                self.end_unless(told)
             }
+            Some(Stage::Greeting(_)) => Some(Turned::Idle),
+            None => None,
         }
     }
 
-    // What a turn has come to.
-    fn go_on(
-        &mut self,
-        mut talk: Talk<Line, J>,
-        turned: Result<Turned, LinkFault>,
-    ) -> Option<Turned> {
-        match turned {
-            Ok(Turned::Over) if !talk.has_waiting() => None,
-            Ok(turned) => {
-                self.stage = Some(Stage::Talking(talk));
-                Some(turned)
-            }
-            Err(_) => {
-                // What was answered goes out, as far as it is taken.
-                let _ = talk.send();
-                None
-            }
+    // Notes how many bytes came with a turn, behind its last text if that is the same.
+    fn note_brought(&mut self, is_same: bool) {
+        let brought = self.client.brought();
+        self.behind = if is_same {
+            self.behind.saturating_add(brought)
+        } else {
+            0
+        };
+    }
+
+    // It has ended unless a turn came to something.
+    fn end_unless(&mut self, turned: Option<Turned>) -> Option<Turned> {
+        if turned.is_none() {
+            self.stage = None;
         }
+        turned
     }
 
     // Goes on with its handshake.
-    fn greet(
-        &mut self,
-        alloc: Global,
-        greeting: Greeting<Line>,
-        limits: RelayLimits,
-    ) -> Option<Turned> {
+    fn greet(&mut self, alloc: Global, limits: RelayLimits) -> Option<Turned> {
+        let Some(Stage::Greeting(greeting)) = self.stage.take() else {
+            return None;
+        };
         match greeting.go_on() {
-            Ok(Greeted::Waits(rest)) => {
-                self.stage = Some(Stage::Greeting(rest));
-                Some(Turned::Idle)
+            Ok(greeted) => {
+                let (stage, turned) = stage_behind(alloc, greeted, limits)?;
+                self.stage = Some(stage);
+                Some(turned)
             }
-            Ok(Greeted::Done(line)) => {
-                let talk = Talk::new(alloc, line, limits, MOST_WAITING).ok()?;
-                self.stage = Some(Stage::Talking(talk));
-                Some(Turned::Ready)
-            }
-            Err(LinkFault::Wire) => {
-                self.client.turn_away();
+            Err(fault) => {
+                if matches!(fault, LinkFault::Wire) {
+                    self.client.turn_away();
+                }
                 None
             }
-            Err(_) => None,
         }
     }
 

@@ -53,6 +53,26 @@ pub struct Hall<G, K> {
     ending: Condvar,
 }
 
+/// So many seats that nobody has.
+fn empty_seats<G: Drop>(alloc: Global, count: usize) -> Result<Vec<Seat<G>>, AllocError> {
+    let mut seats = Vec::with_capacity(alloc, count)?;
+    for _ in 0..count {
+        seats.push(Seat::new())?;
+    }
+    Ok(seats)
+}
+
+/// For each part of the clients that it isn't due to hear of what is published, and that nobody of it is subscribed.
+fn parts(alloc: Global) -> Result<(Vec<AtomicBool>, Vec<AtomicUsize>), AllocError> {
+    let mut has_news = Vec::with_capacity(alloc, PARTS)?;
+    let mut subscribed = Vec::with_capacity(alloc, PARTS)?;
+    for _ in 0..PARTS {
+        has_news.push(AtomicBool::new(false))?;
+        subscribed.push(AtomicUsize::new(0))?;
+    }
+    Ok((has_news, subscribed))
+}
+
 impl<G: Drop, K: Drop> Hall<G, K> {
     /// A hall for so many connections, of which as many are served side by side as there are seats.
     pub fn new(
@@ -66,18 +86,9 @@ impl<G: Drop, K: Drop> Hall<G, K> {
         syncs: bool,
         desk: K,
     ) -> Result<Hall<G, K>, AllocError> {
-        let mut all = Vec::with_capacity(alloc, seats)?;
-        for _ in 0..seats {
-            all.push(Seat::new())?;
-        }
-        let mut has_news = Vec::with_capacity(alloc, PARTS)?;
-        let mut subscribed = Vec::with_capacity(alloc, PARTS)?;
-        for _ in 0..PARTS {
-            has_news.push(AtomicBool::new(false))?;
-            subscribed.push(AtomicUsize::new(0))?;
-        }
+        let (has_news, subscribed) = parts(alloc)?;
         Ok(Hall {
-            seats: all,
+            seats: empty_seats(alloc, seats)?,
             queue: Mutex::new(Queue::new(alloc, seats, PARTS, door)?),
             has_errands: Condvar::new(),
             has_long: Condvar::new(),

@@ -8,7 +8,7 @@ use crate::guest::Guest;
 use crate::hall::Hall;
 use crate::serving::serve_beside;
 use crate::tending::keep_meanwhile;
-use event_store::{Blank, Naming, open_store};
+use event_store::{Blank, Desk, Naming, Reader, open_store};
 use mio::net::TcpListener;
 use mio::{Poll, Waker};
 use mirror_settings::{Address, Job, Settings, SettingsKey, Syncing, read_settings};
@@ -73,8 +73,37 @@ fn door_to<R: Net>(
     Ok((Door::new(alloc, poll, listener, seats)?, waker))
 }
 
-/// Listens as the settings say, and tells where: the host as it was asked for, and the port that was bound. The hall has the desk,
-/// and serves as many connections as the settings say, or without an end. Where they don't say where to listen, that is refused.
+/// The same at one of the address' places, and the port that was bound.
+fn door_at<R: Net>(
+    rt: &R,
+    alloc: Global,
+    address: &Address,
+    seats: usize,
+) -> Result<(Door, Waker, u16), Refusal> {
+    let listener = listen(rt, alloc, address)?;
+    let Ok(bound) = listener.local_addr() else {
+        return Err(Refusal::Listen);
+    };
+    match door_to(rt, alloc, listener, seats) {
+        Ok((door, waker)) => Ok((door, waker, bound.port())),
+        Err(_) => Err(Refusal::Listen),
+    }
+}
+
+/// Tells where the hall listens: the host as it was asked for, and the port that was bound.
+fn say_place<W: Write>(
+    alloc: Global,
+    writer: &mut W,
+    address: &Address,
+    port: u16,
+) -> Result<(), Refusal> {
+    let host = address.host.as_str();
+    let text = format!(in alloc; "listening {host}:{port}\n")?;
+    say(writer, text.as_str())
+}
+
+/// Listens as the settings say, and tells where. The hall has the desk, and serves as many connections as the settings say, or
+/// without an end. Where they don't say where to listen, that is refused.
 pub fn open_hall<J: Naming, K: Drop, R: Net, W: Write>(
     rt: &R,
     alloc: Global,
@@ -85,14 +114,8 @@ pub fn open_hall<J: Naming, K: Drop, R: Net, W: Write>(
     let Some(address) = &settings.listen else {
         return Err(Refusal::Key(SettingsKey::Listen));
     };
-    let listener = listen(rt, alloc, address)?;
-    let Ok(bound) = listener.local_addr() else {
-        return Err(Refusal::Listen);
-    };
     let seats = seats_of(settings);
-    let Ok((door, waker)) = door_to(rt, alloc, listener, seats) else {
-        return Err(Refusal::Listen);
-    };
+    let (door, waker, port) = door_at(rt, alloc, address, seats)?;
     let conns = settings.conns.unwrap_or(u64::MAX);
     let limits = RelayLimits::default().read_only(settings.read_only);
     let patience = Patience::of(settings);
@@ -100,9 +123,7 @@ pub fn open_hall<J: Naming, K: Drop, R: Net, W: Write>(
     let hall = Hall::new(
         alloc, conns, seats, door, waker, patience, limits, syncs, desk,
     )?;
-    let (host, port) = (address.host.as_str(), bound.port());
-    let text = format!(in alloc; "listening {host}:{port}\n")?;
-    say(writer, text.as_str())?;
+    say_place(alloc, writer, address, port)?;
     Ok(hall)
 }
 
@@ -117,6 +138,32 @@ fn end<J: Naming, R: Wait + Files, W: Write, E: Write + Drop>(
     let events = keeping.finish(rt)?;
     let text = format!(in alloc; "served {conns}\nevents {events}\n")?;
     say(writer, text.as_str())
+}
+
+/// Serves the hall's connections until the last has ended. Events are kept in the file meanwhile.
+fn serve_hall<
+    J: Naming + Send + Sync,
+    D: Wait + Drop + Send,
+    R: Net + Threads + Wait + Files<File = File> + Clock + Sync,
+    W: Write,
+    E: Write + Send + Drop,
+>(
+    rt: &R,
+    alloc: Global,
+    settings: &Settings,
+    hall: Hall<Guest<J>, Desk<J, D>>,
+    readers: Vec<Reader<J>>,
+    keeping: Keeping<J, E>,
+    writer: &mut W,
+) -> Result<(), Refusal> {
+    serve_beside(rt, alloc, &hall, &keeping, readers, || {
+        keep_meanwhile(rt, &hall, &keeping)
+    });
+    // The store's desk, in the hall, is there until the file is written.
+    let conns = settings.conns.unwrap_or(0);
+    let done = end(rt, alloc, conns, keeping, writer);
+    drop(hall);
+    done
 }
 
 /// Does the job in a store of this name.
@@ -138,7 +185,6 @@ fn run_named<
     requires book { blank ≡ J.book }
     requires most { J.most ≡ 1000000 }
 {
-    let conns = settings.conns.unwrap_or(0);
     // One reader is for the file.
     let count = readers_for(rt).saturating_add(1);
     let (mut desk, mut readers) = open_store::<J, D>(keep, alloc, blank, count)?;
@@ -155,13 +201,7 @@ fn run_named<
         }
     };
     let keeping = keeping_of(alloc, file, reader, errors, settings.fsync)?;
-    serve_beside(rt, alloc, &hall, &keeping, readers, || {
-        keep_meanwhile(rt, &hall, &keeping)
-    });
-    // The store's desk, in the hall, is there until the file is written.
-    let done = end(rt, alloc, conns, keeping, writer);
-    drop(hall);
-    done
+    serve_hall(rt, alloc, settings, hall, readers, keeping, writer)
 }
 
 /// Reads settings, puts the events of the file into a store, listens, and serves so many connections as the settings say. Events
