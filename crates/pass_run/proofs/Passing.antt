@@ -1,7 +1,8 @@
 -- One more slice of a pass.
-use Rattle.std.proofs.Common.{◌≡◌, ◌+◌, ◌-◌, ◌^◌, ◌++◌, [], ◌∷◌, ◌∙◌, ⊎_elim, ℕ, List, Option, Some, None, All, min, cond, true, false, nat_lt, refl, sym, ap, subst, arith, map, Result, Ok, IfOk}
+use Rattle.std.proofs.Common.{◌≡◌, ◌+◌, ◌++◌, [], ◌∷◌, ◌∙◌, ⊎_elim, ℕ, List, Option, Some, None, All, cond, true, false, nat_lt, refl, sym, ap, subst, arith, map, Result, IfOk}
 use Rattle.std.specs.List.{sum_by}
 use Rattle.std.proofs.lemmas.List.{map-append}
+use Rattle.std.proofs.lemmas.Result.{IfOk-weaker}
 use Rattle.std.proofs.lemmas.List.Sums.{sum_by_push}
 use Rattle.std.proofs.lemmas.List.Elements.{All-nil, All-push}
 use Rattle.mirror_settings.specs.declared.settings.Settings.{Settings}
@@ -18,9 +19,11 @@ use Rattle.slices.specs.Course.{AreGoneOver, Course, begun, ended, halved, halve
 use Rattle.pass_run.specs.declared.tally.Tally.{Tally}
 use Rattle.pass_run.specs.Sums.{capped}
 use Rattle.pass_run.specs.Span.{first_of, last_of, within}
+use Rattle.pass_run.specs.declared.pass.Attempt.{Attempt}
+use Rattle.pass_run.specs.declared.pass.Attempt.TheVariants as attempt
 use Rattle.pass_run.specs.declared.pass.Outcome.{Outcome}
 use Rattle.pass_run.specs.declared.pass.Outcome.TheVariants as outcome
-use Rattle.pass_run.specs.Passes.{Came, IsEnded, IsTaken, IsPass, IsBoth, IfWent, GoesOn, IsPlannedFor, no_ids}
+use Rattle.pass_run.specs.Passes.{Came, IsEnded, IsTaken, IsPass, IsBoth, IfWent, IfPlanned, GoesOn, IsPlannedFor, no_ids}
 
 abbrev gone_by : Came → Slice × Ending
 gone_by c = (c.slice, c.ending)
@@ -120,14 +123,23 @@ goes_under settings old new before all s outcome.GivenUp is went goes u =
     rw goes.1 (subst (λ (c : Course). IsUnder settings c before) (sym goes.0) (ended_under settings old before before s GivenUp no_ids is refl (none_more u.came before u.sums) u))
 
 -- a plan that was made of a slice
-pub planned_for : (settings : Settings) (slice : Slice) (filter : Filter) (r : Result Synced SyncFault) (done : Synced) (seen : List EventView) → filter ≡ within settings.filter slice → r ≡ Ok done
+pub planned_for : (settings : Settings) (slice : Slice) (filter : Filter) (r : Result Synced SyncFault) (seen : List EventView) → filter ≡ within settings.filter slice
     → IfOk r (λ d. (bases : List ℕ) × BeginAt settings.bases bases × IsSynced (record settings { filter = filter }) bases seen d.ends.items d.table d.plan)
-    → IsPlannedFor settings slice done.ends.items done.table done.plan
-planned_for settings slice filter r done seen narrow is known =
-    let at = subst (λ (d : Result Synced SyncFault). IfOk d (λ d. (bases : List ℕ) × BeginAt settings.bases bases × IsSynced (record settings { filter = filter }) bases seen d.ends.items d.table d.plan)) is known in
-    record {
+    → IfOk r (λ d. IsPlannedFor settings slice d.ends.items d.table d.plan)
+planned_for settings slice filter r seen narrow known =
+    IfOk-weaker r (λ d. (bases : List ℕ) × BeginAt settings.bases bases × IsSynced (record settings { filter = filter }) bases seen d.ends.items d.table d.plan)
+    (λ d. IsPlannedFor settings slice d.ends.items d.table d.plan)
+    (λ d at. record {
       seen = seen;
       bases = at.0;
       begin = at.1;
-      synced = subst (λ (f : Filter). IsSynced (record settings { filter = f }) at.0 seen done.ends.items done.table done.plan) narrow at.2;
-    }
+      synced = subst (λ (f : Filter). IsSynced (record settings { filter = f }) at.0 seen d.ends.items d.table d.plan) narrow at.2;
+    }) known
+
+-- an attempt that is planned is so by what was planned
+pub planned_by : (settings : Settings) (slice : Slice) (done : Synced) (a : Attempt)
+    → IfPlanned a (λ ends table plan. (ends ≡ done.ends.items) × (table ≡ done.table) × (plan ≡ done.plan))
+    → IsPlannedFor settings slice done.ends.items done.table done.plan → IfPlanned a (IsPlannedFor settings slice)
+planned_by settings slice done (attempt.Planned d) is known = rw (is.0, is.1, is.2) known
+planned_by settings slice done (attempt.TooLarge heard middle) is known = tt
+planned_by settings slice done attempt.Nobody is known = tt

@@ -1,5 +1,5 @@
 -- Lines put one behind another.
-use Rattle.std.proofs.Common.{◌≡◌, ◌+◌, ◌-◌, ◌^◌, ◌++◌, [], ◌∷◌, ◌∙◌, ℕ, List, Option, Some, None, Bool, false, All, length, fold, refl, sym, ap, subst, arith, flat_map}
+use Rattle.std.proofs.Common.{◌≡◌, ◌+◌, ◌-◌, ◌^◌, ◌++◌, [], ◌∷◌, ◌∙◌, ℕ, List, Option, Some, None, Bool, false, All, length, refl, sym, ap, subst, arith, flat_map}
 use Rattle.std.specs.Prelude.{unwrap_or}
 use Rattle.std.specs.List.{enumerate_from}
 use Rattle.std.proofs.lemmas.List.{append_assoc, append-nil, length_push}

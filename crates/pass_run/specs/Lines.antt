@@ -1,5 +1,5 @@
 -- What is told, byte by byte.
-use Rattle.std.specs.Prelude.{ℕ, List, ◌∷◌, [], ◌++◌, codes, decimal, Option}
+use Rattle.std.specs.Prelude.{ℕ, List, ◌++◌, codes, decimal, Option}
 use Rattle.std.specs.Io.KnownBytes.{Appends}
 use Rattle.pass_run.specs.declared.roster.News.{News}
 use Rattle.pass_run.specs.declared.roster.News.TheVariants.{Stands, LeftOut}

@@ -1,5 +1,5 @@
 -- The times of a filter, and what it matches of a slice of them.
-use Rattle.std.specs.Prelude.{ℕ, ◌^◌, ◌-◌, Option, None, Some, unwrap_or, nat_lt, if◌then◌else◌}
+use Rattle.std.specs.Prelude.{ℕ, ◌^◌, ◌-◌, None, Some, unwrap_or, nat_lt, if◌then◌else◌}
 use Rattle.nostr_filter.specs.declared.filter.Filter.{Filter}
 use Rattle.slices.specs.declared.times.Slice.{Slice}
 

@@ -110,6 +110,25 @@ impl<
     K,
     P: Write,
 > Listening<'a, R, K, P> {
+    // A stream to a relay, if it can be reached, else it is noted why not.
+    fn stream_to(
+        &self,
+        alloc: Global,
+        relay: &Relay,
+        notes: &mut Notes,
+    ) -> Result<Option<Heeding<'a, R>>, Refusal> {
+        let via = &relay.via;
+        let address = format!(in alloc; "{via}")?;
+        let timeout = self.settings.timeout();
+        match connected(self.rt, address.as_str(), timeout) {
+            Ok(stream) => Ok(Some(Heeding::new(self.rt, stream, self.wishes, timeout))),
+            Err(reason) => {
+                notes.tell(reason);
+                Ok(None)
+            }
+        }
+    }
+
     // A subscription to a relay for what the filter matches, if it can be reached, else it is noted why not.
     fn subscribed(
         &self,
@@ -118,15 +137,8 @@ impl<
         filter: Filter,
         notes: &mut Notes,
     ) -> Result<Option<Live<'a, R>>, Refusal> {
-        let via = &relay.via;
-        let address = format!(in alloc; "{via}")?;
-        let timeout = self.settings.timeout();
-        let stream = match connected(self.rt, address.as_str(), timeout) {
-            Ok(stream) => Heeding::new(self.rt, stream, self.wishes, timeout),
-            Err(reason) => {
-                notes.tell(reason);
-                return Ok(None);
-            }
+        let Some(stream) = self.stream_to(alloc, relay, notes)? else {
+            return Ok(None);
         };
         let (host, path) = (relay.host.as_str(), relay.path.as_str());
         match WsSubscription::start_at(alloc, self.rt, stream, host, path, filter, notes) {
@@ -225,7 +237,26 @@ impl<
         self.tell(relay, name, &line);
     }
 
-    // Subscribes to a relay for events from that second on, and puts in what it sends, as long as it does.
+    // Subscribes to a relay for the events of these times that are wanted, and puts in what it sends, as long as it does.
+    fn hear(
+        &self,
+        alloc: Global,
+        relay: usize,
+        at: &Relay,
+        name: &str,
+        times: Slice,
+        wanted: &Filter,
+    ) -> Result<(), Refusal> {
+        let asked = narrowed(alloc, &self.settings.filter, times)?;
+        let mut notes = Notes::none();
+        match self.subscribed(alloc, at, asked, &mut notes)? {
+            Some(live) => self.go_on(relay, name, live, wanted),
+            None => self.tell(relay, name, &notes),
+        }
+        Ok(())
+    }
+
+    // The same of a relay by its number, for events from that second on.
     fn listen(&self, alloc: Global, relay: usize, since: u64) -> Result<(), Refusal> {
         let filter = &self.settings.filter;
         let Some(at) = self.settings.relays.as_slice().get(relay) else {
@@ -234,15 +265,9 @@ impl<
         let Some(times) = times_since(filter, since) else {
             return Ok(());
         };
-        let wanted = narrowed(alloc, filter, times)?;
-        let asked = narrowed(alloc, filter, times)?;
         let name = name_of(alloc, self.settings, relay)?;
-        let mut notes = Notes::none();
-        match self.subscribed(alloc, at, asked, &mut notes)? {
-            Some(live) => self.go_on(relay, name.as_str(), live, &wanted),
-            None => self.tell(relay, name.as_str(), &notes),
-        }
-        Ok(())
+        let wanted = narrowed(alloc, filter, times)?;
+        self.hear(alloc, relay, at, name.as_str(), times, &wanted)
     }
 }
 

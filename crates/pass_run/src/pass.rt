@@ -1,6 +1,6 @@
 //! One pass over the times of the filter, slice by slice.
 
-ghost use Rattle.std.specs.Prelude.{◌<◌, List, IfOk, OnOk, IsSome};
+ghost use Rattle.std.specs.Prelude.{◌≡◌, ◌<◌, List, IfOk, OnOk, IsSome};
 ghost use Rattle.slices.specs.Course.{work_left};
 ghost use Rattle.std.specs.Io.KnownBytes.{Appends};
 ghost use Rattle.pass_run.specs.Passes.{IsFetchedBy, IsTaken, IfPlanned, IfWent, IsPlannedFor, ToldPass, GoesOn, Line, news_lines};
@@ -12,6 +12,7 @@ use crate::tally::Tally;
 use event_store::{Desk, Naming, Reader};
 use mirror_core::{SyncFault, Synced};
 use mirror_settings::{Settings, SettingsKey};
+use offer_table::RelaySet;
 use session_run::{Compared, Heard, Host, Nowhere, Progress, compare, fetch_rounds};
 use sharing::SLOTS;
 use slices::{Slice, Slices};
@@ -112,6 +113,35 @@ fn set_aside(roster: &mut Roster, second: u64, heard: &[Heard]) -> Result<(), Al
     Ok(())
 }
 
+/// Compares a slice with all relays but those that are left out.
+fn compared<J: Naming, R: Host, P: Write + Send>(
+    rt: &R,
+    alloc: Global,
+    settings: &Settings,
+    slice: Slice,
+    left_out: RelaySet,
+    reader: &mut Reader<J>,
+    progress: &Progress<P>,
+) -> Result<Compared, Refusal>
+    ensures { IfOk result (λ c. IfOk c.done (λ done. IsPlannedFor settings.now slice done.ends.items done.table done.plan)) }
+{
+    let filter = narrowed(alloc, &settings.filter, slice)?;
+    compare(rt, alloc, settings, &filter, left_out, reader, progress)
+}
+
+/// What comparing a slice came to, where there is a plan.
+fn attempt_of(done: Synced, heard: Vec<Heard>, middle: Option<u64>) -> Attempt
+    ensures { IfPlanned result (λ ends table plan. (ends ≡ done.ends.items) × (table ≡ done.table) × (plan ≡ done.plan)) }
+{
+    if is_too_much(heard.as_slice()) {
+        Attempt::TooLarge(heard, middle)
+    } else if is_anyone_heard(heard.as_slice()) {
+        Attempt::Planned(done)
+    } else {
+        Attempt::Nobody
+    }
+}
+
 /// Compares a slice with the relays that are asked, and plans what is to be fetched.
 fn attempted<J: Naming, R: Host, P: Write + Send>(
     rt: &R,
@@ -124,24 +154,15 @@ fn attempted<J: Naming, R: Host, P: Write + Send>(
 ) -> Result<Attempt, Refusal>
     ensures { IfOk result (λ a. IfPlanned a (IsPlannedFor settings.now slice)) }
 {
-    let filter = narrowed(alloc, &settings.filter, slice)?;
     let out = roster.left_out();
     let Compared {
         heard,
         middle,
         done,
-    } = compare(rt, alloc, settings, &filter, out, reader, progress)?;
+    } = compared(rt, alloc, settings, slice, out, reader, progress)?;
     note_failed(roster, heard.as_slice())?;
     match done {
-        Ok(done) => {
-            if is_too_much(heard.as_slice()) {
-                Ok(Attempt::TooLarge(heard, middle))
-            } else if is_anyone_heard(heard.as_slice()) {
-                Ok(Attempt::Planned(done))
-            } else {
-                Ok(Attempt::Nobody)
-            }
-        }
+        Ok(done) => Ok(attempt_of(done, heard, middle)),
         Err(SyncFault::TableFull) => Ok(Attempt::TooLarge(heard, middle)),
         Err(fault) => Err(refusal_of(fault)),
     }

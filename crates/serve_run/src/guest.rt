@@ -158,9 +158,14 @@ impl<J: Naming> Guest<J> {
     // It has ended unless a turn came to something.
     fn end_unless(&mut self, turned: Option<Turned>) -> Option<Turned> {
         if turned.is_none() {
-            self.stage = None;
+            self.stand(None);
         }
         turned
+    }
+
+    // How far it is from now on.
+    fn stand(&mut self, stage: Option<Stage<J>>) {
+        self.stage = stage;
     }
 
     // Goes on with its handshake.
@@ -171,7 +176,7 @@ impl<J: Naming> Guest<J> {
         match greeting.go_on() {
             Ok(greeted) => {
                 let (stage, turned) = stage_behind(alloc, greeted, limits)?;
-                self.stage = Some(stage);
+                self.stand(Some(stage));
                 Some(turned)
             }
             Err(fault) => {

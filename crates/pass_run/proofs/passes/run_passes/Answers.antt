@@ -1,4 +1,4 @@
-use Rattle.std.proofs.Common.{◌≡◌, ◌+◌, ◌-◌, ◌^◌, ◌∙◌, arith}
+use Rattle.std.proofs.Common.{◌≡◌, ◌+◌, ◌-◌, ◌^◌, arith}
 use Rattle.std.specs.Prelude.{unwrap_or}
 use Rattle.pass_run.specs.Passes.{falls_short}
 use Rattle.pass_run.proofs.Telling.{none_told, one_more_told, all_told}
