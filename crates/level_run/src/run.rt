@@ -4,6 +4,7 @@ ghost use Rattle.std.specs.Prelude.{◌≡◌, None, IfOk};
 ghost use Rattle.std.specs.Thread.{IsSend};
 ghost use Rattle.pass_run.specs.Passes.{TellsPasses};
 
+use event_file::EventsFile;
 use event_store::{Blank, Desk, Naming, Reader, open_store};
 use mirror_settings::{Job, Settings, SettingsKey, read_settings, unknown_keys};
 use pass_run::run_live;
@@ -146,6 +147,40 @@ fn readers_of<R: Threads>(rt: &R, settings: &Settings) -> usize {
     }
 }
 
+/// Listens, and does the job in the store that the hall serves. Where it can't listen, the file stays as it is.
+fn run_listening<
+    J: Naming + Send + Sync,
+    D: Wait + Drop + Send + Sync,
+    R: Host + Files<File = File>,
+    W: Write,
+    P: Write + Send,
+    E: Write + Send + Drop,
+>(
+    rt: &R,
+    alloc: Global,
+    settings: &Settings,
+    desk: Desk<J, D>,
+    readers: Vec<Reader<J>>,
+    reader: &mut Reader<J>,
+    file: EventsFile,
+    of_file: Reader<J>,
+    writer: &mut W,
+    progress: &Progress<P>,
+    errors: E,
+) -> Result<bool, Refusal> {
+    let hall = match open_hall(rt, alloc, settings, desk, writer) {
+        Ok(hall) => hall,
+        Err(refusal) => {
+            file.discard(rt);
+            return Err(refusal);
+        }
+    };
+    let keeping = keeping_of(alloc, file, of_file, errors, settings.fsync)?;
+    run_serving(
+        rt, alloc, settings, hall, readers, reader, keeping, writer, progress,
+    )
+}
+
 /// Does the job in a store of this name.
 fn run_named<
     J: Naming + Send + Sync,
@@ -191,24 +226,18 @@ fn run_named<
             progress,
         );
     }
-    let hall = match open_hall(rt, alloc, settings, desk, writer) {
-        Ok(hall) => hall,
-        Err(refusal) => {
-            file.discard(rt);
-            return Err(refusal);
-        }
-    };
-    let keeping = keeping_of(alloc, file, of_file, errors, settings.fsync)?;
-    run_serving(
+    run_listening(
         rt,
         alloc,
         settings,
-        hall,
+        desk,
         readers,
         &mut reader,
-        keeping,
+        file,
+        of_file,
         writer,
         progress,
+        errors,
     )
 }
 

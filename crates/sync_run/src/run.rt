@@ -8,6 +8,7 @@ ghost use Rattle.session_run.specs.Rounds.{BeginAt};
 ghost use Rattle.session_run.specs.Synced.{IsSynced};
 ghost use Rattle.sync_run.specs.Printed.{IsSyncDone, PrintsOver, PrintsOfSome};
 
+use event_file::EventsFile;
 use event_store::{Blank, Desk, Naming, Reader, open_store};
 use mirror_core::{SyncFault, Synced};
 use mirror_settings::{Job, Settings, SettingsKey, read_settings};
@@ -235,6 +236,40 @@ fn readers_of<R: Threads>(rt: &R, settings: &Settings) -> usize {
     }
 }
 
+/// Listens, and does the job in the store that the hall serves. Where it can't listen, the file stays as it is.
+fn run_listening<
+    J: Naming + Send + Sync,
+    D: Wait + Drop + Send + Sync,
+    R: Host + Files<File = File>,
+    W: Write,
+    P: Write + Send,
+    E: Write + Send + Drop,
+>(
+    rt: &R,
+    alloc: Global,
+    settings: &Settings,
+    desk: Desk<J, D>,
+    readers: Vec<Reader<J>>,
+    reader: &mut Reader<J>,
+    file: EventsFile,
+    of_file: Reader<J>,
+    writer: &mut W,
+    progress: &Progress<P>,
+    errors: E,
+) -> Result<(), Refusal> {
+    let hall = match open_hall(rt, alloc, settings, desk, writer) {
+        Ok(hall) => hall,
+        Err(refusal) => {
+            file.discard(rt);
+            return Err(refusal);
+        }
+    };
+    let keeping = keeping_of(alloc, file, of_file, errors, settings.fsync)?;
+    run_serving(
+        rt, alloc, settings, hall, readers, reader, keeping, writer, progress,
+    )
+}
+
 /// Does the job in a store of this name.
 fn run_named<
     J: Naming + Send + Sync,
@@ -277,24 +312,18 @@ fn run_named<
             progress,
         );
     }
-    let hall = match open_hall(rt, alloc, settings, desk, writer) {
-        Ok(hall) => hall,
-        Err(refusal) => {
-            file.discard(rt);
-            return Err(refusal);
-        }
-    };
-    let keeping = keeping_of(alloc, file, of_file, errors, settings.fsync)?;
-    run_serving(
+    run_listening(
         rt,
         alloc,
         settings,
-        hall,
+        desk,
         readers,
         &mut reader,
-        keeping,
+        file,
+        of_file,
         writer,
         progress,
+        errors,
     )
 }
 
