@@ -51,6 +51,27 @@ fn run_alone<
     Ok(is_short)
 }
 
+/// Makes passes over the store that the hall serves.
+fn run_over<
+    J: Naming + Send + Sync,
+    D: Wait + Drop + Send + Sync,
+    R: Host,
+    W: Write,
+    P: Write + Send,
+    E: Write + Send + Drop,
+>(
+    rt: &R,
+    alloc: Global,
+    settings: &Settings,
+    desk: &Mutex<Desk<J, D>>,
+    reader: &mut Reader<J>,
+    keeping: &Keeping<J, E>,
+    writer: &mut W,
+    progress: &Progress<P>,
+) -> Result<bool, Refusal> {
+    run_live(rt, alloc, settings, reader, desk, keeping, writer, progress)
+}
+
 /// Does the job over the store that the hall serves, and goes on until serving is over. Where passes come to an end, the hall takes
 /// no further connections; without relays there are none, and it serves on.
 fn run_in_hall<
@@ -81,12 +102,12 @@ fn run_in_hall<
         ||
             requires { IsSend J.row × IsSend D.row × IsSend P.row }
         {
-            run_live(
+            run_over(
                 rt,
                 alloc,
                 settings,
-                reader,
                 hall.desk(),
+                reader,
                 keeping,
                 writer,
                 progress,
