@@ -1,7 +1,7 @@
 //! Puts the events of a file's lines into a store.
 //!
 //! The lines are read in parts. While the events of some parts are put into the store, those of the next ones are read, each part's
-//! by a thread of its own, and then the text of those behind them.
+//! by a thread of its own, and the text of those behind them.
 
 ghost use Rattle.std.specs.Prelude.{◌≤◌, length};
 ghost use Rattle.std.specs.Thread.{IsSend, IsSync};
@@ -77,10 +77,10 @@ pub fn part_of(size: u64) -> usize {
     (size / PARTS).clamp(LEAST_PART, MOST_PART) as usize
 }
 
-/// How many parts are read at once: one processor is left for the events that are put in.
+/// How many parts are read at once: by as many threads as there are processors, since putting in takes less than reading.
 fn parts_at_once<R: Threads>(rt: &R) -> usize {
     match available_parallelism(rt) {
-        Ok(processors) => processors.get().saturating_sub(1).clamp(1, MOST_PARTS),
+        Ok(processors) => processors.get().min(MOST_PARTS),
         Err(_) => 1,
     }
 }
@@ -225,7 +225,26 @@ fn take_parts<J: Naming, D: Wait + Drop, R: Wait>(
     Ok(())
 }
 
-/// Reads the events of parts, then the text of the parts behind them, and meanwhile does something else.
+/// Reads the events of parts, and meanwhile the text of the parts behind them.
+fn read_on<R: Threads + Wait + Sync, B: BufRead + Send>(
+    rt: &R,
+    alloc: Global,
+    parts: &mut [Part],
+    unread: &mut Unread<B>,
+) -> Vec<Part> {
+    let (behind, ()) = join(
+        rt,
+        ||
+            requires { IsSend B.row }
+        { unread.next_parts(alloc) },
+        ||
+            requires { IsSync R.row }
+        { run_workers(rt, alloc, &Reading, parts) },
+    );
+    behind
+}
+
+/// The same, and meanwhile something else.
 fn read_beside<R: Threads + Wait + Sync, B: BufRead + Send, G: FnOnce() -> T, T>(
     rt: &R,
     alloc: Global,
@@ -239,10 +258,7 @@ fn read_beside<R: Threads + Wait + Sync, B: BufRead + Send, G: FnOnce() -> T, T>
         rt,
         ||
             requires { IsSync R.row × IsSend B.row }
-        {
-            run_workers(rt, alloc, &Reading, parts);
-            unread.next_parts(alloc)
-        },
+        { read_on(rt, alloc, parts, unread) },
         ||
             requires { G.pre meanwhile }
         { meanwhile() },
