@@ -24,13 +24,14 @@ def begun(program, folder, file):
     conf = settings(os.path.join(folder, "start.toml"), events=file, listen="127.0.0.1:0", conns=2)
     start = time.perf_counter()
     with subprocess.Popen([program, "serve", conf], stdout=subprocess.PIPE) as child:
-        line = child.stdout.readline()
-        wall = time.perf_counter() - start
-        if not line.startswith(b"listening "):
-            raise SystemExit("%s said %r" % (program, line))
-        found = wall, spent(child.pid), peak(child.pid)
-        child.kill()
-    return found
+        try:
+            line = child.stdout.readline()
+            wall = time.perf_counter() - start
+            if not line.startswith(b"listening "):
+                raise SystemExit("%s said %r" % (program, line))
+            return wall, spent(child.pid), peak(child.pid)
+        finally:
+            child.kill()
 
 
 def main():
