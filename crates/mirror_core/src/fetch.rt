@@ -58,9 +58,8 @@ fn places<J: Naming>(alloc: Global, count: usize) -> Result<Vec<Stop<J>>, AllocE
 }
 
 /// Lets each source work the lane with its number, each in a thread of its own: it claims cells of the lane's relay, up to
-/// 100 at a time, is asked for their ids, and each event that was asked for is placed through the desk. Those of a fetch are
-/// put in at once, and then each is looked up; the desk's lock is taken for one such call at a time. A worker that stops
-/// early releases the cells that it holds.
+/// 100 at a time, is asked for their ids, and each event that was asked for is placed through the desk, those of a fetch at
+/// once. A worker that stops early releases the cells that it holds.
 ///
 /// # Errors
 ///

@@ -13,11 +13,12 @@ use crate::places::Places;
 use crate::source::{Source, SourceFault};
 use crate::workers::Duty;
 use claim_board::{Board, Lane};
-use event_store::{Desk, Filled, InsertFault, Naming};
+use event_store::{Desk, Filled, InsertFault, Naming, Placed};
 use neg_codec::Id;
 use nostr_event::Event;
 use std::alloc::{AllocError, Global};
 use std::sync::{Arc, Mutex, Wait};
+use std::vec::IntoIter;
 
 /// How a worker ended.
 #[derive(Drop)]
@@ -80,7 +81,8 @@ fn asked_of(
     Ok(asked)
 }
 
-/// Puts the events that were asked for into the store at once, where the inserts that follow find them.
+/// Puts the events that were asked for into the store at once, and tells what became of them, in the order of the ids. Of events
+/// behind the first for which there is no room it tells nothing, and of none where there is no memory.
 fn place_together<R: Wait, J: Naming, D: Wait + Drop>(
     rt: &R,
     alloc: Global,
@@ -88,15 +90,32 @@ fn place_together<R: Wait, J: Naming, D: Wait + Drop>(
     ids: &[Id],
     given: &[Arc<Event>],
     places: &Places,
-) -> Result<(), AllocError>
+) -> Vec<Placed<J>>
     requires { ArePlacesOf (ids_of given.now) places.now.by_id }
 {
-    let asked = asked_of(alloc, ids, given, places)?;
-    desk.lock(rt).insert_all(rt, &asked)?;
-    Ok(())
+    let Ok(asked) = asked_of(alloc, ids, given, places) else {
+        return Vec::new(alloc);
+    };
+    match desk.lock(rt).insert_each(rt, &asked) {
+        Ok(placed) => placed,
+        Err(_) => Vec::new(alloc),
+    }
+}
+
+/// What was told next, if that is of the event with this id.
+fn told_of<J: Naming>(told: &mut IntoIter<Placed<J>>, id: &Id) -> Option<Placed<J>>
+    ensures { IfSome result (λ placed. placed.id ≡ id.now) }
+{
+    let placed = told.next()?;
+    if placed.id() == *id {
+        Some(placed)
+    } else {
+        None
+    }
 }
 
 /// Ends a cell that the lane holds: as done once its event is placed, or as missed where its source gave none.
+/// An event of which nothing was told is put in here.
 fn end_cell<R: Wait, J: Naming, D: Wait + Drop>(
     rt: &R,
     board: &Board<J>,
@@ -105,6 +124,7 @@ fn end_cell<R: Wait, J: Naming, D: Wait + Drop>(
     cell: usize,
     given: &[Arc<Event>],
     places: &Places,
+    told: &mut IntoIter<Placed<J>>,
 ) -> Result<(), InsertFault<J>>
     requires board { lane.old.board ≡ board.now.board }
     requires cell { (cell < length board.now.cells) × Contains lane.old.own.held cell }
@@ -118,6 +138,10 @@ fn end_cell<R: Wait, J: Naming, D: Wait + Drop>(
         board.miss(lane, cell);
         return Ok(());
     };
+    if let Some(placed) = told_of(told, &id) {
+        board.finish(lane, cell, &placed);
+        return Ok(());
+    }
     let Ok(event) = Arc::try_clone(&given[k]) else {
         return Err(InsertFault::Memory);
     };
@@ -152,10 +176,19 @@ fn settle<R: Wait, J: Naming, D: Wait + Drop>(
         release_from(board, lane, &batch.cells, 0);
         return Err(InsertFault::Memory);
     };
-    // Without memory for it each insert below tells for itself.
-    let _ = place_together(rt, alloc, desk, batch.ids.as_slice(), given, &places);
+    let placed = place_together(rt, alloc, desk, batch.ids.as_slice(), given, &places);
+    let mut told = placed.into_iter();
     for k in 0..batch.cells.len() {
-        match end_cell(rt, board, desk, lane, batch.cells[k], given, &places) {
+        match end_cell(
+            rt,
+            board,
+            desk,
+            lane,
+            batch.cells[k],
+            given,
+            &places,
+            &mut told,
+        ) {
             Ok(()) => {}
             Err(fault) => {
                 release_from(board, lane, &batch.cells, k);

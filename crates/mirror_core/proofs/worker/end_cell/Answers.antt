@@ -13,10 +13,15 @@ returns-in_default-clause-ended g c =
 pub finish-requires-clause-placed : goal.finish-requires-clause-placed
 finish-requires-clause-placed g c =
     let cell = c.cell.result in
+    (cell.1, c.cell.ensures.value ∙ ap (λ (z : Id). Some (z, cell.1)) (sym c.in-Some-told_of.ensures))
+
+pub finish-requires-in-Ok-insert-clause-placed : goal.finish-requires-in-Ok-insert-clause-placed
+finish-requires-in-Ok-insert-clause-placed g c =
+    let cell = c.cell.result in
     let given = given_at c.args.given.now c.in-Some.k c.index-given-k.result cell.0 c.in-Some.ensures.0 c.index-given-k.is c.in-Some.ensures.1 in
     (cell.1, c.cell.ensures.value ∙ ap (λ (z : Id). Some (z, cell.1)) (sym given ∙ (ap (λ (z : EventView). z.id) (sym c.in-Ok.ensures) ∙ sym c.in-Ok-insert.ensures.placed.0)))
 
 pub returns-in-Ok-insert-clause-ended : goal.returns-in-Ok-insert-clause-ended
 returns-in-Ok-insert-clause-ended g c =
     let cell = c.cell.result in
-    (cell.0, (cell.1, c.cell.ensures.value), inl (ap (λ (z : LaneView). z.own) c.finish.ensures, is_given c.args.given.now c.in-Some.k cell.0 c.in-Some.ensures.0 c.in-Some.ensures.1))
+    (cell.0, (cell.1, c.cell.ensures.value), inl (ap (λ (z : LaneView). z.own) c.finish-in-Ok-insert.ensures, is_given c.args.given.now c.in-Some.k cell.0 c.in-Some.ensures.0 c.in-Some.ensures.1))
