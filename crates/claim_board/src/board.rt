@@ -24,12 +24,23 @@ use std::snapshot::Snapshot;
 const MOST_LANES: usize = 1024;
 
 /// The board of a plan, whose cells are done by events of the store with this name.
-#[derive(Drop)]
 pub struct Board<J: Naming> {
     table: Table<u8, Records, Snapshot<Layout>, Rule, Global>,
     layout: Layout,
     alloc: Global,
     of: PhantomData<J>,
+}
+
+// By hand, as a derived one is proved anew wherever a value is dropped.
+impl<J: Naming> Drop for Board<J> {
+    fn drop(self) {
+        let Self {
+            table: _,
+            layout: _,
+            alloc: _,
+            of: _,
+        } = self;
+    }
 }
 
 impl<J: Naming> Model for Board<J> {

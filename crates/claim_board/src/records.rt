@@ -9,7 +9,7 @@ use std::snapshot::Snapshot;
 use thiserror::Error;
 
 /// What a claim answers: `Lost` has what the cell was found as.
-#[derive(Debug, Clone, Copy, PartialEq, Eq)]
+#[derive(Clone, Copy)]
 pub enum Claimed {
     Won,
     Lost(Cell),

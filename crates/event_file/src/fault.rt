@@ -3,7 +3,7 @@
 use std::alloc::{AllocError, AllocFailed};
 
 /// Why a file's lines weren't all put into the store.
-#[derive(Clone, Copy, Debug, PartialEq, Eq)]
+#[derive(Clone, Copy)]
 pub enum FileFault {
     /// The first line that isn't UTF-8, holds no event, or has one more than the store takes, counted from 1.
     Line(usize),
@@ -12,7 +12,7 @@ pub enum FileFault {
 }
 
 /// Why a line wasn't put into the store.
-#[derive(Clone, Copy, Debug, PartialEq, Eq)]
+#[derive(Clone, Copy)]
 pub(crate) enum LineFault {
     /// It isn't UTF-8, holds no event, or has one more than the store takes.
     Wrong,

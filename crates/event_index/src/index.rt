@@ -25,10 +25,16 @@ const FAN: usize = 16;
 const SPREAD: usize = 4;
 
 /// Where the first events of a list stand, by what filters ask for. It is never changed.
-#[derive(Drop)]
 pub struct Index {
     runs: Vec<Arc<Run>>,
     count: usize,
+}
+
+// By hand, as a derived one is proved anew wherever a value is dropped.
+impl Drop for Index {
+    fn drop(self) {
+        let Self { runs: _, count: _ } = self;
+    }
 }
 
 impl Model for Index {

@@ -14,10 +14,16 @@ use std::sync::Arc;
 const FEW: usize = 8;
 
 /// Events in the order in which they were put in. Contracts see them as their list.
-#[derive(Drop)]
 pub struct EventList {
     events: Events,
     few: Arc<Chunk<Event>>,
+}
+
+// By hand, as a derived one is proved anew wherever a value is dropped.
+impl Drop for EventList {
+    fn drop(self) {
+        let Self { events: _, few: _ } = self;
+    }
 }
 
 impl Model for EventList {

@@ -16,7 +16,7 @@ pub trait Keeper<J: Naming> {
 }
 
 /// Keeps events in memory alone, as long as their store is there.
-#[derive(Clone, Copy, Debug)]
+#[derive(Clone, Copy)]
 pub struct Unfiled;
 
 impl<J: Naming> Keeper<J> for Unfiled {

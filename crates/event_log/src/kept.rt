@@ -5,10 +5,16 @@ use event_store::{Front, Naming, Placed};
 use std::marker::{Model, PhantomData};
 
 /// A beginning of the history of that name, which a log has kept on such a medium. Contracts see it as its events.
-#[derive(Drop)]
 pub struct Kept<J: Naming, M> {
     front: Front<J>,
     of: PhantomData<M>,
+}
+
+// By hand, as a derived one is proved anew wherever a value is dropped.
+impl<J: Naming, M> Drop for Kept<J, M> {
+    fn drop(self) {
+        let Self { front: _, of: _ } = self;
+    }
 }
 
 impl<J: Naming, M> Model for Kept<J, M> {

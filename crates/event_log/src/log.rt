@@ -16,7 +16,6 @@ use std::marker::Model;
 
 /// The lines of a store's events on a medium, to which those that are published further are appended. After a fault the medium is
 /// cut back to lines that can be trusted, and the lines behind these are written anew. Contracts see it as `Logged`.
-#[derive(Drop)]
 pub struct Log<J: Naming, M: Medium> {
     medium: M,
     // Whether lines last before they count as kept.
@@ -31,6 +30,22 @@ pub struct Log<J: Naming, M: Medium> {
     is_torn: bool,
     // Where lines are put together.
     text: Vec<u8>,
+}
+
+// By hand, as a derived one is proved anew wherever a value is dropped.
+impl<J: Naming, M: Medium + Drop> Drop for Log<J, M> {
+    fn drop(self) {
+        let Self {
+            medium: _,
+            is_eager: _,
+            front: _,
+            len: _,
+            safe: _,
+            safe_len: _,
+            is_torn: _,
+            text: _,
+        } = self;
+    }
 }
 
 impl<J: Naming, M: Medium> Model for Log<J, M> {
@@ -169,7 +184,16 @@ impl<J: Naming, M: Medium> Log<J, M> {
     pub fn into_medium(self) -> M
         ensures { result ≡ self.medium }
     {
-        let Log { medium, .. } = self;
+        let Self {
+            medium,
+            is_eager: _,
+            front: _,
+            len: _,
+            safe: _,
+            safe_len: _,
+            is_torn: _,
+            text: _,
+        } = self;
         medium
     }
 }

@@ -11,10 +11,16 @@ use nostr_event::Event;
 use std::marker::{Model, PhantomData};
 
 /// A history with no events, which has no name yet. Contracts see it as its book.
-#[derive(Drop)]
 pub struct Blank {
     word: Word<Event, u64, Law>,
     seen: Seen<Event, u64, Law>,
+}
+
+// By hand, as a derived one is proved anew wherever a value is dropped.
+impl Drop for Blank {
+    fn drop(self) {
+        let Self { word: _, seen: _ } = self;
+    }
 }
 
 impl Model for Blank {
@@ -58,11 +64,21 @@ impl Blank {
 
 /// Where the history goes on. Contracts see it as how many events were added, and as none once it may have gone on further
 /// than what is published: then nothing can be added any more.
-#[derive(Drop)]
 pub struct Head<J: Naming> {
     word: Word<Event, u64, Law>,
     len: Option<u64>,
     of: PhantomData<J>,
+}
+
+// By hand, as a derived one is proved anew wherever a value is dropped.
+impl<J: Naming> Drop for Head<J> {
+    fn drop(self) {
+        let Self {
+            word: _,
+            len: _,
+            of: _,
+        } = self;
+    }
 }
 
 impl<J: Naming> Model for Head<J> {
@@ -97,10 +113,16 @@ impl<J: Naming> Head<J> {
 }
 
 /// A beginning of the history of that name, which was seen. Contracts see it as its events.
-#[derive(Drop)]
 pub struct Front<J: Naming> {
     mark: Mark,
     of: PhantomData<J>,
+}
+
+// By hand, as a derived one is proved anew wherever a value is dropped.
+impl<J: Naming> Drop for Front<J> {
+    fn drop(self) {
+        let Self { mark: _, of: _ } = self;
+    }
 }
 
 impl<J: Naming> Model for Front<J> {

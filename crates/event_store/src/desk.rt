@@ -22,9 +22,15 @@ use std::marker::Model;
 use std::sync::{Arc, Wait};
 
 /// The published list, which has as many events as the store takes.
-#[derive(Drop)]
 pub struct Filled<J: Naming> {
     told: Front<J>,
+}
+
+// By hand, as a derived one is proved anew wherever a value is dropped.
+impl<J: Naming> Drop for Filled<J> {
+    fn drop(self) {
+        let Self { told: _ } = self;
+    }
 }
 
 impl<J: Naming> Model for Filled<J> {

@@ -9,10 +9,16 @@ use nostr_event::Event;
 use std::marker::Model;
 
 /// Contracts see it as the history's book, and the events.
-#[derive(Drop)]
 pub struct Mark {
     len: u64,
     seen: Seen<Event, u64, Law>,
+}
+
+// By hand, as a derived one is proved anew wherever a value is dropped.
+impl Drop for Mark {
+    fn drop(self) {
+        let Self { len: _, seen: _ } = self;
+    }
 }
 
 impl Model for Mark {

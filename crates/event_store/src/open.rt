@@ -10,7 +10,7 @@ use std::alloc::Global;
 use std::sync::Wait;
 
 /// Why no store was opened.
-#[derive(Clone, Copy, Debug, PartialEq, Eq)]
+#[derive(Clone, Copy)]
 pub enum StoreFault {
     /// None, or more than 1,024.
     Readers,

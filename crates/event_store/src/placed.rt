@@ -8,11 +8,21 @@ use neg_codec::Id;
 use std::marker::Model;
 
 /// An event is published. Contracts see it as a `Placing`.
-#[derive(Drop)]
 pub struct Placed<J: Naming> {
     id: Id,
     fresh: bool,
     told: Front<J>,
+}
+
+// By hand, as a derived one is proved anew wherever a value is dropped.
+impl<J: Naming> Drop for Placed<J> {
+    fn drop(self) {
+        let Self {
+            id: _,
+            fresh: _,
+            told: _,
+        } = self;
+    }
 }
 
 impl<J: Naming> Model for Placed<J> {

@@ -22,7 +22,7 @@ use std::marker::Model;
 use std::sync::Arc;
 
 /// Why nothing was pinned.
-#[derive(Clone, Copy, Debug, PartialEq, Eq)]
+#[derive(Clone, Copy)]
 pub enum PinFault {
     /// There was no view, as once the desk is gone. Nothing more was seen.
     Gone,
@@ -31,10 +31,16 @@ pub enum PinFault {
 }
 
 /// Contracts see it as the list that it has seen or learnt.
-#[derive(Drop)]
 pub struct Reader<J: Naming> {
     side: Side<J>,
     front: Front<J>,
+}
+
+// By hand, as a derived one is proved anew wherever a value is dropped.
+impl<J: Naming> Drop for Reader<J> {
+    fn drop(self) {
+        let Self { side: _, front: _ } = self;
+    }
 }
 
 impl<J: Naming> Model for Reader<J> {

@@ -10,10 +10,16 @@ use std::marker::Model;
 use std::sync::Arc;
 
 /// What readers take. Contracts see it as its events, and the book of their history.
-#[derive(Drop)]
 pub struct Shown {
     state: Arc<EventTable>,
     mark: Mark,
+}
+
+// By hand, as a derived one is proved anew wherever a value is dropped.
+impl Drop for Shown {
+    fn drop(self) {
+        let Self { state: _, mark: _ } = self;
+    }
 }
 
 impl Model for Shown {

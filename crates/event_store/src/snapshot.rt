@@ -14,11 +14,21 @@ use std::marker::Model;
 use std::sync::Arc;
 
 /// The matching ones of the first events of a store. Contracts see it as a `Pinned`. It never changes.
-#[derive(Drop)]
 pub struct Snapshot {
     state: Arc<EventTable>,
     events: EventList,
     roll: Arc<Roll>,
+}
+
+// By hand, as a derived one is proved anew wherever a value is dropped.
+impl Drop for Snapshot {
+    fn drop(self) {
+        let Self {
+            state: _,
+            events: _,
+            roll: _,
+        } = self;
+    }
 }
 
 impl Model for Snapshot {

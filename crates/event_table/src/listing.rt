@@ -15,11 +15,21 @@ use std::sync::Arc;
 
 /// Events in the order in which they were published, the place of each id, and the events in the order in which they are sent.
 /// Contracts see it as the list of the events.
-#[derive(Drop)]
 pub struct Listing {
     events: EventList,
     ids: IdMap,
     newest: Newest,
+}
+
+// By hand, as a derived one is proved anew wherever a value is dropped.
+impl Drop for Listing {
+    fn drop(self) {
+        let Self {
+            events: _,
+            ids: _,
+            newest: _,
+        } = self;
+    }
 }
 
 impl Model for Listing {

@@ -22,11 +22,21 @@ use std::sync::Arc;
 
 /// Events with distinct ids, in the order in which they were put in, with what finds them. It never changes: a longer one shares with
 /// it what both have. Contracts see it as the list of the events.
-#[derive(Drop)]
 pub struct EventTable {
     listing: Listing,
     roll: Arc<Roll>,
     index: Arc<Index>,
+}
+
+// By hand, as a derived one is proved anew wherever a value is dropped.
+impl Drop for EventTable {
+    fn drop(self) {
+        let Self {
+            listing: _,
+            roll: _,
+            index: _,
+        } = self;
+    }
 }
 
 impl Model for EventTable {

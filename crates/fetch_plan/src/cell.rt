@@ -1,7 +1,7 @@
 //! Cells.
 
 /// What became of one id of a plan.
-#[derive(Clone, Copy, Debug, PartialEq, Eq)]
+#[derive(Clone, Copy, PartialEq, Eq)]
 pub enum Cell {
     /// No lane holds it.
     Free,

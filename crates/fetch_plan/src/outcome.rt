@@ -12,13 +12,25 @@ use std::marker::Model;
 
 /// Which relay each offered id is given to, what the relays' loads begin with, the greatest load, and a group of
 /// relays which shows that no sharing has less.
-#[derive(Drop)]
 pub struct Plan {
     pub(crate) bases: Bases,
     pub(crate) gives: Vec<(Id, u16)>,
     pub(crate) loads: [u64; SLOTS],
     pub(crate) least_max: u64,
     pub(crate) group: RelaySet,
+}
+
+// By hand, as a derived one is proved anew wherever a value is dropped.
+impl Drop for Plan {
+    fn drop(self) {
+        let Self {
+            bases: _,
+            gives: _,
+            loads: _,
+            least_max: _,
+            group: _,
+        } = self;
+    }
 }
 
 impl Model for Plan {

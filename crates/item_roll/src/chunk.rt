@@ -23,7 +23,7 @@ pub const CHUNK_ITEMS: usize = 256;
 const CUT_ITEMS: usize = 128;
 
 /// Some items, and sums of their ids.
-#[derive(Debug, Drop)]
+#[derive(Drop)]
 pub struct Chunk {
     items: Vec<Item>,
     sum: Sum,

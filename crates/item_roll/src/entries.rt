@@ -16,7 +16,7 @@ use std::alloc::{AllocError, Global};
 use std::sync::Arc;
 
 /// A part of a roll, how many items stand before it in the run of parts, and the sum of their ids.
-#[derive(Debug, Drop)]
+#[derive(Drop)]
 pub struct Entry<P> {
     pub(crate) before: usize,
     pub(crate) sum_before: Sum,

@@ -28,7 +28,7 @@ const HALF: usize = RUN_PARTS / 2;
 const MOST_ITEMS: usize = 1_000_000;
 
 /// Parts one behind the other, which runs share.
-#[derive(Debug, Drop)]
+#[derive(Drop)]
 pub struct Run<P: Part> {
     entries: Vec<Entry<P>>,
     // Of all parts.

@@ -13,7 +13,7 @@ use std::io::{Read, Write};
 use store_run::Refusal as ServiceRefusal;
 
 /// How the program ends. Its text goes to standard error.
-#[derive(Debug, Drop)]
+#[derive(Drop)]
 pub enum End {
     /// The job was done.
     Done,
@@ -74,7 +74,7 @@ impl From<WordsFault> for End {
 }
 
 /// What a run of the program comes to.
-#[derive(Debug, Drop)]
+#[derive(Drop)]
 pub enum Went {
     /// It has ended.
     Ended(End),

@@ -13,11 +13,21 @@ use std::alloc::{AllocError, Global};
 const MOST_ASKED: usize = 100;
 
 /// Cells that a lane holds, their ids, and the first cell that the lane has not come to.
-#[derive(Drop)]
 pub(crate) struct Batch {
     pub cells: Vec<usize>,
     pub ids: Vec<Id>,
     pub next: usize,
+}
+
+// By hand, as a derived one is proved anew wherever a value is dropped.
+impl Drop for Batch {
+    fn drop(self) {
+        let Self {
+            cells: _,
+            ids: _,
+            next: _,
+        } = self;
+    }
 }
 
 /// Comes to the next cell, which is claimed if it is of the lane's relay.

@@ -18,7 +18,7 @@ use std::thread::Threads;
 use thiserror::Error;
 
 /// Why nothing is told of a board's cells.
-#[derive(Clone, Copy, Debug, PartialEq, Eq, Error)]
+#[derive(Clone, Copy, Debug, Error)]
 pub enum FetchFault {
     /// There are not as many sources as lanes, or there are none.
     #[error("not as many sources as lanes")]

@@ -12,7 +12,7 @@ use neg_codec::Item;
 use std::alloc::{AllocError, Global};
 
 /// The items of both sides, in the order of the input.
-#[derive(Debug, Drop)]
+#[derive(Drop)]
 pub struct Lists {
     pub mine: Vec<Item>,
     pub theirs: Vec<Item>,

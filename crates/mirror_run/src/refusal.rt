@@ -8,7 +8,7 @@ use std::error::Error;
 use std::fmt;
 
 /// What is wrong with a line of the input.
-#[derive(Clone, Copy, Debug, PartialEq, Eq)]
+#[derive(Clone, Copy, Debug)]
 pub enum LineFault {
     /// It isn't of the form, or is out of place, or is missing.
     Form,
@@ -23,7 +23,7 @@ pub enum LineFault {
 }
 
 /// Why a job wasn't done.
-#[derive(Clone, Copy, Debug, PartialEq, Eq)]
+#[derive(Clone, Copy, Debug)]
 pub enum Refusal {
     /// A read failed.
     Read,

@@ -10,7 +10,7 @@ use std::alloc::{AllocError, Global};
 use std::fmt;
 
 /// Where a relay listens.
-#[derive(Debug, Drop)]
+#[derive(Drop)]
 pub struct Address {
     /// A name or a number. It isn't empty.
     pub host: Text,

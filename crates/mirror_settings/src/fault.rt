@@ -6,7 +6,7 @@ use std::alloc::{AllocError, AllocFailed};
 use std::fmt;
 
 /// A key of the settings, in the order in which they are looked at.
-#[derive(Clone, Copy, PartialEq, Eq, Debug)]
+#[derive(Clone, Copy, PartialEq, Eq)]
 pub enum SettingsKey {
     Events,
     Listen,
@@ -71,7 +71,7 @@ impl fmt::Display for SettingsKey {
 }
 
 /// Why a text holds no settings. Of several faults the first of these is told.
-#[derive(Clone, Copy, PartialEq, Eq, Debug)]
+#[derive(Clone, Copy, PartialEq, Eq)]
 pub enum SettingsFault {
     /// It is no TOML document.
     Text,

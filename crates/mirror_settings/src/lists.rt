@@ -6,7 +6,7 @@ use crate::relay::Relay;
 use std::marker::Model;
 
 /// Relays to synchronise with, seen as their list.
-#[derive(Debug, Drop)]
+#[derive(Drop)]
 pub struct Relays {
     relays: Vec<Relay>,
 }
@@ -42,7 +42,7 @@ impl Relays {
 }
 
 /// Loads of relays in the relays' order, seen as their list.
-#[derive(Debug, Drop)]
+#[derive(Drop)]
 pub struct Loads {
     loads: Vec<u64>,
 }

@@ -9,7 +9,6 @@ use nostr_event::Text;
 use std::alloc::{AllocError, Global};
 
 /// A relay to synchronise with.
-#[derive(Debug, Drop)]
 pub struct Relay {
     /// What the WebSocket handshake names as its host: `HOST` or `HOST:PORT`.
     pub host: Text,
@@ -17,6 +16,17 @@ pub struct Relay {
     pub path: Text,
     /// Where to connect to.
     pub via: Address,
+}
+
+// By hand, as a derived one is proved anew wherever a value is dropped.
+impl Drop for Relay {
+    fn drop(self) {
+        let Self {
+            host: _,
+            path: _,
+            via: _,
+        } = self;
+    }
 }
 
 /// The relay that a text names as `HOST:PORT`, if it does.

@@ -12,7 +12,7 @@ use std::time::Duration;
 const TIMEOUT_MS: u64 = 60_000;
 
 /// When the lines that are appended to the events file are synced.
-#[derive(Clone, Copy, Debug, PartialEq, Eq)]
+#[derive(Clone, Copy, PartialEq, Eq)]
 pub enum Syncing {
     /// Before they are acknowledged.
     Always,
@@ -23,7 +23,7 @@ pub enum Syncing {
 }
 
 /// What a mirror does beside.
-#[derive(Clone, Copy, Debug, PartialEq, Eq)]
+#[derive(Clone, Copy, PartialEq, Eq)]
 pub struct Mirroring {
     /// How many milliseconds behind one another passes begin at least, 1 to 86,400,000.
     pub every_ms: u64,
@@ -34,7 +34,6 @@ pub struct Mirroring {
 }
 
 /// The settings of a run that serves, of one that synchronises and may serve beside, or of a mirror.
-#[derive(Debug, Drop)]
 pub struct Settings {
     /// The path of the events file.
     pub events: Text,
@@ -69,6 +68,30 @@ pub struct Settings {
     pub read_only: bool,
     /// What a mirror does beside.
     pub mirroring: Mirroring,
+}
+
+// By hand, as a derived one is proved anew wherever a value is dropped.
+impl Drop for Settings {
+    fn drop(self) {
+        let Self {
+            events: _,
+            listen: _,
+            conns: _,
+            relays: _,
+            filter: _,
+            workers: _,
+            bases: _,
+            rounds: _,
+            push_ms: _,
+            timeout_ms: _,
+            fsync: _,
+            slow_bytes: _,
+            clients: _,
+            ping_ms: _,
+            read_only: _,
+            mirroring: _,
+        } = self;
+    }
 }
 
 impl Settings {

@@ -5,14 +5,14 @@ ghost use Rattle.clap.specs.Words.{kind_of};
 ghost use Rattle.mirror_words.specs.CommandLine.{IsUsage};
 
 use crate::words::{command, recon};
-use clap::Error;
 use clap::error::ErrorKind;
+use clap::{Command, Error};
 use std::alloc::{AllocError, Global};
 use std::env::Env;
 use std::{env, io};
 
 /// Why the words name no job.
-#[derive(Debug, Drop)]
+#[derive(Drop)]
 pub enum WordsFault {
     /// The words are wrong, or ask for help or the version: `clap`'s text.
     Usage(String),
@@ -31,12 +31,16 @@ impl From<AllocError> for WordsFault {
     }
 }
 
+/// How a command is used.
+fn usage_of(mut command: Command<'_>) -> Result<String, AllocError> {
+    command.render_usage()
+}
+
 /// How `recon` is used, where clap's text of a fault of that kind doesn't say it.
 fn usage_after(alloc: Global, kind: ErrorKind) -> Result<String, AllocError> {
     match kind {
         ErrorKind::InvalidValue | ErrorKind::ValueValidation => {
-            let mut recon = recon(alloc)?.bin_name("nostr-mirror recon")?;
-            let usage = recon.render_usage()?;
+            let usage = usage_of(recon(alloc)?.bin_name("nostr-mirror recon")?)?;
             format!(in alloc; "\n{usage}\n")
         }
         _ => Ok(String::new(alloc)),
@@ -60,10 +64,17 @@ pub fn fault_of(alloc: Global, error: Error) -> WordsFault
     }
 }
 
-/// What is told where a word isn't UTF-8, in the words of the Rust crate `clap`.
+/// A fault of the words of a command, in the words of the Rust crate `clap` for one that isn't UTF-8.
+fn fault_in(mut command: Command<'_>) -> Result<Error, AllocError> {
+    command.error(
+        ErrorKind::Format,
+        "invalid UTF-8 was detected in one or more arguments",
+    )
+}
+
+/// What is told where a word isn't UTF-8.
 fn not_utf8(alloc: Global) -> Result<WordsFault, AllocError> {
-    let message = "invalid UTF-8 was detected in one or more arguments";
-    let error = command(alloc)?.error(ErrorKind::Format, message)?;
+    let error = fault_in(command(alloc)?)?;
     Ok(fault_of(alloc, error))
 }
 

@@ -14,7 +14,7 @@ use nostr_event::Text;
 use std::alloc::{AllocError, Global};
 
 /// What the program is to do.
-#[derive(Debug, Drop)]
+#[derive(Drop)]
 pub enum Words {
     /// Compare two lists of items, read from standard input, by messages of at most so many bytes, 4,096 to
     /// 1,048,576.

@@ -5,11 +5,11 @@ use std::alloc::{AllocError, AllocFailed};
 use thiserror::Error;
 
 /// The id of a record: 32 bytes, ordered byte by byte.
-#[derive(Clone, Copy, Debug, PartialEq, Eq, PartialOrd)]
+#[derive(Clone, Copy, PartialEq, Eq, PartialOrd)]
 pub struct Id(pub [u8; 32]);
 
 /// A record's time in seconds and its id. Items are ordered by time, then by id.
-#[derive(Clone, Copy, Debug, PartialEq, Eq, PartialOrd, Ord)]
+#[derive(Clone, Copy, PartialEq, Eq, PartialOrd, Ord)]
 pub struct Item {
     pub time: u64,
     pub id: Id,
@@ -21,14 +21,14 @@ mod key;
 pub use key::Key;
 
 /// Where a range ends: below a key, or nowhere.
-#[derive(Clone, Copy, Debug, PartialEq, Eq, PartialOrd, Ord)]
+#[derive(Clone, Copy, PartialEq, Eq, PartialOrd, Ord)]
 pub enum Bound {
     At(Key),
     Infinite,
 }
 
 /// What a range says of its keys (Negentropy protocol V1, "Range").
-#[derive(Debug, PartialEq, Eq, Drop)]
+#[derive(PartialEq, Eq, Drop)]
 pub enum Payload {
     /// Nothing.
     Skip,
@@ -39,7 +39,7 @@ pub enum Payload {
 }
 
 /// A range of a message, from where the one before it ends up to below its upper bound.
-#[derive(Debug, PartialEq, Eq, Drop)]
+#[derive(Drop)]
 pub struct Range {
     pub upper: Bound,
     pub payload: Payload,

@@ -16,7 +16,7 @@ use std::marker::Model;
 
 /// Ranges whose bounds don't descend, none of them after an infinite bound (Negentropy protocol V1,
 /// "Message").
-#[derive(Debug, Drop)]
+#[derive(Drop)]
 pub struct Message {
     ranges: Vec<Range>,
 }

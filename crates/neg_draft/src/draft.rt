@@ -21,7 +21,7 @@ const SPARE: usize = 64;
 /// Ranges that are written from front to back (Negentropy protocol V1, "Message"), up to a number of
 /// bytes. Nothing is said of what lies between two of them, and behind the last: neighbouring Skips are
 /// one range, and a Skip at the end isn't written.
-#[derive(Debug, Drop)]
+#[derive(Drop)]
 pub struct Draft {
     /// How many bytes the message may have.
     limit: usize,

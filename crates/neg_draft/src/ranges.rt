@@ -11,7 +11,7 @@ use std::alloc::{AllocError, Global};
 use std::marker::Model;
 
 /// The ranges of a message that is being written.
-#[derive(Debug, Drop)]
+#[derive(Drop)]
 pub struct Ranges {
     list: Vec<Range>,
     /// How many bytes the message takes.

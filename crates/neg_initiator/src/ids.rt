@@ -33,7 +33,7 @@ fn set_of(alloc: Global, ids: &[Id]) -> Result<BTreeSet<Id>, AllocError>
 }
 
 /// Ids that were found. Until they are made a set they stand in no order, and some perhaps more than once.
-#[derive(Debug, Drop)]
+#[derive(Drop)]
 pub enum Ids {
     Listed(Vec<Id>),
     Set(BTreeSet<Id>),

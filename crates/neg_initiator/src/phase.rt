@@ -1,7 +1,7 @@
 //! Whether a session goes on.
 
 /// Whether a session goes on.
-#[derive(Clone, Copy, Debug, PartialEq, Eq)]
+#[derive(Clone, Copy, PartialEq, Eq)]
 pub enum Phase {
     /// An ask waits for its reply.
     Asking,

@@ -12,7 +12,7 @@ pub const MOST_LIMIT: usize = 1_048_576;
 pub const DEFAULT_LIMIT: usize = 60_000;
 
 /// The limits of a session.
-#[derive(Clone, Copy, Debug, PartialEq, Eq)]
+#[derive(Clone, Copy, PartialEq, Eq)]
 pub struct SessionLimits {
     /// The bytes of a message that is sent, 4,096 to 1,048,576.
     pub limit: usize,

@@ -10,10 +10,19 @@ use std::marker::Model;
 use thiserror::Error;
 
 /// One question and its answer.
-#[derive(Debug, Drop)]
 pub struct Pair {
     pub asked: Vec<u8>,
     pub answered: Vec<u8>,
+}
+
+// By hand, as a derived one is proved anew wherever a value is dropped.
+impl Drop for Pair {
+    fn drop(self) {
+        let Self {
+            asked: _,
+            answered: _,
+        } = self;
+    }
 }
 
 impl Model for Pair {

@@ -5,7 +5,7 @@ ghost use Rattle.nostr_event.specs.declared.fault.EventFault.TheVariants.{Memory
 use std::alloc::{AllocError, AllocFailed};
 
 /// A field of an event's object, or the object itself.
-#[derive(Clone, Copy, PartialEq, Eq, Debug)]
+#[derive(Clone, Copy, PartialEq, Eq)]
 pub enum EventField {
     Object,
     Id,
@@ -19,7 +19,7 @@ pub enum EventField {
 
 /// Why a value is no event. Of several faults the first of these kinds is told, and within a kind the first field in the order
 /// of [`EventField`].
-#[derive(Clone, Copy, PartialEq, Eq, Debug)]
+#[derive(Clone, Copy, PartialEq, Eq)]
 pub enum EventFault {
     /// The field is missing or of another JSON type.
     Shape(EventField),

@@ -11,11 +11,17 @@ use std::collections::BTreeSet;
 use std::marker::Model;
 
 /// 32-byte values, as event ids or public keys, seen as the list of their bytes.
-#[derive(Debug, Drop)]
 pub struct Bytes32List {
     values: Vec<[u8; 32]>,
     // The values once more, if they are many.
     set: Option<BTreeSet<[u8; 32]>>,
+}
+
+// By hand, as a derived one is proved anew wherever a value is dropped.
+impl Drop for Bytes32List {
+    fn drop(self) {
+        let Self { values: _, set: _ } = self;
+    }
 }
 
 impl Model for Bytes32List {
@@ -66,16 +72,23 @@ impl Bytes32List {
     pub fn into_vec(self) -> Vec<[u8; 32]>
         ensures { result.items ≡ self }
     {
-        self.values
+        let Self { values, set: _ } = self;
+        values
     }
 }
 
 /// Kinds of events, seen as a list of numbers.
-#[derive(Debug, Drop)]
 pub struct Kinds {
     kinds: Vec<u16>,
     // The kinds once more, if they are many.
     set: Option<BTreeSet<u16>>,
+}
+
+// By hand, as a derived one is proved anew wherever a value is dropped.
+impl Drop for Kinds {
+    fn drop(self) {
+        let Self { kinds: _, set: _ } = self;
+    }
 }
 
 impl Model for Kinds {
@@ -125,16 +138,23 @@ impl Kinds {
     pub fn into_vec(self) -> Vec<u16>
         ensures { result.items ≡ self }
     {
-        self.kinds
+        let Self { kinds, set: _ } = self;
+        kinds
     }
 }
 
 /// Texts, seen as the list of their bytes.
-#[derive(Debug, Drop)]
 pub struct Texts {
     texts: Vec<Text>,
     // The places in the order of the texts, if they are many.
     order: Option<Vec<usize>>,
+}
+
+// By hand, as a derived one is proved anew wherever a value is dropped.
+impl Drop for Texts {
+    fn drop(self) {
+        let Self { texts: _, order: _ } = self;
+    }
 }
 
 impl Model for Texts {
@@ -183,23 +203,39 @@ impl Texts {
     pub fn into_vec(self) -> Vec<Text>
         ensures { result.items ≡ self }
     {
-        self.texts
+        let Self { texts, order: _ } = self;
+        texts
     }
 }
 
 /// The condition `#x` for a letter x: some tag of that name has one of the values.
-#[derive(Debug, Drop)]
 pub struct TagCondition {
     /// The ASCII code of a letter, A to Z or a to z.
     pub letter: u8,
     pub values: Texts,
 }
 
+// By hand, as a derived one is proved anew wherever a value is dropped.
+impl Drop for TagCondition {
+    fn drop(self) {
+        let Self {
+            letter: _,
+            values: _,
+        } = self;
+    }
+}
+
 /// At most one condition for each letter, seen as their list in the order of the letters' codes.
-#[derive(Debug, Drop)]
 pub struct TagConditions {
     // `None` stands for no conditions, so that these need no allocator.
     list: Option<Vec<TagCondition>>,
+}
+
+// By hand, as a derived one is proved anew wherever a value is dropped.
+impl Drop for TagConditions {
+    fn drop(self) {
+        let Self { list: _ } = self;
+    }
 }
 
 impl Model for TagConditions {
@@ -251,6 +287,7 @@ impl TagConditions {
     pub fn into_vec(self) -> Option<Vec<TagCondition>>
         ensures { listed result ≡ self }
     {
-        self.list
+        let Self { list } = self;
+        list
     }
 }

@@ -5,7 +5,7 @@ ghost use Rattle.nostr_filter.specs.declared.fault.FilterFault.TheVariants.{Memo
 use std::alloc::{AllocError, AllocFailed};
 
 /// A field of a filter's object, or the object itself, in the byte order of the names.
-#[derive(Clone, Copy, PartialEq, Eq, Debug)]
+#[derive(Clone, Copy, PartialEq, Eq)]
 pub enum FilterField {
     Object,
     /// `#x` for the ASCII letter x.
@@ -20,7 +20,7 @@ pub enum FilterField {
 
 /// Why a value is no filter. Of several faults the first of these kinds is told, and within a kind the first field in the byte
 /// order of the names.
-#[derive(Clone, Copy, PartialEq, Eq, Debug)]
+#[derive(Clone, Copy, PartialEq, Eq)]
 pub enum FilterFault {
     /// The field is of another shape than NIP-01 says; a number that isn't whole or out of its range is, too.
     Shape(FilterField),

@@ -8,7 +8,6 @@ use neg_codec::Id;
 use nostr_event::{Event, Tag, Tags};
 
 /// What an event has to meet (NIP-01). An absent condition is met by each event, an empty list by none.
-#[derive(Debug, Drop)]
 pub struct Filter {
     pub ids: Option<Bytes32List>,
     /// Public keys.
@@ -21,6 +20,21 @@ pub struct Filter {
     pub until: Option<u64>,
     /// How many events are chosen at most. It has no part in matching.
     pub limit: Option<u64>,
+}
+
+// By hand, as a derived one is proved anew wherever a value is dropped.
+impl Drop for Filter {
+    fn drop(self) {
+        let Self {
+            ids: _,
+            authors: _,
+            kinds: _,
+            tags: _,
+            since: _,
+            until: _,
+            limit: _,
+        } = self;
+    }
 }
 
 impl Filter {

@@ -19,7 +19,7 @@ const MANY_TAGS: usize = 64;
 
 /// The places of an event's tags in the order of their keys, the letter that is a tag's name and the first value behind it; none
 /// where no order was made.
-#[derive(Debug, Drop)]
+#[derive(Drop)]
 pub struct TagOrder {
     pub places: Option<Vec<usize>>,
 }

@@ -7,7 +7,7 @@ use nostr_event::EventFault;
 use std::alloc::{AllocError, AllocFailed};
 
 /// Why a text is no message. Of several faults the first of these is told.
-#[derive(Clone, Copy, PartialEq, Eq, Debug)]
+#[derive(Clone, Copy, PartialEq, Eq)]
 pub enum WireFault {
     /// `serde_json` refuses the text.
     Json,

@@ -8,7 +8,7 @@ use nostr_filter::Filter;
 use std::marker::Model;
 
 /// The name of a subscription or a session, 1 to 64 characters, seen as its UTF-8 bytes.
-#[derive(Debug, Drop)]
+#[derive(Drop)]
 pub struct Sub {
     text: Text,
 }
@@ -68,7 +68,7 @@ impl Sub {
 }
 
 /// The bytes of a Negentropy message, seen as a list.
-#[derive(Debug, Drop)]
+#[derive(Drop)]
 pub struct Bytes {
     bytes: Vec<u8>,
 }
@@ -103,7 +103,7 @@ impl Bytes {
 }
 
 /// The filters of a request, at least one, seen as a list.
-#[derive(Debug, Drop)]
+#[derive(Drop)]
 pub struct Filters {
     filters: Vec<Filter>,
 }

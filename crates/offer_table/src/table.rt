@@ -23,7 +23,6 @@ use std::collections::BTreeSet;
 use std::marker::Model;
 
 /// Which relays reported what they offer, and for each offered id the relays that offer it.
-#[derive(Drop)]
 pub struct OfferTable {
     reported: RelaySet,
     offers: Vec<(Id, RelaySet)>,
@@ -31,6 +30,19 @@ pub struct OfferTable {
     /// The number of each offer's group.
     numbers: Vec<u32>,
     alloc: Global,
+}
+
+// By hand, as a derived one is proved anew wherever a value is dropped.
+impl Drop for OfferTable {
+    fn drop(self) {
+        let Self {
+            reported: _,
+            offers: _,
+            groups: _,
+            numbers: _,
+            alloc: _,
+        } = self;
+    }
 }
 
 impl Model for OfferTable {

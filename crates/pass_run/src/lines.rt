@@ -49,7 +49,7 @@ impl fmt::Display for Head {
 }
 
 /// What a pass came to.
-#[derive(Clone, Copy, Debug)]
+#[derive(Clone, Copy)]
 pub struct PassLine {
     /// The pass's number, from 1 on.
     pub pass: u64,
@@ -79,7 +79,7 @@ impl fmt::Display for PassLine {
 }
 
 /// What is new of a relay.
-#[derive(Clone, Copy, Debug)]
+#[derive(Clone, Copy)]
 pub struct NewsLine {
     pub relay: u16,
     pub news: News,

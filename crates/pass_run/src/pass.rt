@@ -29,7 +29,7 @@ const NEED_FULL: u8 = 4;
 const STOPPED: u8 = 1;
 
 /// What a slice came to.
-#[derive(Clone, Copy, Debug)]
+#[derive(Clone, Copy)]
 pub enum Outcome {
     /// It was compared, and what was planned was fetched.
     Went(Tally),

@@ -10,7 +10,7 @@ const LONGEST_REST: u64 = 3_600_000;
 const MOST_ASIDE: u8 = 3;
 
 /// How a relay stands.
-#[derive(Clone, Copy, Debug, PartialEq, Eq)]
+#[derive(Clone, Copy, PartialEq, Eq)]
 pub enum State {
     /// Nothing is known of it.
     Unknown,
@@ -21,7 +21,7 @@ pub enum State {
 }
 
 /// What is told of a relay.
-#[derive(Clone, Copy, Debug, PartialEq, Eq)]
+#[derive(Clone, Copy)]
 pub enum News {
     /// How it stands now.
     Stands(State),
@@ -45,7 +45,6 @@ struct Standing {
 }
 
 /// How the relays stand, and who is asked.
-#[derive(Drop)]
 pub struct Roster {
     each: Vec<Standing>,
     // For how many milliseconds a relay is left alone that failed once.
@@ -59,6 +58,21 @@ pub struct Roster {
     // Whether a relay failed in this pass.
     has_failed: bool,
     news: Vec<(u16, News)>,
+}
+
+// By hand, as a derived one is proved anew wherever a value is dropped.
+impl Drop for Roster {
+    fn drop(self) {
+        let Self {
+            each: _,
+            rest: _,
+            began: _,
+            out: _,
+            aside: _,
+            has_failed: _,
+            news: _,
+        } = self;
+    }
 }
 
 impl Roster {

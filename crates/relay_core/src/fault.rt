@@ -19,7 +19,7 @@ pub enum ConnFault {
 }
 
 /// Why an open connection's call broke off.
-#[derive(Clone, Copy, Debug, PartialEq, Eq)]
+#[derive(Clone, Copy)]
 pub enum Broken {
     Gone,
     Memory,

@@ -6,7 +6,7 @@ ghost use Rattle.relay_core.specs.Limits.{AreWithin};
 const DEFAULT_LIMIT: usize = 60_000;
 
 /// The limits of a connection.
-#[derive(Clone, Copy, Debug, PartialEq, Eq)]
+#[derive(Clone, Copy)]
 pub struct RelayLimits {
     /// How many subscriptions there may be at once, at most 32.
     pub subs: usize,

@@ -22,10 +22,19 @@ use nostr_wire::{Bytes, FromRelay, Sub};
 use std::alloc::{AllocError, Global};
 
 /// A session, with what was pinned when it was opened.
-#[derive(Drop)]
 pub struct Session {
     pub name: Sub,
     pub snapshot: Snapshot,
+}
+
+// By hand, as a derived one is proved anew wherever a value is dropped.
+impl Drop for Session {
+    fn drop(self) {
+        let Self {
+            name: _,
+            snapshot: _,
+        } = self;
+    }
 }
 
 /// Ends the session of this name, if there is one.

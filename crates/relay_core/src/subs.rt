@@ -8,12 +8,22 @@ use nostr_wire::{Filters, Sub};
 use std::alloc::AllocError;
 
 /// A subscription (NIP-01).
-#[derive(Drop)]
 pub struct Subscription {
     pub name: Sub,
     pub filters: Filters,
     /// How many of the published events were looked at.
     pub mark: usize,
+}
+
+// By hand, as a derived one is proved anew wherever a value is dropped.
+impl Drop for Subscription {
+    fn drop(self) {
+        let Self {
+            name: _,
+            filters: _,
+            mark: _,
+        } = self;
+    }
 }
 
 /// Ends the subscription of this name, if there is one.

@@ -38,7 +38,7 @@ pub(crate) enum Touch {
 }
 
 /// What an event is answered.
-#[derive(Clone, Copy, Debug, PartialEq, Eq)]
+#[derive(Clone, Copy, PartialEq, Eq)]
 pub enum Answer {
     /// The report counts.
     Taken,
@@ -61,7 +61,7 @@ pub enum Answer {
 }
 
 /// Why an event was refused: the first of these that holds.
-#[derive(Clone, Copy, Debug, PartialEq, Eq)]
+#[derive(Clone, Copy, PartialEq, Eq)]
 pub enum Refusal {
     /// The plan was made before.
     Sealed,

@@ -20,7 +20,7 @@ const TURNED_AWAY: &str =
     "HTTP/1.1 426 Upgrade Required\r\nConnection: Upgrade, close\r\nUpgrade: websocket\r\nContent-Type: text/plain; charset=utf-8\r\nContent-Length: 61\r\n\r\nThis is a Nostr relay: it speaks WebSocket (NIP-01, NIP-77).\n";
 
 /// How long clients may keep a connection waiting.
-#[derive(Clone, Copy, Debug)]
+#[derive(Clone, Copy)]
 pub struct Patience {
     /// After how long a client that brings nothing is sent a ping, and after how long it ends then.
     pub ping: Duration,

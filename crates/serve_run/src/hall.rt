@@ -20,7 +20,6 @@ const PARTS: usize = 8;
 const WATCH: u64 = 5;
 
 /// A hall with so many seats, and the desk of the store that connections are served from.
-#[derive(Drop)]
 pub struct Hall<G, K> {
     seats: Vec<Seat<G>>,
     queue: Mutex<Queue>,
@@ -51,6 +50,33 @@ pub struct Hall<G, K> {
     // Whether serving is over, and what is told then.
     over: Mutex<bool>,
     ending: Condvar,
+}
+
+// By hand, as a derived one is proved anew wherever a value is dropped.
+impl<G: Drop, K: Drop> Drop for Hall<G, K> {
+    fn drop(self) {
+        let Self {
+            seats: _,
+            queue: _,
+            has_errands: _,
+            has_long: _,
+            left: _,
+            published: _,
+            has_news: _,
+            subscribed: _,
+            conns: _,
+            is_closed: _,
+            has_worker: _,
+            waker: _,
+            patience: _,
+            limits: _,
+            syncs: _,
+            desk: _,
+            turn: _,
+            over: _,
+            ending: _,
+        } = self;
+    }
 }
 
 /// So many seats that nobody has.

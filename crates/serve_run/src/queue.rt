@@ -8,7 +8,7 @@ use std::collections::VecDeque;
 const MOST_ERRANDS: usize = 16;
 
 /// What is due.
-#[derive(Clone, Copy, Debug, PartialEq, Eq)]
+#[derive(Clone, Copy)]
 pub enum Errand {
     /// A turn of the connection in this seat.
     Turn(usize),
@@ -32,7 +32,7 @@ pub enum Next {
 }
 
 /// A worker that waits for something to do.
-#[derive(Clone, Copy, Debug, PartialEq, Eq)]
+#[derive(Clone, Copy)]
 pub enum Idle {
     /// The one who reads long texts.
     Reader,
@@ -46,7 +46,6 @@ pub enum Idle {
 /// A worker that has nothing to do waits at the door, if nobody is there, and does the first of what it finds there itself: so what
 /// one client asks wakes one thread. Where that takes long nobody is at the door meanwhile, so that another worker, who watches,
 /// looks for that every now and then.
-#[derive(Drop)]
 pub struct Queue {
     errands: VecDeque<Errand>,
     slow: VecDeque<usize>,
@@ -65,6 +64,26 @@ pub struct Queue {
     is_watched: bool,
     // Whether the door was left since it was last watched.
     is_left: bool,
+}
+
+// By hand, as a derived one is proved anew wherever a value is dropped.
+impl Drop for Queue {
+    fn drop(self) {
+        let Self {
+            errands: _,
+            slow: _,
+            long: _,
+            workers: _,
+            busy: _,
+            is_over: _,
+            door: _,
+            begun: _,
+            idle: _,
+            is_reader_idle: _,
+            is_watched: _,
+            is_left: _,
+        } = self;
+    }
 }
 
 impl Queue {

@@ -4,7 +4,7 @@ use std::sync::atomic::{AtomicBool, Ordering};
 use std::sync::{Mutex, Wait};
 
 /// Whether a seat is due a turn.
-#[derive(Clone, Copy, Debug, PartialEq, Eq)]
+#[derive(Clone, Copy, PartialEq, Eq)]
 enum Due {
     /// It isn't.
     No,
@@ -17,7 +17,6 @@ enum Due {
 }
 
 /// A place for a connection. It has one turn at a time.
-#[derive(Drop)]
 pub struct Seat<G> {
     due: Mutex<Due>,
     is_subscribed: AtomicBool,
@@ -26,6 +25,21 @@ pub struct Seat<G> {
     is_slow: AtomicBool,
     is_long: AtomicBool,
     pub guest: Mutex<Option<G>>,
+}
+
+// By hand, as a derived one is proved anew wherever a value is dropped.
+impl<G: Drop> Drop for Seat<G> {
+    fn drop(self) {
+        let Self {
+            due: _,
+            is_subscribed: _,
+            is_blocked: _,
+            is_pinged: _,
+            is_slow: _,
+            is_long: _,
+            guest: _,
+        } = self;
+    }
 }
 
 impl<G> Seat<G> {

@@ -101,10 +101,16 @@ fn linked<'a, R: Net<Listener = TcpListener, Stream = TcpStream> + RandomSource>
 }
 
 /// A place for a relay's peer, of which no question has failed.
-#[derive(Drop)]
 struct PeerPlace<S, K> {
     relay: usize,
     peer: Result<WsPeer<S, K>, Refusal>,
+}
+
+// By hand, as a derived one is proved anew wherever a value is dropped.
+impl<S: Drop, K: Drop> Drop for PeerPlace<S, K> {
+    fn drop(self) {
+        let Self { relay: _, peer: _ } = self;
+    }
 }
 
 impl<S, K> Model for PeerPlace<S, K> {
@@ -122,7 +128,8 @@ impl<S, K> PeerPlace<S, K> {
     fn into_peer(self) -> Result<WsPeer<S, K>, Refusal>
         ensures { IfOk result (λ peer. peer.faults ≡ 0) }
     {
-        self.peer
+        let Self { relay: _, peer } = self;
+        peer
     }
 }
 
@@ -301,7 +308,6 @@ fn source_at<'a, R: Net<Listener = TcpListener, Stream = TcpStream> + RandomSour
 }
 
 /// A place for a source at a relay, of which no fetch has failed.
-#[derive(Drop)]
 pub struct SourcePlace<S, K> {
     relay: u16,
     source: Result<Option<WsSource<S, K>>, Refusal>,
@@ -309,6 +315,18 @@ pub struct SourcePlace<S, K> {
     pace: SharedPace,
     // Why there is none.
     notes: Notes,
+}
+
+// By hand, as a derived one is proved anew wherever a value is dropped.
+impl<S: Drop, K: Drop> Drop for SourcePlace<S, K> {
+    fn drop(self) {
+        let Self {
+            relay: _,
+            source: _,
+            pace: _,
+            notes: _,
+        } = self;
+    }
 }
 
 impl<S, K> Model for SourcePlace<S, K> {

@@ -11,13 +11,23 @@ use std::time::Instant;
 
 /// Where it is told how far the job is, if that is wanted, from any thread and in whole lines. What can't be written is
 /// passed over.
-#[derive(Drop)]
 pub struct Progress<P> {
     telling: Option<Mutex<Telling<P>>>,
     // Whether a relay failed or an id is left.
     fell_short: Mutex<bool>,
     // The relays that failed since that was asked.
     failed: Mutex<RelaySet>,
+}
+
+// By hand, as a derived one is proved anew wherever a value is dropped.
+impl<P: Drop> Drop for Progress<P> {
+    fn drop(self) {
+        let Self {
+            telling: _,
+            fell_short: _,
+            failed: _,
+        } = self;
+    }
 }
 
 /// What is told of a relay, which has a number and a name.

@@ -19,7 +19,7 @@ use std::time::Instant;
 use ws_link::{Explains, Notes, Reason, WsPeer, WsSource};
 
 /// What a session with a relay came to.
-#[derive(Clone, Copy, Debug, PartialEq, Eq)]
+#[derive(Clone, Copy)]
 pub enum Heard {
     /// Nothing: the relay wasn't asked, or its session hasn't ended.
     Nothing,

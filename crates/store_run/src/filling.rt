@@ -33,7 +33,6 @@ const MOST_PART: u64 = 1 << 22;
 const ROOM: usize = 33 << 20;
 
 /// What was read of a file.
-#[derive(Drop)]
 pub struct Found {
     // How many lines were read, and how many bytes they are, with their line feeds.
     lines: usize,
@@ -42,6 +41,18 @@ pub struct Found {
     pub is_plain: bool,
     // What stands behind the last line feed.
     pub end: End,
+}
+
+// By hand, as a derived one is proved anew wherever a value is dropped.
+impl Drop for Found {
+    fn drop(self) {
+        let Self {
+            lines: _,
+            bytes: _,
+            is_plain: _,
+            end: _,
+        } = self;
+    }
 }
 
 /// What stands behind the last line feed.
@@ -112,7 +123,6 @@ fn whole_lines(text: &[u8]) -> usize
 }
 
 /// The lines of a file that weren't read yet.
-#[derive(Drop)]
 struct Unread<B> {
     lines: B,
     // A part is so long at least, and so many are read at once.
@@ -122,6 +132,33 @@ struct Unread<B> {
     rest: Vec<u8>,
     // Why no more can be read.
     fault: Option<Refusal>,
+}
+
+// By hand, as a derived one is proved anew wherever a value is dropped.
+impl<B: Drop> Drop for Unread<B> {
+    fn drop(self) {
+        let Self {
+            lines: _,
+            len: _,
+            many: _,
+            rest: _,
+            fault: _,
+        } = self;
+    }
+}
+
+impl<B: Drop> Unread<B> {
+    /// What stands behind the last line feed.
+    fn into_rest(self) -> Vec<u8> {
+        let Self {
+            lines: _,
+            len: _,
+            many: _,
+            rest,
+            fault: _,
+        } = self;
+        rest
+    }
 }
 
 impl<B: BufRead> Unread<B> {
@@ -336,7 +373,7 @@ pub fn fill_from<J: Naming, D: Wait + Drop, R: Threads + Wait + Sync, B: BufRead
         return Err(refusal);
     }
     if !unread.rest.is_empty() {
-        take_end(rt, alloc, desk, reader, &mut found, unread.rest)?;
+        take_end(rt, alloc, desk, reader, &mut found, unread.into_rest())?;
     }
     // The parts' events weren't indexed as they were put in.
     desk.index(rt)?;

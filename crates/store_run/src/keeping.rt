@@ -31,7 +31,6 @@ struct Trouble {
 }
 
 /// Who writes.
-#[derive(Drop)]
 struct Writing<J: Naming, E> {
     log: Log<J, EventsFile>,
     reader: Reader<J>,
@@ -40,6 +39,19 @@ struct Writing<J: Naming, E> {
     // When it was last synced, where that is done every now and then.
     synced: Option<Instant>,
     trouble: Option<Trouble>,
+}
+
+// By hand, as a derived one is proved anew wherever a value is dropped.
+impl<J: Naming, E: Drop> Drop for Writing<J, E> {
+    fn drop(self) {
+        let Self {
+            log: _,
+            reader: _,
+            errors: _,
+            synced: _,
+            trouble: _,
+        } = self;
+    }
 }
 
 /// The events file, which one writes at a time.

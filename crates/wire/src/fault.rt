@@ -4,7 +4,7 @@ use std::io;
 use websocket::error::Error as FrameError;
 
 /// Why a wire failed.
-#[derive(Debug, Drop)]
+#[derive(Drop)]
 pub enum Fault {
     /// The stream failed, ended, would block or found no memory.
     Stream(io::Error),

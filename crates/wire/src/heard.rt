@@ -1,7 +1,7 @@
 //! What was read.
 
 /// What a frame says.
-#[derive(Debug, Drop)]
+#[derive(Drop)]
 pub enum Heard {
     /// It is or ends this text.
     Text(String),
@@ -18,7 +18,7 @@ pub enum Heard {
 }
 
 /// A message.
-#[derive(Debug, Drop)]
+#[derive(Drop)]
 pub enum Message {
     /// A text.
     Text(String),

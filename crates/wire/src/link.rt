@@ -26,7 +26,6 @@ use websocket::protocol::{
 const MUCH: usize = 16_384;
 
 /// A WebSocket over a stream. `K` gives a client's masking keys.
-#[derive(Drop)]
 pub struct Wire<S, K> {
     alloc: Global,
     stream: S,
@@ -41,6 +40,24 @@ pub struct Wire<S, K> {
     chunk: Vec<u8>,
     given: Trail,
     taken: Trail,
+}
+
+// By hand, as a derived one is proved anew wherever a value is dropped.
+impl<S: Drop, K: Drop> Drop for Wire<S, K> {
+    fn drop(self) {
+        let Self {
+            alloc: _,
+            stream: _,
+            keys: _,
+            context: _,
+            input: _,
+            start: _,
+            output: _,
+            chunk: _,
+            given: _,
+            taken: _,
+        } = self;
+    }
 }
 
 impl<S, K> Model for Wire<S, K> {

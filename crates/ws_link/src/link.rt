@@ -8,7 +8,6 @@ use wire::{Trail, Wire};
 use ws_socket::LinkFault;
 
 /// A link over a stream. `E` is an entry of its log.
-#[derive(Drop)]
 pub struct Link<S, K, E> {
     pub alloc: Global,
     /// None once a call has failed, so that no later call gets what came for an earlier one.
@@ -20,6 +19,22 @@ pub struct Link<S, K, E> {
     /// What the stream gave and took that is let go.
     pub given: Trail,
     pub taken: Trail,
+}
+
+// By hand, as a derived one is proved anew wherever a value is dropped.
+impl<S: Drop, K: Drop, E: Drop> Drop for Link<S, K, E> {
+    fn drop(self) {
+        let Self {
+            alloc: _,
+            wire: _,
+            log: _,
+            failures: _,
+            last_fault: _,
+            notes: _,
+            given: _,
+            taken: _,
+        } = self;
+    }
 }
 
 impl<S: Drop, K: Drop, E: Drop> Link<S, K, E> {

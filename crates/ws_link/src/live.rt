@@ -44,13 +44,24 @@ pub enum Brought {
 
 /// A subscription behind a stream: a relay that sends the events that a filter matches as they come (NIP-01). `K` gives the masking
 /// keys.
-#[derive(Drop)]
 pub struct WsSubscription<S, K> {
     alloc: Global,
     wire: Wire<S, K>,
     // Whether it was sent a ping, and no message came since.
     is_pinged: bool,
     notes: Notes,
+}
+
+// By hand, as a derived one is proved anew wherever a value is dropped.
+impl<S: Drop, K: Drop> Drop for WsSubscription<S, K> {
+    fn drop(self) {
+        let Self {
+            alloc: _,
+            wire: _,
+            is_pinged: _,
+            notes: _,
+        } = self;
+    }
 }
 
 impl<S, K> Model for WsSubscription<S, K> {

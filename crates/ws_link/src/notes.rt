@@ -8,10 +8,19 @@ use wire::Fault;
 use ws_socket::{LinkFault, Reason, Told};
 
 /// Why a link failed, and what the relay said last that wasn't asked for (`NOTICE` of NIP-01).
-#[derive(Debug, Drop)]
 pub struct Notes {
     reason: Option<Reason>,
     notice: Option<Text>,
+}
+
+// By hand, as a derived one is proved anew wherever a value is dropped.
+impl Drop for Notes {
+    fn drop(self) {
+        let Self {
+            reason: _,
+            notice: _,
+        } = self;
+    }
 }
 
 impl Notes {

@@ -37,13 +37,23 @@ const MOST_READS: u32 = 1_000;
 
 /// A peer behind a stream: a Negentropy session with a relay (NIP-77) over the events that a filter matches. `K` gives the
 /// masking keys. Once a call has failed, every question fails.
-#[derive(Drop)]
 pub struct WsPeer<S, K> {
     link: Link<S, K, Pair>,
     // What the first question opens the session with.
     filter: Option<Filter>,
     // The same, for proofs alone.
     opens: Log<Filter, bool>,
+}
+
+// By hand, as a derived one is proved anew wherever a value is dropped.
+impl<S: Drop, K: Drop> Drop for WsPeer<S, K> {
+    fn drop(self) {
+        let Self {
+            link: _,
+            filter: _,
+            opens: _,
+        } = self;
+    }
 }
 
 impl<S, K> Model for WsPeer<S, K> {
@@ -193,7 +203,12 @@ impl<S: Read + Write + Drop, K: MaskKeys + Drop> WsPeer<S, K> {
         ensures dead { self.live ≡ false → result ≡ Err LinkFault.Link }
         ensures err { IfErr result IsOfStream }
     {
-        end_link(self.link)
+        let Self {
+            link,
+            filter: _,
+            opens: _,
+        } = self;
+        end_link(link)
     }
 }
 

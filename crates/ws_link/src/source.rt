@@ -42,9 +42,15 @@ const TOO_MANY: usize = 1_000;
 
 /// A source behind a stream: a relay that is asked for events by their ids (NIP-01). `K` gives the masking keys. Once a call
 /// has failed, every fetch fails.
-#[derive(Drop)]
 pub struct WsSource<S, K> {
     link: Link<S, K, Fetch>,
+}
+
+// By hand, as a derived one is proved anew wherever a value is dropped.
+impl<S: Drop, K: Drop> Drop for WsSource<S, K> {
+    fn drop(self) {
+        let Self { link: _ } = self;
+    }
 }
 
 impl<S, K> Model for WsSource<S, K> {
@@ -154,12 +160,13 @@ impl<S: Read + Write + Drop, K: MaskKeys + Drop> WsSource<S, K> {
     }
 
     /// Closes the connection.
-    pub fn finish(mut self) -> Result<(), LinkFault>
+    pub fn finish(self) -> Result<(), LinkFault>
         ensures dead { self.live ≡ false → result ≡ Err LinkFault.Link }
         ensures err { IfErr result IsOfStream }
     {
-        let mut wire = self.link.take_out()?;
-        close(&mut wire, &mut self.link.notes)
+        let Self { mut link } = self;
+        let mut wire = link.take_out()?;
+        close(&mut wire, &mut link.notes)
     }
 }
 

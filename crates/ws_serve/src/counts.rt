@@ -4,7 +4,7 @@
 pub const MOST_READS: u64 = 1_000_000;
 
 /// How much a connection has brought.
-#[derive(Clone, Copy, Debug)]
+#[derive(Clone, Copy)]
 pub struct Counts {
     /// How many messages.
     pub reads: u64,

@@ -31,7 +31,7 @@ use wire::Heard;
 use ws_socket::LinkFault;
 
 /// What was read.
-#[derive(Clone, Copy, Debug, PartialEq, Eq)]
+#[derive(Clone, Copy, PartialEq, Eq)]
 pub enum Went {
     /// A message.
     More,

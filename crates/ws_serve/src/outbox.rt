@@ -26,12 +26,22 @@ const MOST_WRITTEN: usize = 65_536;
 
 /// A server's WebSocket over a stream. Behind the bytes that wait for the stream messages may wait that aren't written yet: they share
 /// their events with the store, so that a long answer takes little memory until the stream takes it.
-#[derive(Drop)]
 pub struct Outbox<S> {
     alloc: Global,
     wire: Wire<S, NoMask>,
     // Messages behind all that waits in the wire.
     later: VecDeque<FromRelay>,
+}
+
+// By hand, as a derived one is proved anew wherever a value is dropped.
+impl<S: Drop> Drop for Outbox<S> {
+    fn drop(self) {
+        let Self {
+            alloc: _,
+            wire: _,
+            later: _,
+        } = self;
+    }
 }
 
 impl<S> Model for Outbox<S> {

@@ -27,7 +27,7 @@ const MOST_GATHERED: usize = 131_072;
 const MANY: usize = 32_768;
 
 /// Whether the stream takes what waits.
-#[derive(Clone, Copy, Debug, PartialEq, Eq)]
+#[derive(Clone, Copy, PartialEq, Eq)]
 enum Outlet {
     /// As far as is known.
     Open,
@@ -40,7 +40,6 @@ enum Outlet {
 /// A server's WebSocket over a stream. What is put waits for `send`, until many bytes wait or until a long message comes: so the short
 /// answers to messages that came together leave together. Where the stream would block, nothing more is sent until `retry`, and messages
 /// are written only once it takes more; once a write has failed nothing is sent.
-#[derive(Drop)]
 pub struct Socket<S> {
     outbox: Outbox<S>,
     outlet: Outlet,
@@ -50,6 +49,19 @@ pub struct Socket<S> {
     reads_many: bool,
     // A text that was heard, and is to be heard again.
     kept: Option<String>,
+}
+
+// By hand, as a derived one is proved anew wherever a value is dropped.
+impl<S: Drop> Drop for Socket<S> {
+    fn drop(self) {
+        let Self {
+            outbox: _,
+            outlet: _,
+            most_waiting: _,
+            reads_many: _,
+            kept: _,
+        } = self;
+    }
 }
 
 impl<S> Model for Socket<S> {

@@ -21,7 +21,6 @@ use ws_socket::LinkFault;
 
 /// A connection behind its handshake, which is served turn by turn (NIP-01, NIP-77). It never waits by itself: a turn waits where
 /// its stream does, for the desk and for the keeper. What the stream doesn't take waits, in order, and each byte is sent once.
-#[derive(Drop)]
 pub struct Talk<S, J: Naming> {
     socket: Socket<S>,
     conn: Conn,
@@ -30,6 +29,19 @@ pub struct Talk<S, J: Naming> {
     is_over: bool,
     // What the reader of its last turn had seen, which that of the next one takes in first.
     seen: Option<Front<J>>,
+}
+
+// By hand, as a derived one is proved anew wherever a value is dropped.
+impl<S: Drop, J: Naming> Drop for Talk<S, J> {
+    fn drop(self) {
+        let Self {
+            socket: _,
+            conn: _,
+            counts: _,
+            is_over: _,
+            seen: _,
+        } = self;
+    }
 }
 
 impl<S, J: Naming> Model for Talk<S, J> {

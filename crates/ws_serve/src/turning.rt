@@ -29,7 +29,7 @@ const MOST_STEPS: u32 = 1_024;
 const LONG_READS: u32 = 16;
 
 /// What a turn has come to.
-#[derive(Clone, Copy, Debug, PartialEq, Eq)]
+#[derive(Clone, Copy, PartialEq, Eq)]
 pub enum Turned {
     /// The stream has nothing more to read.
     Idle,

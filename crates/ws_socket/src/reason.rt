@@ -14,7 +14,7 @@ const MOST_TOLD: usize = 200;
 pub const TOO_SLOW: ErrorKind = ErrorKind::QuotaExceeded;
 
 /// Why a link failed, in words.
-#[derive(Debug, Drop)]
+#[derive(Drop)]
 pub enum Reason {
     /// The host's name makes no address.
     NoHost,
@@ -88,22 +88,23 @@ impl Reason {
 
 impl fmt::Display for Reason {
     fn fmt<W: fmt::Write>(&self, f: &mut fmt::Formatter<W>) -> fmt::Result {
-        match self {
-            Reason::NoHost => write!(f, "no such host"),
-            Reason::NotTaken => write!(f, "connection refused"),
-            Reason::NoWay => write!(f, "host unreachable"),
-            Reason::TimedOut => write!(f, "timed out"),
-            Reason::Closed => write!(f, "closed"),
-            Reason::Status(status) => write!(f, "status {status}"),
-            Reason::NoHandshake => write!(f, "no WebSocket handshake"),
-            Reason::NoMessage => write!(f, "no valid message"),
-            Reason::TooLong => write!(f, "message too long"),
-            Reason::TooSlow => write!(f, "too slow"),
-            Reason::TooManyOthers => write!(f, "too many other messages"),
-            Reason::NegErr(text) => write!(f, "NEG-ERR {}", Told(text.as_str())),
-            Reason::ClosedSub(text) => write!(f, "CLOSED {}", Told(text.as_str())),
-            Reason::Memory => write!(f, "out of memory"),
-        }
+        let text = match self {
+            Reason::NoHost => "no such host",
+            Reason::NotTaken => "connection refused",
+            Reason::NoWay => "host unreachable",
+            Reason::TimedOut => "timed out",
+            Reason::Closed => "closed",
+            Reason::Status(status) => return write!(f, "status {status}"),
+            Reason::NoHandshake => "no WebSocket handshake",
+            Reason::NoMessage => "no valid message",
+            Reason::TooLong => "message too long",
+            Reason::TooSlow => "too slow",
+            Reason::TooManyOthers => "too many other messages",
+            Reason::NegErr(text) => return write!(f, "NEG-ERR {}", Told(text.as_str())),
+            Reason::ClosedSub(text) => return write!(f, "CLOSED {}", Told(text.as_str())),
+            Reason::Memory => "out of memory",
+        };
+        f.write_str(text)
     }
 }
 

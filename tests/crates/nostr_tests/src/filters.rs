@@ -245,7 +245,7 @@ fn faults(rt: HostRuntime) -> Result<(), Fail> {
     for (text, want) in &FAULTS {
         let value = parsed(alloc, *text)?;
         let found = Filter::from_json(alloc, &value).err();
-        assert_eq!(rt; found, Some(*want), "{text}");
+        assert!(rt; found == Some(*want), "{text}");
     }
     Ok(())
 }

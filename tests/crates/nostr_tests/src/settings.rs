@@ -4,6 +4,7 @@ use mirror_settings::{
     Address, Job, Mirroring, Relay, Settings, SettingsFault, SettingsKey, Syncing, read_settings,
     unknown_keys,
 };
+use std::alloc::{AllocError, Global};
 use std::test::*;
 
 /// What a run has.
@@ -153,10 +154,15 @@ fn are_of(settings: &Settings, row: &Row) -> bool {
         && settings.filter.kinds.is_some() == row.has_kinds
 }
 
+/// Settings that are right.
+fn read(alloc: Global, text: &str, job: Job) -> Result<Settings, AllocError> {
+    read_settings(alloc, text, job).map_err(|_| AllocError)
+}
+
 #[test]
 fn settings_are_told(rt: HostRuntime) -> Result<(), Fail> {
     for row in &ROWS {
-        let settings = read_settings(rt.alloc(), row.text, row.job)?;
+        let settings = read(rt.alloc(), row.text, row.job)?;
         assert!(rt; are_of(&settings, row));
     }
     Ok(())
@@ -168,7 +174,7 @@ fn so_many_relays(rt: HostRuntime) -> Result<(), Fail> {
     let alloc = rt.alloc();
     let many = "'a:1', ".repeat(alloc, 255)?;
     let text = format!(in alloc; "events = 'e'\nrelays = [{many}'b:2']\n")?;
-    let settings = read_settings(alloc, text.as_str(), Job::Sync)?;
+    let settings = read(alloc, text.as_str(), Job::Sync)?;
     assert_eq!(rt; settings.relays.as_slice().len(), 256);
     Ok(())
 }
@@ -196,7 +202,7 @@ fn entries_name_relays(rt: HostRuntime) -> Result<(), Fail> {
     let alloc = rt.alloc();
     for (entry, host, path, via) in ENTRIES {
         let text = format!(in alloc; "events = 'e'\nrelays = ['x:1', {entry}]\n")?;
-        let settings = read_settings(alloc, text.as_str(), Job::Sync)?;
+        let settings = read(alloc, text.as_str(), Job::Sync)?;
         let relay = &settings.relays.as_slice()[1];
         assert_eq!(rt; relay.host.as_str(), host);
         assert_eq!(rt; relay.path.as_str(), path);
@@ -257,7 +263,7 @@ fn entries_are_refused(rt: HostRuntime) -> Result<(), Fail> {
     for entry in NO_ENTRIES {
         let text = format!(in alloc; "events = 'e'\nrelays = ['x:1', {entry}]\nslow_bytes = 0\n")?;
         let fault = read_settings(alloc, text.as_str(), Job::Sync).err();
-        assert_eq!(rt; fault, Some(SettingsFault::Key(SettingsKey::Relays)));
+        assert!(rt; fault == Some(SettingsFault::Key(SettingsKey::Relays)));
     }
     Ok(())
 }
@@ -269,7 +275,7 @@ fn slow_bytes_are_refused(rt: HostRuntime) -> Result<(), Fail> {
     for value in ["0", "-1", "1000000001", "'1'", "1.5"] {
         let text = format!(in alloc; "events = 'e'\nrelays = ['x:1']\nslow_bytes = {value}\n")?;
         let fault = read_settings(alloc, text.as_str(), Job::Sync).err();
-        assert_eq!(rt; fault, Some(SettingsFault::Key(SettingsKey::SlowBytes)));
+        assert!(rt; fault == Some(SettingsFault::Key(SettingsKey::SlowBytes)));
     }
     Ok(())
 }
@@ -300,9 +306,9 @@ static MIRRORS: [(&str, bool, u64, Option<u64>, bool, usize); 4] = [
 #[test]
 fn mirrors_are_told(rt: HostRuntime) -> Result<(), Fail> {
     for (text, read_only, every_ms, passes, live, relays) in MIRRORS {
-        let settings = read_settings(rt.alloc(), text, Job::Mirror)?;
+        let settings = read(rt.alloc(), text, Job::Mirror)?;
         assert_eq!(rt; settings.read_only, read_only);
-        assert_eq!(rt; settings.mirroring, Mirroring { every_ms, passes, live });
+        assert!(rt; settings.mirroring == Mirroring { every_ms, passes, live });
         assert_eq!(rt; settings.relays.as_slice().len(), relays);
         assert_eq!(rt; settings.conns, None);
     }
@@ -328,7 +334,7 @@ fn mirrors_are_refused(rt: HostRuntime) -> Result<(), Fail> {
     for (rest, key) in NO_MIRRORS {
         let text = format!(in alloc; "events = 'e'\n{rest}\n")?;
         let fault = read_settings(alloc, text.as_str(), Job::Mirror).err();
-        assert_eq!(rt; fault, Some(SettingsFault::Key(key)));
+        assert!(rt; fault == Some(SettingsFault::Key(key)));
     }
     let text = "events = 'e'\nrelays = ['a:1']\nevery_ms = 0\npasses = 0\nlive = 0\n";
     assert!(rt; read_settings(alloc, text, Job::Sync).is_ok());
@@ -338,7 +344,7 @@ fn mirrors_are_refused(rt: HostRuntime) -> Result<(), Fail> {
 #[test]
 fn unknown_keys_are_told(rt: HostRuntime) -> Result<(), Fail> {
     let text = "evnts = 1\nevents = 'e'\n[relay]\nhost = 'a'\n";
-    let names = unknown_keys(rt.alloc(), text)?;
+    let names = unknown_keys(rt.alloc(), text).map_err(|_| AllocError)?;
     assert_eq!(rt; names.len(), 2);
     assert_eq!(rt; names[0].as_str(), "evnts");
     assert_eq!(rt; names[1].as_str(), "relay");

@@ -81,7 +81,7 @@ returns g c =
     let was = c.in_ok-mend.ensures in
     let wrote = c.in_ok-write.ensures in
     let old = c.args.self.now in
-    let mid = c.write-2.new.self in
+    let mid = c.write.new.self in
     let now = c.if-self.self in
     let known : Goes Anyhow (g.M.Medium.held old.medium) (g.M.Medium.held mid.medium) = any_after _ _ _ was.known wrote.known in
     let joined : (now.events ≡ mid.events) × Goes (HasText now.events) (g.M.Medium.held old.medium) (g.M.Medium.held now.medium)
