@@ -9,7 +9,7 @@ use prog.Atomic.{either}
 use Rattle.atomic_table.specs.Table.{State, Me, step, Allows}
 use Rattle.fetch_plan.specs.declared.cell.Cell.{Cell}
 use Rattle.fetch_plan.specs.declared.cell.Cell.TheVariants.{Free, Done, Missed}
-use Rattle.neg_codec.specs.declared.Id.{Id}
+use Rattle.item_key.specs.declared.Id.{Id}
 use Rattle.claim_board.specs.declared.records.Claimed.TheVariants.{Won, Lost}
 use Rattle.claim_board.specs.declared.records.LaneRecord.{LaneRecord}
 use Rattle.claim_board.specs.declared.records.Layout.{Layout}

@@ -15,7 +15,7 @@ use crate::records::{BoardFault, Claimed, Layout, Records, Rule};
 use atomic_table::{Seat, Table};
 use event_store::{Naming, Placed};
 use fetch_plan::{Cell, Plan};
-use neg_codec::Id;
+use item_key::Id;
 use std::alloc::{AllocError, Global};
 use std::marker::{Model, PhantomData};
 use std::snapshot::Snapshot;

@@ -2,7 +2,7 @@
 
 use atomic_table::TableRule;
 use fetch_plan::Cell;
-use neg_codec::Id;
+use item_key::Id;
 use std::alloc::AllocError;
 use std::collections::LinkedList;
 use std::snapshot::Snapshot;

@@ -1,7 +1,7 @@
 -- What is told of published events, and what is pinned.
 use Rattle.std.specs.Prelude.{Bool, List, [], ◌∷◌, not}
-use Rattle.neg_codec.specs.declared.Id.{Id}
-use Rattle.neg_codec.specs.declared.Item.{Item}
+use Rattle.item_key.specs.declared.Id.{Id}
+use Rattle.item_key.specs.declared.Item.{Item}
 use Rattle.nostr_event.specs.EventView.{EventView}
 use Rattle.event_table.specs.Events.{has_id, with_event}
 

@@ -4,7 +4,7 @@ ghost use Rattle.event_table.specs.Events.{has_id};
 
 use crate::blank::Front;
 use crate::name::Naming;
-use neg_codec::Id;
+use item_key::Id;
 use std::marker::Model;
 
 /// An event is published. Contracts see it as a `Placing`.

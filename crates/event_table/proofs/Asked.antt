@@ -8,10 +8,10 @@ use Rattle.std.proofs.lemmas.List.{length-map, get_or-map}
 use Rattle.std.proofs.lemmas.List.Folds.{list_any_at}
 use Rattle.std.proofs.lemmas.List.Sorted.{Contains-permutation}
 use Rattle.std.proofs.lemmas.Slice.Eq.{bytes_eq-Decides}
-use Rattle.neg_codec.specs.declared.Id.{Id}
-use Rattle.neg_codec.specs.declared.Item.{Item}
-use Rattle.neg_codec.proofs.Stretches.{number_below}
-use Rattle.neg_codec.specs.Keys.{place, least, zero_id, number_of_bytes, IsKey, id_of_bytes}
+use Rattle.item_key.specs.declared.Id.{Id}
+use Rattle.item_key.specs.declared.Item.{Item}
+use Rattle.item_key.proofs.Order.{number_below}
+use Rattle.item_key.specs.Keys.{place, least, zero_id, number_of_bytes, IsKey, id_of_bytes}
 use Rattle.nostr_event.specs.EventView.{EventView, item_of}
 use Rattle.nostr_filter.specs.declared.filter.Filter.{Filter}
 use Rattle.nostr_filter.specs.Matching.{matches_of, within_of, met, has_text}

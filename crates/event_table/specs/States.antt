@@ -1,7 +1,7 @@
 -- The events of a store, with what finds them.
 use Rattle.std.specs.Prelude.{◌≡◌, ℕ, ◌≤◌, List, length, map, take, IsPermutation}
-use Rattle.neg_codec.specs.declared.Id.{Id}
-use Rattle.neg_codec.specs.declared.Item.{Item}
+use Rattle.item_key.specs.declared.Id.{Id}
+use Rattle.item_key.specs.declared.Item.{Item}
 use Rattle.nostr_event.specs.EventView.{EventView, item_of}
 use Rattle.id_map.specs.declared.map.IdMap.{IdMap}
 use Rattle.id_map.specs.Places.{place_of}

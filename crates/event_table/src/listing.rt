@@ -6,7 +6,7 @@ ghost use Rattle.event_table.specs.Events.{has_id, place_in, DistinctIds, freshn
 
 use event_list::EventList;
 use id_map::IdMap;
-use neg_codec::Id;
+use item_key::Id;
 use newest::Newest;
 use nostr_event::Event;
 use std::alloc::{AllocError, Global};

@@ -1,13 +1,13 @@
 //! The roll of a store's events, and what it finds.
 ghost use Rattle.std.specs.Prelude.{◌≡◌, ◌≤◌, ◌∷◌, ◌++◌, [], List, length, map, take, IsPermutation, IfOk, OnOk};
 ghost use Rattle.std.specs.Arc.{arc_value};
-ghost use Rattle.neg_codec.specs.declared.Item.{Item as ItemView};
+ghost use Rattle.item_key.specs.declared.Item.{Item as ItemView};
 ghost use Rattle.nostr_event.specs.EventView.{item_of};
 ghost use Rattle.event_table.specs.States.{IsRolled};
 
 use event_list::EventList;
+use item_key::Item;
 use item_roll::Roll;
-use neg_codec::Item;
 use std::alloc::{AllocError, Global};
 use std::sync::Arc;
 

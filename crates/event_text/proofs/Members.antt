@@ -6,7 +6,7 @@ use Rattle.hex.specs.Hex.{encode_lower}
 use Rattle.serde_json.specs.Data.{Data, Members, unsigned, number, string, array, object, put}
 use Rattle.serde_json.specs.Find.{get_member}
 use Rattle.serde_json.proofs.Views.{get_member-put, get_member-put_other}
-use Rattle.neg_codec.specs.Keys.{endless}
+use Rattle.item_key.specs.Keys.{endless}
 use Rattle.nostr_event.specs.EventView.{EventView, IsBytesOf}
 use Rattle.nostr_event.specs.EventJson.{HasFields, tags_items}
 use Rattle.event_text.specs.declared.fields.Fields.{Fields}

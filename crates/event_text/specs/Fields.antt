@@ -3,8 +3,8 @@ use Rattle.std.specs.Prelude.{◌≡◌, ◌<◌, ◌^◌, Some, Result, Ok, Err
 use Rattle.hex.specs.Hex.{encode_lower}
 use Rattle.serde_json.specs.Data.{Data, Members, unsigned, number, string, array}
 use Rattle.serde_json.specs.Find.{get, get_member}
-use Rattle.neg_codec.specs.Keys.{endless}
-use Rattle.neg_codec.specs.declared.Id.{Id}
+use Rattle.item_key.specs.Keys.{endless}
+use Rattle.item_key.specs.declared.Id.{Id}
 use Rattle.nostr_event.specs.EventView.{EventView, IsBytesOf}
 use Rattle.nostr_event.specs.EventJson.{Reads, Refuses, tags_items}
 use Rattle.nostr_event.specs.declared.fault.EventFault.{EventFault}

@@ -7,8 +7,8 @@ ghost use Rattle.event_text.specs.Fields.{Hold, Tells};
 
 use crate::fields::{Fields, fields_in};
 use crate::scratch::EventScratch;
+use item_key::Id;
 use json::{Reader, Token};
-use neg_codec::Id;
 use nostr_event::{Draft, Event, Text};
 use simdutf8::compat::from_utf8;
 use std::alloc::Global;

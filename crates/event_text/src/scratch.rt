@@ -8,9 +8,15 @@ const MOST_KEPT: usize = 16_384;
 
 /// Memory that reading takes beside the events: as much as the text, and some 16 KiB. It is made, and cleared, for the first text,
 /// and kept for the next ones, but not behind a long one: who waits for the next text holds no more than twice 16 KiB.
-#[derive(Drop)]
 pub struct EventScratch {
     made: Option<Scratch>,
+}
+
+// By hand, as a derived one is proved anew wherever a value is dropped.
+impl Drop for EventScratch {
+    fn drop(self) {
+        let Self { made: _ } = self;
+    }
 }
 
 impl EventScratch {

@@ -7,7 +7,7 @@ use Rattle.std.proofs.lemmas.List.{get_or-set_same, get_or-set_other, length-set
 use Rattle.std.proofs.lemmas.List.Sums.{sum_by-cons}
 use Rattle.sharing.specs.Sharing.{is_among}
 use Rattle.sharing.specs.Offers.{AreRelays}
-use Rattle.neg_codec.specs.declared.Id.{Id}
+use Rattle.item_key.specs.declared.Id.{Id}
 use Rattle.fetch_plan.specs.Takers.{at, offered}
 use Rattle.fetch_plan.specs.declared.search.Search.{Search}
 use Rattle.fetch_plan.specs.Chains.{set_at, LeadsBelow, IsBeyond, Begins, IsWay, AreReached, IsClosed, IsSettled}

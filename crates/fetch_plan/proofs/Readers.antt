@@ -10,7 +10,7 @@ use Rattle.sharing.specs.Offers.{AreRelays}
 use Rattle.sharing.proofs.Looks.{among_each}
 use Rattle.std.specs.List.Sorted.{IsStrictlySortedBy}
 use Rattle.std.proofs.lemmas.List.Elements.{All-nil}
-use Rattle.neg_codec.specs.declared.Id.{Id}
+use Rattle.item_key.specs.declared.Id.{Id}
 use Rattle.fetch_plan.specs.Takers.{at, offered, held, no_offer, AreOffered}
 use Rattle.fetch_plan.specs.Chains.{set_at}
 

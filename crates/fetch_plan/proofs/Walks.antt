@@ -2,7 +2,7 @@
 use Rattle.std.proofs.Common.{◌≡◌, ◌≢◌, ℕ, ◌<◌, ◌==◌, true, cond, List, length, set, sym, ap, ◌∙◌, arith, inl, inr}
 use Rattle.std.proofs.lemmas.List.{get_or-set_other}
 use Rattle.sharing.specs.Sharing.{is_among}
-use Rattle.neg_codec.specs.declared.Id.{Id}
+use Rattle.item_key.specs.declared.Id.{Id}
 use Rattle.fetch_plan.specs.Takers.{at, offered, AreOffered, IsMoved}
 use Rattle.fetch_plan.specs.Chains.{LeadsBelow, IsBeyond, IsWay, AreReached}
 use Rattle.fetch_plan.specs.declared.search.Search.{Search}

@@ -1,7 +1,7 @@
 -- What a plan says, and what it promises for the offers and the bases that it is made of.
 use Rattle.std.specs.Prelude.{◌≡◌, ℕ, ◌+◌, ◌≤◌, ◌<◌, ◌==◌, List, length, map, count_by}
 use Rattle.std.specs.List.{All}
-use Rattle.neg_codec.specs.declared.Id.{Id}
+use Rattle.item_key.specs.declared.Id.{Id}
 use Rattle.sharing.specs.declared.TheConstants.{RELAYS, MOST_IDS}
 use Rattle.sharing.specs.Bases.{base_of, AreBases}
 use Rattle.sharing.specs.Sharing.{load}

@@ -8,7 +8,7 @@ ghost use Rattle.fetch_plan.specs.Takers.{at, offered, AreOffered, KeepPace};
 ghost use Rattle.fetch_plan.specs.Chains.{set_at, IsBeyond, IsSettled, squares};
 
 use crate::search::Search;
-use neg_codec::Id;
+use item_key::Id;
 use offer_table::RelaySet;
 use sharing::{RELAYS, SLOTS};
 use std::alloc::{AllocError, Global};

@@ -7,7 +7,7 @@ ghost use Rattle.fetch_plan.specs.LeftOut.{gone_beside, gone_of};
 
 use crate::cell::Cell;
 use crate::outcome::Plan;
-use neg_codec::Id;
+use item_key::Id;
 use offer_table::{OfferTable, RelaySet};
 use std::alloc::{AllocError, Global};
 

@@ -5,7 +5,7 @@ ghost use Rattle.std.specs.List.{slice_get};
 ghost use Rattle.sharing.specs.Offers.{beside};
 ghost use Rattle.fetch_plan.specs.Plan.{IsPlan, planned_load};
 
-use neg_codec::Id;
+use item_key::Id;
 use offer_table::{Bases, RelaySet};
 use sharing::{RELAYS, SLOTS};
 use std::marker::Model;

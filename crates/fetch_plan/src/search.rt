@@ -6,7 +6,7 @@ ghost use Rattle.sharing.specs.Offers.{AreRelays};
 ghost use Rattle.fetch_plan.specs.Takers.{at, offered, AreOffered, IsMoved};
 ghost use Rattle.fetch_plan.specs.Chains.{set_at, LeadsBelow, IsBeyond, AreReached, IsClosed, IsLow, Begins};
 
-use neg_codec::Id;
+use item_key::Id;
 use offer_table::RelaySet;
 use sharing::{RELAYS, SLOTS};
 

@@ -6,7 +6,7 @@ ghost use Rattle.sharing.specs.declared.TheConstants.{MOST_IDS};
 ghost use Rattle.sharing.specs.Sharing.{is_among};
 ghost use Rattle.fetch_plan.specs.Takers.{at, held, AreOffered};
 
-use neg_codec::Id;
+use item_key::Id;
 use offer_table::RelaySet;
 use sharing::{RELAYS, SLOTS};
 use std::alloc::{AllocError, Global};

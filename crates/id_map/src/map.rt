@@ -1,10 +1,10 @@
 //! The map.
 ghost use Rattle.std.specs.Prelude.{◌≡◌, ℕ, None, IfOk};
-ghost use Rattle.neg_codec.specs.declared.Id.{Id as AnId};
+ghost use Rattle.item_key.specs.declared.Id.{Id as AnId};
 ghost use Rattle.id_map.specs.Places.{place_of, SetsPlace};
 
 use crate::node::{Entry, LEVELS, Node, get_from, grown, put_into};
-use neg_codec::Id;
+use item_key::Id;
 use std::alloc::{AllocError, Global};
 use std::sync::Arc;
 

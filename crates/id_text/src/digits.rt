@@ -2,9 +2,9 @@
 
 ghost use Rattle.std.specs.Prelude.{◌≡◌, ◌<◌, slice_index};
 ghost use Rattle.hex.specs.Hex.{encode_lower, lower_digits};
-ghost use Rattle.neg_codec.specs.Keys.{IsId};
+ghost use Rattle.item_key.specs.Keys.{IsId};
 
-use neg_codec::Id;
+use item_key::Id;
 
 /// The lower-case hex digit of a number below 16.
 fn hex_digit(value: u8) -> u8

@@ -2,10 +2,10 @@
 
 ghost use Rattle.std.specs.Prelude.{◌≡◌, ◌≢◌, ◌<◌, ◌≤◌, ◌⊎◌, ◌/◌, ◌%◌, ℕ, All, length, map, IfSome, IfNone, slice_index};
 ghost use Rattle.hex.specs.Hex.{encode_lower, lower_digits};
-ghost use Rattle.neg_codec.specs.declared.Id.{Id as AnId};
-ghost use Rattle.neg_codec.specs.Keys.{IsId};
+ghost use Rattle.item_key.specs.declared.Id.{Id as AnId};
+ghost use Rattle.item_key.specs.Keys.{IsId};
 
-use neg_codec::Id;
+use item_key::Id;
 
 /// The value of a lower-case hex digit, and 16 for another byte.
 pub(crate) fn hex_digit(byte: u8) -> u8

@@ -5,9 +5,9 @@ use Rattle.std.proofs.Math.Nat.{mul-le-mul_right, suc-sub-suc, sub-zero}
 use Rattle.std.proofs.lemmas.Bool.{cases_lt, eqb-true, eqb-false, eq-eqb, ne_eqb}
 use Rattle.std.proofs.lemmas.List.{length-append, length-take, length-replicate, drop-replicate}
 use Rattle.std.proofs.lemmas.List.Elements.{All-tail}
-use Rattle.neg_codec.specs.declared.Item.{Item}
-use Rattle.neg_codec.specs.Keys.{place, number_of_bytes, IsKey}
-use Rattle.neg_codec.proofs.Stretches.{number_below}
+use Rattle.item_key.specs.declared.Item.{Item}
+use Rattle.item_key.specs.Keys.{place, number_of_bytes, IsKey}
+use Rattle.item_key.proofs.Order.{number_below}
 use Rattle.item_roll.specs.Splits.{common_len, cut_item, minimal_bound_of}
 
 number_zeros : (n : ℕ) → number_of_bytes (replicate n 0) ≡ 0

@@ -4,8 +4,8 @@ use Rattle.std.specs.Prelude.{All, filter}
 use Rattle.std.proofs.Math.Nat.{suc-sub-suc, sub-zero}
 use Rattle.std.proofs.lemmas.Bool.{cases_lt, lt-ltb, le-ltb, le-leb, lt-leb}
 use Rattle.std.proofs.lemmas.List.Elements.{All-cons, All-head, All-tail}
-use Rattle.neg_codec.specs.declared.Item.{Item}
-use Rattle.neg_codec.specs.Keys.{place}
+use Rattle.item_key.specs.declared.Item.{Item}
+use Rattle.item_key.specs.Keys.{place}
 use Rattle.item_roll.specs.Parts.{Ascending, is_between, part, count_below}
 
 none_below : (b : ℕ) (xs : List Item) → All (λ y. b ≤ place y) xs → filter (λ k. ltb (place k) b) xs ≡ []

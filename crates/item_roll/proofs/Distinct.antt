@@ -7,9 +7,9 @@ use Rattle.std.proofs.lemmas.Bool.{cases_lt, cases_eq, ltb-true, ltb-false, eq-e
 use Rattle.std.proofs.lemmas.List.Elements.{All-head, All-tail, All-cons, All-nil}
 use Rattle.std.proofs.lemmas.List.Sorted.{IsPermutation-sym, All-permutation, length_permutation}
 use Rattle.std.proofs.lemmas.Map.Keys.{IsDistinct-IsPermutation, IsDistinct-cons, apart_from_distinct}
-use Rattle.neg_codec.specs.declared.Item.{Item}
-use Rattle.neg_codec.specs.Keys.{place, IsKey, item_of}
-use Rattle.neg_codec.specs.Laws.{OnePlace}
+use Rattle.item_key.specs.declared.Item.{Item}
+use Rattle.item_key.specs.Keys.{place, IsKey, item_of}
+use Rattle.item_key.specs.Laws.{OnePlace}
 use Rattle.item_roll.specs.Parts.{Ascending, IsRoll}
 use Rattle.item_roll.specs.Repeats.{HasRepeat}
 use Rattle.item_roll.proofs.Truths.{order_at}

@@ -5,9 +5,9 @@ use Rattle.std.specs.List.{insert}
 use Rattle.std.proofs.lemmas.Bool.{cases_lt, ltb-true, ltb-false}
 use Rattle.std.proofs.lemmas.List.{take_all, length-drop}
 use Rattle.std.proofs.lemmas.List.Elements.{All-cons, All-nil, All-append, All-take, All-drop}
-use Rattle.neg_codec.specs.declared.Item.{Item}
-use Rattle.neg_codec.specs.Keys.{place, least, infinity, IsKey, IsId}
-use Rattle.neg_codec.specs.Laws.{OnePlace}
+use Rattle.item_key.specs.declared.Item.{Item}
+use Rattle.item_key.specs.Keys.{place, least, infinity, IsKey, IsId}
+use Rattle.item_key.specs.Laws.{OnePlace}
 use Rattle.neg_codec.proofs.Stretches.{key_below}
 use Rattle.item_roll.specs.Parts.{Ascending, IsRoll, part, count_below}
 use Rattle.item_roll.specs.Gaps.{IsGap}

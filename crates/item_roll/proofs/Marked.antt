@@ -3,7 +3,7 @@ use Rattle.std.proofs.Common.{◌≡◌, ℕ, zero, suc, ◌+◌, ◌*◌, ◌<�
 use Rattle.std.specs.List.{insert}
 use Rattle.std.proofs.lemmas.Bool.{cases_eq}
 use Rattle.std.proofs.lemmas.List.{get_or-set_same, get_or-set_other, take-append-le, take-take, length-take}
-use Rattle.neg_codec.specs.declared.Item.{Item}
+use Rattle.item_key.specs.declared.Item.{Item}
 use Rattle.neg_print.specs.declared.sum.Sum.{Sum}
 use Rattle.neg_print.specs.Total.{total_of}
 use Rattle.item_roll.specs.Sums.{sum_at, AreMarked, AreMarkedTo}

@@ -2,7 +2,7 @@
 use Rattle.std.proofs.Common.{◌≡◌, ℕ, zero, suc, ◌+◌, ◌*◌, ◌<◌, ◌≤◌, List, [], ◌∷◌, ◌++◌, length, get_or, take, sym, ap, ◌∙◌, arith, length-append, append_assoc}
 use Rattle.std.specs.Prelude.{All}
 use Rattle.std.proofs.lemmas.List.Elements.{All-head, All-tail}
-use Rattle.neg_codec.specs.declared.Item.{Item}
+use Rattle.item_key.specs.declared.Item.{Item}
 use Rattle.item_roll.specs.declared.entries.Entry.{Entry}
 use Rattle.item_roll.specs.Halves.{IsPart, IsNumbered}
 use Rattle.item_roll.specs.Chunks.{items_at, joined, starts}

@@ -4,8 +4,8 @@ use Rattle.std.specs.Prelude.{All, filter}
 use Rattle.std.specs.List.Sorted.{IsNonDecreasingBy}
 use Rattle.std.proofs.lemmas.Bool.{cases_lt, lt-ltb, le-ltb}
 use Rattle.std.proofs.lemmas.List.Elements.{All-head, All-tail}
-use Rattle.neg_codec.specs.declared.Item.{Item}
-use Rattle.neg_codec.specs.Keys.{place}
+use Rattle.item_key.specs.declared.Item.{Item}
+use Rattle.item_key.specs.Keys.{place}
 use Rattle.item_roll.specs.Parts.{Ascending, count_below}
 
 none_counted : (b : Item) (xs : List Item) → All (λ y. place b ≤ place y) xs → filter (λ k. ltb (place k) (place b)) xs ≡ []

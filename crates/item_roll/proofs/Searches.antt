@@ -2,8 +2,8 @@
 use Rattle.std.proofs.Common.{◌≡◌, ℕ, zero, suc, ◌+◌, ◌-◌, ◌<◌, ◌≤◌, inl, inr, ltb, leb, Bool, true, false, List, [], ◌∷◌, length, get_or, take, refl, sym, subst, ◌∙◌, arith, length-append}
 use Rattle.std.specs.List.Sorted.{IsPartitionedBy, IsPartitionPoint}
 use Rattle.std.proofs.lemmas.Bool.{cases_lt, lt-ltb, le-ltb, le-leb, lt-leb, ltb-true, ltb-false}
-use Rattle.neg_codec.specs.declared.Item.{Item}
-use Rattle.neg_codec.specs.Keys.{place}
+use Rattle.item_key.specs.declared.Item.{Item}
+use Rattle.item_key.specs.Keys.{place}
 use Rattle.item_roll.specs.declared.entries.Entry.{Entry}
 use Rattle.item_roll.specs.Parts.{Ascending, begins_below, count_below}
 use Rattle.item_roll.specs.Chunks.{items_at, joined, starts, Tells}

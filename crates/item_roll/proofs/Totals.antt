@@ -4,8 +4,8 @@ use Rattle.std.proofs.Math.Seq.{take-suc}
 use Rattle.std.specs.List.{insert, sum_by, fold, slice_range}
 use Rattle.std.proofs.lemmas.List.{length-take, length-drop}
 use Rattle.std.proofs.lemmas.List.Sums.{sum_by-insert, sum_by-append}
-use Rattle.neg_codec.specs.declared.Id.{Id}
-use Rattle.neg_codec.specs.declared.Item.{Item}
+use Rattle.item_key.specs.declared.Id.{Id}
+use Rattle.item_key.specs.declared.Item.{Item}
 use Rattle.neg_print.specs.Print.{little_number, sum_of, print_by, print_of}
 use Rattle.item_roll.specs.Parts.{ids_of}
 use Rattle.item_roll.specs.Sums.{sum_at}

@@ -1,6 +1,6 @@
 -- The stretches of ranges alone, without the Skip that a message implies after its last range.
 use Rattle.std.specs.Prelude.{◌≡◌, ◌≢◌, List, [], ◌∷◌, All}
-use Rattle.neg_codec.specs.declared.Item.{Item}
+use Rattle.item_key.specs.declared.Item.{Item}
 use Rattle.neg_codec.specs.Ranges.{skip, Span, Stretch}
 
 -- the first begins at the lower bound, each later one where the one before it ends

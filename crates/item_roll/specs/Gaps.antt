@@ -1,7 +1,7 @@
 -- Where an item that isn't in a list in order belongs.
 use Rattle.std.specs.Prelude.{ℕ, ◌<◌, ◌≤◌, List, length, slice_index_or}
-use Rattle.neg_codec.specs.declared.Item.{Item}
-use Rattle.neg_codec.specs.Keys.{place}
+use Rattle.item_key.specs.declared.Item.{Item}
+use Rattle.item_key.specs.Keys.{place}
 
 -- the items before the index stand below it, the others above
 pub record IsGap (items : List Item) (key : Item) (at : ℕ) : Type 0 where

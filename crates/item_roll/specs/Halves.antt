@@ -1,6 +1,6 @@
 -- The items of a part of a roll, and how it is cut in two.
 use Rattle.std.specs.Prelude.{◌≡◌, ℕ, ◌*◌, ◌<◌, ◌≤◌, ◌++◌, List, length}
-use Rattle.neg_codec.specs.declared.Item.{Item}
+use Rattle.item_key.specs.declared.Item.{Item}
 
 -- some items, and no more than so many
 pub record IsPart (most : ℕ) (items : List Item) : Type 0 where

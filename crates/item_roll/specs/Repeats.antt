@@ -1,7 +1,7 @@
 -- Items that stand twice in a list, and those that no roll takes.
 use Rattle.std.specs.Prelude.{◌≡◌, ℕ, ◌<◌, ◌≤◌, List, length, slice_index_or, Contains}
-use Rattle.neg_codec.specs.declared.Item.{Item}
-use Rattle.neg_codec.specs.Keys.{endless}
+use Rattle.item_key.specs.declared.Item.{Item}
+use Rattle.item_key.specs.Keys.{endless}
 
 -- the same time and id at two places
 pub record HasRepeat (items : List Item) : Type 0 where

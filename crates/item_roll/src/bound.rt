@@ -1,11 +1,12 @@
 //! The minimal bound between two items.
 
 ghost use Rattle.std.specs.Prelude.{◌≡◌, ◌+◌, ◌-◌, ◌++◌, ◌<◌, ◌≤◌, take, replicate};
-ghost use Rattle.neg_codec.specs.Keys.{number_of_bytes, place, endless};
+ghost use Rattle.item_key.specs.Keys.{number_of_bytes, place, endless};
 ghost use Rattle.neg_codec.specs.Ranges.{edge_of};
 ghost use Rattle.item_roll.specs.Splits.{common_len, minimal_bound_of};
 
-use neg_codec::{Bound, Id, Item, Key};
+use item_key::{Id, Item, Key};
+use neg_codec::Bound;
 
 /// How many first bytes are the same.
 fn common_bytes(a: &[u8; 32], b: &[u8; 32]) -> usize

@@ -10,7 +10,7 @@ ghost use Rattle.item_roll.specs.Sums.{sum_at};
 use crate::marks::{MARK_ITEMS, MARKS, mark_from, sum_upto};
 use crate::order::is_before;
 use crate::part::Part;
-use neg_codec::Item;
+use item_key::Item;
 use neg_print::Sum;
 use std::alloc::{AllocError, Global};
 use std::marker::Model;
@@ -33,7 +33,7 @@ pub struct Chunk {
 
 impl Model for Chunk {
     ghost use Rattle.std.specs.Prelude.{◌≡◌, List};
-    ghost use Rattle.neg_codec.specs.declared.Item.{Item};
+    ghost use Rattle.item_key.specs.declared.Item.{Item};
     ghost use Rattle.neg_print.specs.Total.{total_of};
     ghost use Rattle.item_roll.specs.Sums.{sum_at, AreMarked};
 
@@ -87,7 +87,7 @@ impl Chunk {
 
 impl Part for Chunk {
     ghost use Rattle.std.specs.Prelude.{List};
-    ghost use Rattle.neg_codec.specs.declared.Item.{Item};
+    ghost use Rattle.item_key.specs.declared.Item.{Item};
 
     ghost items = { λ (c : List Item). c };
 

@@ -10,7 +10,7 @@ ghost use Rattle.item_roll.specs.Chunks.{joined, items_at, Tells, IsAt, Ends, Ra
 
 use crate::order::is_before;
 use crate::part::Part;
-use neg_codec::Item;
+use item_key::Item;
 use neg_print::Sum;
 use std::alloc::{AllocError, Global};
 use std::sync::Arc;

@@ -4,7 +4,7 @@ ghost use Rattle.std.specs.Prelude.{◌≡◌, ◌+◌, ◌*◌, ◌<◌, ◌≤
 ghost use Rattle.neg_print.specs.Total.{total_of};
 ghost use Rattle.item_roll.specs.Sums.{sum_at, AreMarked, AreMarkedTo};
 
-use neg_codec::Item;
+use item_key::Item;
 use neg_print::Sum;
 
 /// How many items stand between two marks.

@@ -1,9 +1,9 @@
 //! Which item comes first.
 
 ghost use Rattle.std.specs.Prelude.{◌≡◌, nat_lt};
-ghost use Rattle.neg_codec.specs.Keys.{place};
+ghost use Rattle.item_key.specs.Keys.{place};
 
-use neg_codec::Item;
+use item_key::Item;
 
 /// Whether an item stands before another.
 pub fn is_before(a: &Item, b: &Item) -> bool

@@ -2,13 +2,13 @@
 
 ghost use Rattle.std.specs.Prelude.{◌≡◌, ℕ, ◌+◌, ◌<◌, ◌≤◌, length, List, take, slice_get, slice_range, Some, IfOk, OnOk, OnErr, MatchOption};
 ghost use Rattle.std.specs.List.{insert};
-ghost use Rattle.neg_codec.specs.declared.Item.{Item as AnItem};
+ghost use Rattle.item_key.specs.declared.Item.{Item as AnItem};
 ghost use Rattle.neg_print.specs.Total.{total_of};
 ghost use Rattle.item_roll.specs.Halves.{IsPart, IsHalved};
 ghost use Rattle.item_roll.specs.Parts.{Ascending, count_below};
 ghost use Rattle.item_roll.specs.Sums.{sum_at};
 
-use neg_codec::Item;
+use item_key::Item;
 use neg_print::Sum;
 use std::alloc::{AllocError, Global};
 

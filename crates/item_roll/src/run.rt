@@ -12,7 +12,7 @@ ghost use Rattle.item_roll.specs.Sums.{sum_at};
 use crate::chunk::Chunk;
 use crate::entries::{Entry, entry_at, entry_below, insert_into, make_room};
 use crate::part::Part;
-use neg_codec::Item;
+use item_key::Item;
 use neg_print::Sum;
 use std::alloc::{AllocError, Global};
 use std::marker::Model;
@@ -38,7 +38,7 @@ pub struct Run<P: Part> {
 
 impl<P: Part> Model for Run<P> {
     ghost use Rattle.std.specs.Prelude.{List};
-    ghost use Rattle.neg_codec.specs.declared.Item.{Item};
+    ghost use Rattle.item_key.specs.declared.Item.{Item};
     ghost use Rattle.item_roll.specs.Chunks.{IsKept, joined};
 
     ghost Value = { List Item };
@@ -136,7 +136,7 @@ impl Run<Chunk> {
 
 impl<P: Part> Part for Run<P> {
     ghost use Rattle.std.specs.Prelude.{List};
-    ghost use Rattle.neg_codec.specs.declared.Item.{Item};
+    ghost use Rattle.item_key.specs.declared.Item.{Item};
 
     ghost items = { λ (r : List Item). r };
 

@@ -2,12 +2,12 @@
 
 ghost use Rattle.std.specs.Prelude.{◌≡◌, ◌<◌, ◌≤◌, true, false, length, All, IfOk, IsPermutation};
 ghost use Rattle.std.specs.List.Sorted.{IsNonDecreasingBy};
-ghost use Rattle.neg_codec.specs.Keys.{place, endless, IsKey};
+ghost use Rattle.item_key.specs.Keys.{place, endless, IsKey};
 ghost use Rattle.item_roll.specs.Parts.{Ascending};
 ghost use Rattle.item_roll.specs.Repeats.{HasRepeat, HasEndless};
 
 use crate::order::is_before;
-use neg_codec::Item;
+use item_key::Item;
 use std::alloc::{AllocError, Global};
 
 /// Whether no item stands at infinity.
@@ -49,7 +49,7 @@ pub fn has_repeat(items: &[Item]) -> bool
     ensures repeat { result ≡ true → HasRepeat items.now }
     ensures distinct { result ≡ false → Ascending items.now }
 {
-    neg_codec::one_place();
+    item_key::one_place();
     for i in 1..items.len() {
         if !is_before(&items[i - 1], &items[i]) {
             return true;

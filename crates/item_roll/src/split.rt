@@ -1,8 +1,8 @@
 //! How a piece of a roll is told by ranges.
 
 ghost use Rattle.std.specs.Prelude.{◌≡◌, ◌+◌, ◌-◌, ◌/◌, ◌^◌, ◌<◌, ◌≤◌, [], ◌∷◌, length, map, take, All, IfOk, IfSome, slice_range, slice_index_or};
-ghost use Rattle.neg_codec.specs.declared.Item.{Item};
-ghost use Rattle.neg_codec.specs.Keys.{place, least, IsKey};
+ghost use Rattle.item_key.specs.declared.Item.{Item};
+ghost use Rattle.item_key.specs.Keys.{place, least, IsKey};
 ghost use Rattle.neg_codec.specs.Ranges.{print, ids, edge_of, span_of, Ascends};
 ghost use Rattle.neg_print.specs.Print.{print_of};
 ghost use Rattle.neg_print.specs.Total.{total_of};

@@ -1,8 +1,8 @@
 //! Rolls that items are put into, for measuring.
 
 use crate::End;
+use item_key::{Id, Item};
 use item_roll::{Roll, RollFault};
-use neg_codec::{Id, Item};
 use std::alloc::{AllocError, Global};
 use std::io;
 use std::io::Write;

@@ -4,9 +4,9 @@ use Rattle.std.specs.Prelude.{slice_get}
 use Rattle.std.proofs.lemmas.List.{append-nil}
 use Rattle.std.proofs.lemmas.Option.{slice_get_within}
 use Rattle.std.proofs.Math.Seq.{drop-append_seam}
-use Rattle.neg_codec.specs.declared.Id.{Id}
+use Rattle.item_key.specs.declared.Id.{Id}
 use Rattle.claim_board.specs.Views.{LaneView}
-use Rattle.mirror_core.specs.Fetching.{Fetching, fetching, fetched}
+use Rattle.event_source.specs.Fetching.{Fetching, fetching, fetched}
 use Rattle.mirror_core.specs.Asked.{AreIdsOf, AsksOnce, asked_in}
 
 module _ (cells : List (Id × ℕ)) (relay : ℕ) where

@@ -5,7 +5,7 @@ use Rattle.std.proofs.lemmas.List.Elements.{Contains-push, Contains-push_cases, 
 use Rattle.std.proofs.lemmas.Option.{slice_get_within}
 use mathlib.Core.Logic.{dite}
 use native.Mathlib.Decide.{ℕ_discrete}
-use Rattle.neg_codec.specs.declared.Id.{Id}
+use Rattle.item_key.specs.declared.Id.{Id}
 use Rattle.fetch_plan.specs.declared.cell.Cell.{Cell}
 use Rattle.fetch_plan.specs.declared.cell.Cell.TheVariants.{Free, Held, Done, Missed}
 use Rattle.claim_board.specs.declared.records.LaneRecord.{LaneRecord}

@@ -6,17 +6,17 @@ use Rattle.std.proofs.lemmas.Option.{slice_get_within, slice_get-get_or, get_or_
 use mathlib.Core.Option.{some}
 use lib.ListN.{get_elem?}
 use Rattle.atomic_table.specs.Seated.{TableId}
-use Rattle.neg_codec.specs.declared.Id.{Id}
+use Rattle.item_key.specs.declared.Id.{Id}
 use Rattle.fetch_plan.specs.declared.cell.Cell.{Cell}
 use Rattle.fetch_plan.specs.declared.cell.Cell.TheVariants.{Free, Held, Done, Missed}
 use Rattle.claim_board.specs.declared.records.LaneRecord.{LaneRecord}
 use Rattle.claim_board.specs.Rules.{relays, fresh, named}
 use Rattle.claim_board.specs.Views.{LaneView, all_of, placed_at, ClosedAs, Honest}
+use Rattle.event_source.specs.Fetching.{Fetching, fetched, WasGiven, WasMissed}
 use Rattle.mirror_core.specs.declared.worker.Stop.{Stop}
 use Rattle.mirror_core.specs.declared.worker.Stop.TheVariants.{Memory}
 use Rattle.mirror_core.specs.Three.{AllThree}
 use Rattle.mirror_core.specs.Six.{AllSix}
-use Rattle.mirror_core.specs.Fetching.{Fetching, fetched, WasGiven, WasMissed}
 use Rattle.mirror_core.specs.Working.{is_through, IsUnused, EndedByFetches, Worked}
 use Rattle.mirror_core.specs.Closing.{AllBack, Closed, behind}
 use Rattle.mirror_core.specs.Fetched.{logs_gained, CellEnds, EachEnds, Fetches}

@@ -6,9 +6,9 @@ use Rattle.std.specs.declared.sync.Arc.{Arc as AnArc}
 use Rattle.std.specs.declared.alloc.Global.{Global as AGlobal}
 use Rattle.std.proofs.lemmas.List.{get_or-map, length-map}
 use Rattle.std.proofs.lemmas.Option.{get_or_from_slice_get}
-use Rattle.neg_codec.specs.declared.Id.{Id}
+use Rattle.item_key.specs.declared.Id.{Id}
 use Rattle.nostr_event.specs.EventView.{EventView}
-use Rattle.mirror_core.specs.Fetching.{ids_of}
+use Rattle.event_source.specs.Fetching.{ids_of}
 
 -- the id at the place of an event
 pub id_at : (given : List (AnArc EventView AGlobal)) (k : ℕ) (e : AnArc EventView AGlobal) (v : EventView) (id other : Id) → k < length given → e ≡ get_or given k e → v ≡ arc_value e → id ≡ v.id → get_or (ids_of given) k other ≡ id

@@ -3,7 +3,7 @@ use Rattle.std.proofs.Common.{◌≡◌, ℕ, true, false, not, ◌&&◌, List, 
 use Rattle.std.specs.Prelude.{Result, Ok, Err, IfOk, OnErr}
 use Rattle.std.specs.declared.alloc.AllocError.{AllocError}
 use Rattle.std.proofs.lemmas.Bool.{false≢true, and_parts, and_from, false_from_ne_true, not_from_false}
-use Rattle.neg_codec.specs.declared.Id.{Id}
+use Rattle.item_key.specs.declared.Id.{Id}
 use Rattle.sharing.specs.Bases.{base_of}
 use Rattle.sharing.specs.Sharing.{is_among, NoneSmaller}
 use Rattle.sharing.specs.Offers.{relays_of, Ascend, IsOffers, StandsFor}

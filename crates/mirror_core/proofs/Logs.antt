@@ -4,17 +4,17 @@ use Rattle.std.specs.Prelude.{Contains, slice_get}
 use Rattle.std.proofs.lemmas.List.{append-nil}
 use Rattle.std.proofs.lemmas.List.Elements.{Contains-push, Contains-append_left, Contains-append_cases}
 use Rattle.std.proofs.Math.Seq.{drop-append_seam}
-use Rattle.neg_codec.specs.declared.Id.{Id}
+use Rattle.item_key.specs.declared.Id.{Id}
 use Rattle.fetch_plan.specs.declared.cell.Cell.{Cell}
 use Rattle.fetch_plan.specs.declared.cell.Cell.TheVariants.{Done, Missed}
 use Rattle.claim_board.specs.declared.records.LaneRecord.{LaneRecord}
 use Rattle.claim_board.specs.Views.{LaneView}
 use Rattle.claim_board.proofs.Words.{in_cases}
-use Rattle.mirror_core.specs.declared.source.SourceFault.{SourceFault}
-use Rattle.mirror_core.specs.declared.source.SourceFault.TheVariants.{Failed, Memory}
+use Rattle.event_source.specs.declared.source.SourceFault.{SourceFault}
+use Rattle.event_source.specs.declared.source.SourceFault.TheVariants.{Failed, Memory}
+use Rattle.event_source.specs.Fetching.{Fetching, fetching, fetched, WasGiven, WasMissed}
 use Rattle.mirror_core.specs.declared.worker.Stop.{Stop}
 use Rattle.mirror_core.specs.declared.worker.Stop.TheVariants.{Source}
-use Rattle.mirror_core.specs.Fetching.{Fetching, fetching, fetched, WasGiven, WasMissed}
 use Rattle.mirror_core.specs.Batches.{Batched, SameLane, Settles}
 use Rattle.mirror_core.specs.Working.{is_through, IsUnused, EndedByFetches, Logs, Worked}
 use Rattle.mirror_core.proofs.Batches.{none_of}

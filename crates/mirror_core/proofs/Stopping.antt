@@ -1,7 +1,7 @@
 -- Where a part has no table, all its sessions ran all the same.
 use Rattle.std.proofs.Common.{◌≡◌, ℕ, List, [], ◌∷◌, ◌++◌, length, get_or, sym, ap, ◌∙◌, arith}
 use Rattle.std.specs.Prelude.{Result, Ok, Err, IfOk, IfErr, slice_set}
-use Rattle.neg_codec.specs.declared.Item.{Item}
+use Rattle.item_key.specs.declared.Item.{Item}
 use Rattle.neg_session.specs.Exchange.{Exchange}
 use Rattle.neg_session.specs.declared.limits.SessionLimits.{SessionLimits}
 use Rattle.mirror_core.specs.declared.end.End.{End}

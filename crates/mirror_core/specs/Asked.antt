@@ -1,7 +1,7 @@
 -- What a source was asked for, all in all.
 use Rattle.std.specs.Prelude.{◌≡◌, ◌⊎◌, ℕ, ◌+◌, ◌≤◌, List, [], ◌∷◌, ◌++◌, length, Some, slice_get, slice_index_or}
-use Rattle.neg_codec.specs.declared.Id.{Id}
-use Rattle.mirror_core.specs.Fetching.{Fetching, fetching}
+use Rattle.item_key.specs.declared.Id.{Id}
+use Rattle.event_source.specs.Fetching.{Fetching, fetching}
 
 -- the ids are those of cells of the relay, from the first on and below the next one, in the order of the cells and each once
 abbrev pub AreIdsOf : List (Id × ℕ) → ℕ → ℕ → ℕ → List Id → Type 0

@@ -1,7 +1,7 @@
 -- What a lane is between two steps of its worker: the cells that it holds are a batch, which was or will be asked for.
 use Rattle.std.specs.Prelude.{◌≡◌, ◌≢◌, ◌⊎◌, ℕ, ◌<◌, List, [], ◌∷◌, Some, slice_get, slice_index, Contains}
 use mathlib.Core.Logic.{◌↔◌}
-use Rattle.neg_codec.specs.declared.Id.{Id}
+use Rattle.item_key.specs.declared.Id.{Id}
 use Rattle.fetch_plan.specs.declared.cell.Cell.{Cell}
 use Rattle.fetch_plan.specs.declared.cell.Cell.TheVariants.{Free, Done, Missed}
 use Rattle.claim_board.specs.declared.records.LaneRecord.{LaneRecord}

@@ -1,12 +1,12 @@
 -- What the cells of a board come to once sources were asked, and what each source was asked.
 use Rattle.std.specs.Prelude.{◌≡◌, ◌≢◌, ℕ, ◌<◌, ◌≤◌, true, List, [], ◌∷◌, ◌++◌, length, Some, slice_get, slice_index_or, Contains}
-use Rattle.neg_codec.specs.declared.Id.{Id}
+use Rattle.item_key.specs.declared.Id.{Id}
 use Rattle.fetch_plan.specs.declared.cell.Cell.{Cell}
 use Rattle.fetch_plan.specs.declared.cell.Cell.TheVariants.{Free, Held, Done, Missed}
-use Rattle.mirror_core.specs.declared.source.SourceFault.TheVariants.{Failed}
+use Rattle.event_source.specs.declared.source.SourceFault.TheVariants.{Failed}
+use Rattle.event_source.specs.Fetching.{Fetching, fetched, WasGiven, WasMissed}
 use Rattle.mirror_core.specs.declared.worker.Stop.{Stop}
 use Rattle.mirror_core.specs.declared.worker.Stop.TheVariants.{Source, Memory}
-use Rattle.mirror_core.specs.Fetching.{Fetching, fetched, WasGiven, WasMissed}
 use Rattle.mirror_core.specs.Working.{is_through}
 
 -- what each source's log gained

@@ -1,7 +1,7 @@
 -- Where more ids are needed than a table takes.
 use Rattle.std.specs.Prelude.{◌<◌, ℕ, List, length, Contains}
-use Rattle.neg_codec.specs.declared.Id.{Id}
-use Rattle.neg_codec.specs.declared.Item.{Item}
+use Rattle.item_key.specs.declared.Id.{Id}
+use Rattle.item_key.specs.declared.Item.{Item}
 use Rattle.neg_initiator.specs.declared.initiator.Outcome.{Outcome}
 use Rattle.neg_initiator.specs.Listed.{Distinct}
 use Rattle.neg_session.specs.Exchange.{Exchange}

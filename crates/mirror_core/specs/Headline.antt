@@ -1,7 +1,7 @@
 -- What a round of sessions, and the plan made of it, mean for the relays' own lists.
 use Rattle.std.specs.Prelude.{◌≡◌, ◌≤◌, ◌<◌, ◌-◌, ◌*◌, ◌⊎◌, ℕ, List, Some, slice_get, map, length}
-use Rattle.neg_codec.specs.declared.Id.{Id}
-use Rattle.neg_codec.specs.declared.Item.{Item}
+use Rattle.item_key.specs.declared.Id.{Id}
+use Rattle.item_key.specs.declared.Item.{Item}
 use Rattle.neg_initiator.specs.declared.initiator.Outcome.{Outcome}
 use Rattle.neg_initiator.specs.Settled.{Needs, ToldApart, OneTime}
 use Rattle.neg_session.specs.Exchange.{Exchange, gained}

@@ -1,7 +1,7 @@
 -- Where ids stand in a list.
 use Rattle.std.specs.Prelude.{◌≡◌, ℕ, List, Some, slice_get, Contains, MatchOption}
 use Rattle.std.specs.BTreeMap.{BTreeMap, get}
-use Rattle.neg_codec.specs.declared.Id.{Id}
+use Rattle.item_key.specs.declared.Id.{Id}
 use Rattle.sharing.specs.Offers.{id_cmp}
 
 -- a place of each id that stands in the list, and of no other id

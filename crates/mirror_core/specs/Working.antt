@@ -1,6 +1,6 @@
 -- What a worker did by the time that it ended.
 use Rattle.std.specs.Prelude.{◌≡◌, ◌≢◌, ◌⊎◌, ℕ, ◌<◌, ◌≤◌, Bool, true, false, List, [], ◌++◌, length, Some, slice_get, slice_index, Contains}
-use Rattle.neg_codec.specs.declared.Id.{Id}
+use Rattle.item_key.specs.declared.Id.{Id}
 use Rattle.fetch_plan.specs.declared.cell.Cell.{Cell}
 use Rattle.fetch_plan.specs.declared.cell.Cell.TheVariants.{Free, Done, Missed}
 use Rattle.claim_board.specs.declared.records.LaneRecord.{LaneRecord}
@@ -8,10 +8,10 @@ use Rattle.claim_board.specs.Rules.{relays}
 use Rattle.claim_board.specs.Views.{LaneView}
 use Rattle.event_store.specs.declared.desk.InsertFault.{InsertFault}
 use Rattle.event_store.specs.declared.desk.InsertFault.TheVariants as refused
-use Rattle.mirror_core.specs.declared.source.SourceFault.TheVariants.{Failed}
+use Rattle.event_source.specs.declared.source.SourceFault.TheVariants.{Failed}
+use Rattle.event_source.specs.Fetching.{Fetching, fetched, WasGiven, WasMissed}
 use Rattle.mirror_core.specs.declared.worker.Stop.{Stop}
 use Rattle.mirror_core.specs.declared.worker.Stop.TheVariants as ended
-use Rattle.mirror_core.specs.Fetching.{Fetching, fetched, WasGiven, WasMissed}
 use Rattle.mirror_core.specs.Batches.{SameLane}
 use Rattle.mirror_core.specs.Asked.{AreIdsOf, asked_in}
 

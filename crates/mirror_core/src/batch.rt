@@ -6,7 +6,7 @@ ghost use Rattle.mirror_core.specs.Asked.{AreIdsOf};
 
 use claim_board::{Board, Claimed, Lane};
 use event_store::Naming;
-use neg_codec::Id;
+use item_key::Id;
 use std::alloc::{AllocError, Global};
 
 /// The most ids that a source is asked for at a time.

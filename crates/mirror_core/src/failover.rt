@@ -7,7 +7,7 @@ ghost use Rattle.mirror_core.specs.Next.{IsLeft, IsLess};
 
 use crate::next::strike;
 use fetch_plan::{Cell, Plan, plan};
-use neg_codec::Id;
+use item_key::Id;
 use offer_table::{Bases, OfferTable, RelaySet};
 use std::alloc::{AllocError, Global};
 

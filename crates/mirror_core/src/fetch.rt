@@ -7,10 +7,10 @@ ghost use Rattle.mirror_core.specs.Three.{AllThree};
 ghost use Rattle.mirror_core.specs.Fetched.{EachEnds, Fetches, logs_gained};
 ghost use Rattle.mirror_core.specs.Asked.{AskInOrder};
 
-use crate::source::Source;
 use crate::worker::Stop;
 use crate::workers::{close_all, run_workers};
 use claim_board::{Board, Cell, Lane};
+use event_source::Source;
 use event_store::{Desk, Naming};
 use std::alloc::{AllocError, Global};
 use std::sync::{Mutex, Wait};

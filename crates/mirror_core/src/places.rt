@@ -1,10 +1,10 @@
 //! Where the events that a source gave stand, by their ids.
 
 ghost use Rattle.std.specs.Prelude.{◌≡◌, ◌<◌, length, Contains, Some, slice_get, IfOk, MatchOption};
-ghost use Rattle.mirror_core.specs.Fetching.{ids_of};
+ghost use Rattle.event_source.specs.Fetching.{ids_of};
 ghost use Rattle.mirror_core.specs.IdPlaces.{ArePlacesOf};
 
-use neg_codec::Id;
+use item_key::Id;
 use nostr_event::Event;
 use std::alloc::{AllocError, Global};
 use std::collections::BTreeMap;

@@ -2,7 +2,7 @@
 
 ghost use Rattle.std.specs.Prelude.{◌≡◌, ◌<◌, ◌≤◌, ◌+◌, ◌-◌, ◌^◌, ◌⊎◌, [], ◌∷◌, ℕ, false, true, length, drop, Contains, All, Some, Err, IfOk, IfErr, IfSome, OnOk, OnErr};
 ghost use Rattle.std.specs.Arc.{arc_value};
-ghost use Rattle.mirror_core.specs.Fetching.{fetching, ids_of, IsGiven, IsAsked};
+ghost use Rattle.event_source.specs.Fetching.{fetching, ids_of, IsGiven, IsAsked};
 ghost use Rattle.mirror_core.specs.IdPlaces.{ArePlacesOf};
 ghost use Rattle.mirror_core.specs.Batches.{Batched, SameLane, EndsCell, Settles};
 ghost use Rattle.mirror_core.specs.Working.{is_through, stop_of, IsUnused, Logs, Worked};
@@ -10,11 +10,11 @@ ghost use Rattle.mirror_core.specs.Asked.{AsksOnce};
 
 use crate::batch::{Batch, fill, release_from};
 use crate::places::Places;
-use crate::source::{Source, SourceFault};
 use crate::workers::Duty;
 use claim_board::{Board, Lane};
+use event_source::{Source, SourceFault};
 use event_store::{Desk, Filled, InsertFault, Naming, Placed};
-use neg_codec::Id;
+use item_key::Id;
 use nostr_event::Event;
 use std::alloc::{AllocError, Global};
 use std::sync::{Arc, Mutex, Wait};

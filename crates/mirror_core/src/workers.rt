@@ -2,14 +2,14 @@
 
 ghost use Rattle.std.specs.Prelude.{◌≡◌, ◌<◌, ◌^◌, ◌-◌, ◌++◌, ◌∷◌, [], List, All, length, ℕ, IfSome};
 ghost use Rattle.std.specs.Thread.{IsSync, IsSend};
-ghost use Rattle.neg_codec.specs.declared.Id.{Id};
+ghost use Rattle.item_key.specs.declared.Id.{Id};
 ghost use Rattle.claim_board.specs.Views.{LaneView, all_of};
 ghost use Rattle.mirror_core.specs.Six.{AllSix};
 ghost use Rattle.mirror_core.specs.Working.{IsUnused};
 ghost use Rattle.mirror_core.specs.Closing.{AllBack, Closed, behind};
 
-use crate::source::Source;
 use claim_board::{Board, Cell, Lane};
+use event_source::Source;
 use event_store::Naming;
 use std::alloc::Global;
 use std::sync::Wait;

@@ -3,7 +3,7 @@ use Rattle.std.proofs.Common.{◌≡◌, ◌≢◌, ℕ, ◌+◌, ◌-◌, ◌�
 use Rattle.std.specs.List.{All}
 use Rattle.std.proofs.lemmas.List.{append-nil, length-map}
 use Rattle.std.proofs.lemmas.List.Elements.{All-nil, All-head, All-tail}
-use Rattle.neg_codec.specs.declared.Item.{Item}
+use Rattle.item_key.specs.declared.Item.{Item}
 use Rattle.mirror_run.specs.Lines.{FirstIsNot}
 use Rattle.mirror_run.specs.ItemLists.{item_line, IsItem, IsItemLine, mine_line, theirs_line, input_lines, Begins, IsFirstWrong}
 use Rattle.mirror_run.proofs.ItemLemmas.{length-line}

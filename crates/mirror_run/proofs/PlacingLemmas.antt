@@ -15,10 +15,10 @@ use Rattle.std.proofs.lemmas.Option.{slice_get-get_or}
 use Rattle.std.proofs.lemmas.List.Folds.{list_any-append}
 use Rattle.std.proofs.lemmas.Map.Lookups.{CmpEqualImpliesEq, exact_unsigned, exact_bytes}
 use Rattle.std.proofs.lemmas.Map.Views.{Contains-from_any, list_any-from_Contains}
-use Rattle.neg_codec.specs.declared.Item.{Item}
-use Rattle.neg_codec.specs.Keys.{endless, least}
-use Rattle.neg_codec.specs.contracts.ItemOrd.TheImpl as item_ord
-use Rattle.neg_codec.specs.contracts.ItemOrd.TheImpl.Laws as item_laws
+use Rattle.item_key.specs.declared.Item.{Item}
+use Rattle.item_key.specs.Keys.{endless, least}
+use Rattle.item_key.specs.contracts.ItemOrd.TheImpl as item_ord
+use Rattle.item_key.specs.contracts.ItemOrd.TheImpl.Laws as item_laws
 use Rattle.neg_initiator.specs.Listed.{Distinct}
 use Rattle.item_roll.specs.declared.roll.RollFault.{RollFault}
 use Rattle.item_roll.specs.declared.roll.RollFault.TheVariants.{Infinity, Present as Repeated, Full as Crowded, Memory}

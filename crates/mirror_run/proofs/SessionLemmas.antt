@@ -4,7 +4,7 @@ use Rattle.std.specs.Prelude.{IfSome}
 use Rattle.std.specs.Io.KnownBytes.{Appends}
 use Rattle.item_roll.specs.Parts.{IsRoll}
 use Rattle.neg_codec.specs.declared.CodecFault.{CodecFault}
-use Rattle.neg_codec.specs.declared.Item.{Item}
+use Rattle.item_key.specs.declared.Item.{Item}
 use Rattle.neg_codec.specs.Ranges.{Span}
 use Rattle.neg_codec.specs.Reading.{message_at}
 use Rattle.neg_codec.specs.Text.{Spells}

@@ -1,8 +1,8 @@
 -- The input of `recon`: the line `mine`, item lines, the line `theirs`, item lines. Items stand in any order.
 use Rattle.std.specs.Prelude.{◌≡◌, ◌≢◌, ℕ, ◌+◌, ◌-◌, ◌^◌, ◌<◌, ◌≤◌, List, ◌∷◌, ◌++◌, length, take, map, codes, decimal, All}
 use Rattle.hex.specs.Hex.{encode_lower}
-use Rattle.neg_codec.specs.declared.Item.{Item}
-use Rattle.neg_codec.specs.Keys.{IsId}
+use Rattle.item_key.specs.declared.Item.{Item}
+use Rattle.item_key.specs.Keys.{IsId}
 use Rattle.mirror_run.specs.Lines.{lines_of}
 
 -- a time of 64 bits, and an id of 32 bytes

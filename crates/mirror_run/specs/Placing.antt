@@ -1,7 +1,7 @@
 -- Items that are placed in their order: which one isn't taken, and why.
 use Rattle.std.specs.Prelude.{◌≡◌, ◌≢◌, ℕ, ◌≤◌, ◌<◌, List, Some, length, take, slice_get, All, Contains}
-use Rattle.neg_codec.specs.declared.Item.{Item}
-use Rattle.neg_codec.specs.Keys.{endless}
+use Rattle.item_key.specs.declared.Item.{Item}
+use Rattle.item_key.specs.Keys.{endless}
 use Rattle.neg_initiator.specs.Listed.{Distinct}
 use Rattle.mirror_run.specs.declared.refusal.LineFault.{LineFault}
 use Rattle.mirror_run.specs.declared.refusal.LineFault.TheVariants.{Form, Infinity, Present, Full, Order}

@@ -1,7 +1,7 @@
 -- A session between two lists, and how `recon` ends.
 use Rattle.std.specs.Prelude.{◌≡◌, ℕ, ◌<◌, ◌≤◌, List, [], length, Option, Ok, Err, All, IsPermutation}
 use Rattle.std.specs.Io.KnownBytes.{Appends}
-use Rattle.neg_codec.specs.declared.Item.{Item}
+use Rattle.item_key.specs.declared.Item.{Item}
 use Rattle.item_roll.specs.Parts.{IsRoll}
 use Rattle.neg_initiator.specs.declared.initiator.Outcome.{Outcome}
 use Rattle.neg_session.specs.declared.limits.SessionLimits.{SessionLimits}

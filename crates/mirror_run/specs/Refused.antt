@@ -1,6 +1,6 @@
 -- Why an input is refused.
 use Rattle.std.specs.Prelude.{◌≡◌, ℕ, ◌+◌, ◌<◌, ◌≤◌, ◌⊎◌, List, length, IsUtf8}
-use Rattle.neg_codec.specs.declared.Item.{Item}
+use Rattle.item_key.specs.declared.Item.{Item}
 use Rattle.mirror_run.specs.declared.refusal.LineFault.{LineFault}
 use Rattle.mirror_run.specs.declared.refusal.LineFault.TheVariants.{Form}
 use Rattle.mirror_run.specs.declared.refusal.Refusal.{Refusal}

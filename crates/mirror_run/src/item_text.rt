@@ -1,11 +1,11 @@
 //! The item that a line tells.
 
 ghost use Rattle.std.specs.Prelude.{◌≡◌, ◌≢◌, IfSome, IfNone};
-ghost use Rattle.neg_codec.specs.declared.Item.{Item as AnItem};
+ghost use Rattle.item_key.specs.declared.Item.{Item as AnItem};
 ghost use Rattle.mirror_run.specs.ItemLists.{item_line, IsItem};
 
 use id_text::{parse_id, parse_number};
-use neg_codec::Item;
+use item_key::Item;
 
 /// The item of a line.
 pub(crate) fn parse_item(line: &[u8]) -> Option<Item>

@@ -8,7 +8,7 @@ ghost use Rattle.mirror_run.specs.Refused.{IsFormRefusal};
 use crate::item_text::parse_item;
 use crate::lines::cut_line;
 use crate::refusal::{LineFault, Refusal};
-use neg_codec::Item;
+use item_key::Item;
 use std::alloc::{AllocError, Global};
 
 /// The items of both sides, in the order of the input.

@@ -9,7 +9,7 @@ ghost use Rattle.mirror_run.specs.ReconText.{message_text, exchange_text, count_
 use crate::refusal::Refusal;
 use crate::waiting::{put, send};
 use id_text::digits_of;
-use neg_codec::Id;
+use item_key::Id;
 use neg_session::Pair;
 use std::alloc::Global;
 use std::collections::BTreeSet;

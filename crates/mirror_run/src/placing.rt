@@ -5,8 +5,8 @@ ghost use Rattle.mirror_run.specs.Placing.{IsTaken, IsFirstRefused};
 ghost use Rattle.mirror_run.specs.Refused.{IsPlacingRefusal};
 
 use crate::refusal::{LineFault, Refusal};
+use item_key::Item;
 use item_roll::{Roll, RollFault};
-use neg_codec::Item;
 use std::alloc::{AllocError, Global};
 use std::collections::BTreeSet;
 

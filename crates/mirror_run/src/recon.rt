@@ -2,7 +2,7 @@
 
 ghost use Rattle.std.specs.Prelude.{◌≡◌, ◌≤◌, ◌≢◌, List, length, IfOk, IfErr, OnOk, IfSome};
 ghost use Rattle.std.specs.Io.KnownBytes.{Keeps};
-ghost use Rattle.neg_codec.specs.declared.Item.{Item};
+ghost use Rattle.item_key.specs.declared.Item.{Item};
 ghost use Rattle.neg_session.specs.Faults.{number_of};
 ghost use Rattle.neg_session.specs.declared.fault.SessionFault.TheVariants as session_fault;
 ghost use Rattle.mirror_run.specs.Reconciled.{Reconciles, IsSessionRefusal, TellsRolls, IsListsRefusal, IsPrinted, IsReconRefusal};

@@ -1,7 +1,7 @@
 //! The rolls of both sides.
 
 ghost use Rattle.std.specs.Prelude.{◌≡◌, ◌≤◌, List, length, IfOk, IfErr, IsPermutation};
-ghost use Rattle.neg_codec.specs.declared.Item.{Item as AnItem};
+ghost use Rattle.item_key.specs.declared.Item.{Item as AnItem};
 ghost use Rattle.item_roll.specs.Parts.{IsRoll};
 ghost use Rattle.mirror_run.specs.ItemLists.{IsInput};
 ghost use Rattle.mirror_run.specs.Refused.{IsLinesRefusal};

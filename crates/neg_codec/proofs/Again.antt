@@ -8,10 +8,10 @@ use Rattle.std.proofs.lemmas.List.Elements.{All-head, All-tail}
 use Rattle.std.proofs.lemmas.List.Concat.{flat_map-cons}
 use Rattle.neg_varint.specs.Spelling.{IsSpelling}
 use Rattle.neg_varint.proofs.Laws.{number_again}
-use Rattle.neg_codec.specs.declared.Id.{Id}
-use Rattle.neg_codec.specs.declared.Item.{Item}
+use Rattle.item_key.specs.declared.Id.{Id}
+use Rattle.item_key.specs.declared.Item.{Item}
 use Rattle.neg_codec.specs.declared.CodecFault.{CodecFault}
-use Rattle.neg_codec.specs.Keys.{place, endless, least, item_of, IsId}
+use Rattle.item_key.specs.Keys.{place, endless, least, item_of, IsId}
 use Rattle.neg_codec.specs.Ranges.{Claim, skip, print, ids, Span}
 use Rattle.neg_codec.specs.Text.{IsBound, SpellsBound, SpellsClaim, SpellsRange, SpellsRanges, Spells}
 use Rattle.neg_codec.specs.Reading.{◌>>=◌, place_in, varint_at, front_at, time_of_code, bound_of, bound_at, ids_of, ids_at, payload_at, claim_at, range_at, ranges_at, versioned_at, message_at, longest}

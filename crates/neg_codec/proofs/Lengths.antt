@@ -7,9 +7,9 @@ use Rattle.std.proofs.lemmas.Bool.{lt-ltb}
 use Rattle.std.proofs.lemmas.List.{length-append, length-take}
 use Rattle.std.proofs.lemmas.List.Elements.{All-head, All-tail}
 use Rattle.neg_varint.specs.Spelling.{marked_digits, spelling}
-use Rattle.neg_codec.specs.declared.Id.{Id}
-use Rattle.neg_codec.specs.declared.Item.{Item}
-use Rattle.neg_codec.specs.Keys.{endless, infinity, IsId}
+use Rattle.item_key.specs.declared.Id.{Id}
+use Rattle.item_key.specs.declared.Item.{Item}
+use Rattle.item_key.specs.Keys.{endless, infinity, IsId}
 use Rattle.neg_codec.specs.Ranges.{skip, print, ids, Span, IsEdge}
 use Rattle.neg_codec.specs.Encoding.{length_kept, bytes_kept, bound_text, claim_text, range_text, ranges_text, text_of, IsShort}
 use Rattle.neg_codec.proofs.Writes.{kept}

@@ -1,16 +1,16 @@
 -- Reading ranges one after the other, as a loop does.
 use Rattle.std.proofs.Common.{◌≡◌, ℕ, zero, suc, ◌<◌, ◌≤◌, List, [], ◌∷◌, ◌++◌, length, Result, Ok, Err, refl, sym, ap, ◌∙◌, append_assoc, arith, add-one, cond, eqb, get_or, drop, take, map, Bool, true, false}
 use Rattle.std.proofs.lemmas.List.{append-nil}
-use Rattle.neg_codec.specs.declared.Item.{Item}
+use Rattle.item_key.specs.declared.Item.{Item}
 use Rattle.neg_codec.specs.declared.CodecFault.{CodecFault}
 use Rattle.neg_codec.specs.declared.CodecFault.TheVariants as fault
 use Rattle.neg_codec.specs.Ranges.{Span, span_of, Ascends}
 use Rattle.neg_codec.specs.Reading.{◌>>=◌, Fails, Gives, ids_of, range_at, ranges_at, versioned_at, message_at, longest}
 use Rattle.std.proofs.lemmas.Bool.{le-ltb, lt-ltb, eq-eqb, ne_eqb}
-use Rattle.neg_codec.specs.Keys.{least}
+use Rattle.item_key.specs.Keys.{least}
 use Rattle.std.specs.Prelude.{IfOk}
 use Rattle.std.specs.Global.{Vec}
-use Rattle.neg_codec.specs.declared.Id.{Id}
+use Rattle.item_key.specs.declared.Id.{Id}
 use Rattle.neg_codec.specs.declared.Range.{Range}
 use Rattle.neg_codec.specs.Text.{Spells}
 use Rattle.neg_codec.proofs.Takes.{IsBytes, done}

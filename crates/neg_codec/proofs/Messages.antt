@@ -7,11 +7,11 @@ use Rattle.std.proofs.lemmas.List.{take-append-drop, length-append, length-take,
 use Rattle.std.proofs.lemmas.List.Elements.{All-cons, All-from_get_or}
 use Rattle.std.proofs.lemmas.List.Concat.{flat_map-cons}
 use Rattle.neg_varint.specs.Spelling.{IsSpelling}
-use Rattle.neg_codec.specs.declared.Id.{Id}
-use Rattle.neg_codec.specs.declared.Item.{Item}
+use Rattle.item_key.specs.declared.Id.{Id}
+use Rattle.item_key.specs.declared.Item.{Item}
 use Rattle.neg_codec.specs.declared.CodecFault.{CodecFault}
 use Rattle.neg_codec.specs.declared.CodecFault.TheVariants as fault
-use Rattle.neg_codec.specs.Keys.{endless, least, IsId}
+use Rattle.item_key.specs.Keys.{endless, least, IsId}
 use Rattle.neg_codec.specs.Ranges.{Claim, skip, print, ids, Span, Ascends}
 use Rattle.neg_codec.specs.Text.{SpellsClaim, SpellsRange, SpellsRanges, Spells}
 use Rattle.neg_codec.specs.Reading.{◌>>=◌, place_in, varint_at, front_at, bound_at, ids_of, ids_at, payload_at, claim_at, range_at, ranges_at, versioned_at, message_at, longest}

@@ -3,10 +3,10 @@ use Rattle.std.proofs.Common.{◌≡◌, ℕ, suc, ◌+◌, ◌<◌, ◌≤◌, 
 use Rattle.std.specs.Prelude.{All}
 use Rattle.std.proofs.lemmas.List.{get_or-map, length-map}
 use Rattle.std.proofs.lemmas.Bool.{cases_lt, ltb-true, ltb-false, lt-ltb, le-ltb}
-use Rattle.neg_codec.specs.declared.Item.{Item}
+use Rattle.item_key.specs.declared.Item.{Item}
 use Rattle.neg_codec.specs.declared.CodecFault.{CodecFault}
 use Rattle.neg_codec.specs.declared.CodecFault.TheVariants as fault
-use Rattle.neg_codec.specs.Keys.{place, endless, least}
+use Rattle.item_key.specs.Keys.{place, endless, least}
 use Rattle.neg_codec.specs.declared.Range.{Range}
 use Rattle.neg_codec.specs.Ranges.{Span, span_of, Ascends, IsSpan}
 use Rattle.neg_codec.specs.Misplaced.{misplaced_from, first_misplaced}

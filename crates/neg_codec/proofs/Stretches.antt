@@ -1,11 +1,10 @@
 -- Each key lies in just one stretch of a message.
-use Rattle.std.proofs.Common.{◌≡◌, ℕ, zero, suc, ◌*◌, ◌^◌, ◌<◌, ◌≤◌, ◌⊎◌, inl, inr, Bool, true, false, cond, ltb, List, [], ◌∷◌, length, get_or, refl, sym, ap, subst, ◌∙◌, arith}
-use Rattle.std.specs.Prelude.{All, Contains}
-use Rattle.std.proofs.Math.Nat.{mul-le-mul_right, pow-suc}
+use Rattle.std.proofs.Common.{◌≡◌, ℕ, zero, suc, ◌^◌, ◌<◌, ◌≤◌, ◌⊎◌, inl, inr, Bool, true, false, cond, ltb, List, [], ◌∷◌, length, get_or, refl, sym, ap, subst, ◌∙◌, arith}
+use Rattle.std.specs.Prelude.{Contains}
 use Rattle.std.proofs.lemmas.Bool.{ltb-false, cases_lt}
-use Rattle.std.proofs.lemmas.List.Elements.{All-head, All-tail}
-use Rattle.neg_codec.specs.declared.Item.{Item}
-use Rattle.neg_codec.specs.Keys.{place, endless, least, infinity, number_of_bytes, IsKey}
+use Rattle.item_key.specs.declared.Item.{Item}
+use Rattle.item_key.proofs.Order.{number_below}
+use Rattle.item_key.specs.Keys.{place, endless, least, infinity, number_of_bytes, IsKey}
 use Rattle.neg_codec.specs.Ranges.{skip, Span, Stretch, stretches_from, stretches, Lies, Ascends}
 
 -- ---- elements of a list
@@ -27,15 +26,6 @@ pub contains_none : {X : Type 0} → (y : X) → Contains [] y → ⊥
 contains_none y h = omega (arith, h.1)
 
 -- ---- places
-
-pub number_below : (bs : List ℕ) → All (λ b. b < 256) bs → number_of_bytes bs < 256 ^ length bs
-number_below [] fits = omega arith
-number_below (b ∷ bs) fits =
-    let ih = number_below bs (All-tail (λ b. b < 256) b bs fits) in
-    let p : 256 ^ suc (length bs) ≡ 256 ^ length bs * 256 = pow-suc 256 (length bs) in
-    let d : b ≤ 255 = omega (arith, All-head (λ b. b < 256) b bs fits) in
-    let m : b * 256 ^ length bs ≤ 255 * 256 ^ length bs = mul-le-mul_right (256 ^ length bs) d in
-    omega (arith, ih, p, m)
 
 pub key_below : (k : Item) → IsKey k → place k < place infinity
 unfolding place

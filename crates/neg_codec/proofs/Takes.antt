@@ -7,10 +7,10 @@ use Rattle.neg_varint.specs.declared.VarintFault.{VarintFault}
 use Rattle.neg_varint.specs.Spelling.{IsSpelling}
 use Rattle.neg_varint.specs.Reading.{number_at}
 use Rattle.neg_varint.proofs.Laws.{number_takes}
-use Rattle.neg_codec.specs.declared.Item.{Item}
+use Rattle.item_key.specs.declared.Item.{Item}
 use Rattle.neg_codec.specs.declared.CodecFault.{CodecFault}
 use Rattle.neg_codec.specs.declared.CodecFault.TheVariants as fault
-use Rattle.neg_codec.specs.Keys.{place, endless}
+use Rattle.item_key.specs.Keys.{place, endless}
 use Rattle.neg_codec.specs.Text.{IsBound, SpellsBound}
 use Rattle.neg_codec.specs.Reading.{◌>>=◌, place_in, varint_at, front_at, time_of_code, bound_of, bound_at}
 

@@ -7,12 +7,12 @@ use Rattle.std.proofs.lemmas.List.Folds.{drop_split}
 use Rattle.std.proofs.lemmas.List.Elements.{All-head, All-tail}
 use Rattle.neg_varint.specs.Spelling.{IsSpelling, spelling}
 use Rattle.neg_varint.proofs.Sole.{spelling_spells}
-use Rattle.neg_codec.specs.declared.Item.{Item}
-use Rattle.neg_codec.specs.Keys.{place, endless, least, infinity, number_of_bytes}
+use Rattle.item_key.specs.declared.Item.{Item}
+use Rattle.item_key.specs.Keys.{place, endless, least, infinity, number_of_bytes}
 use Rattle.neg_codec.specs.Ranges.{Claim, skip, print, ids, Span, Ascends, IsEdge, IsClaim, IsSpan, IsMessage}
 use Rattle.neg_codec.specs.Text.{SpellsBound, SpellsClaim, SpellsRange, SpellsRanges, Spells}
 use Rattle.neg_codec.specs.Encoding.{length_kept, bytes_kept, bound_text, claim_text, range_text, ranges_text, text_of}
-use Rattle.neg_codec.proofs.Stretches.{number_below}
+use Rattle.item_key.proofs.Order.{number_below}
 
 -- ---- the bytes that are kept
 

@@ -1,19 +1,11 @@
--- What holds of all keys and of all messages.
-use Rattle.std.specs.Prelude.{◌≡◌, ℕ, ◌<◌, ◌≤◌, ◌↔◌, List, length, Contains, Ok}
-use Rattle.neg_codec.specs.declared.Item.{Item}
-use Rattle.neg_codec.specs.Keys.{place, IsId, IsKey, ComesBefore}
+-- What holds of all messages.
+use Rattle.std.specs.Prelude.{◌≡◌, ℕ, ◌≤◌, List, length, Contains, Ok}
+use Rattle.item_key.specs.declared.Item.{Item}
+use Rattle.item_key.specs.Keys.{IsKey}
 use Rattle.neg_codec.specs.Ranges.{Span, Stretch, stretches, Lies, IsMessage}
 use Rattle.neg_codec.specs.Text.{Spells}
 use Rattle.neg_codec.specs.Encoding.{text_of}
 use Rattle.neg_codec.specs.Reading.{message_at, longest}
-
--- places are in the order of times, then of the bytes of the ids
-abbrev pub OrderOfKeys : Type 0
-OrderOfKeys = (a b : Item) → IsId a.id → IsId b.id → (place a < place b) ↔ ComesBefore a b
-
--- two items in one place are the same
-abbrev pub OnePlace : Type 0
-OnePlace = (a b : Item) → IsId a.id → IsId b.id → place a ≡ place b → a ≡ b
 
 -- each key lies in just one stretch of a message
 abbrev pub OneStretch : Type 0

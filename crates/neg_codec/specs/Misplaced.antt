@@ -1,9 +1,9 @@
 -- Which range of a list keeps it from being a message.
 use Rattle.std.specs.Prelude.{ℕ, ◌+◌, List, [], ◌∷◌, Option, Some, None, nat_lt, if◌then◌else◌}
-use Rattle.neg_codec.specs.declared.Item.{Item}
+use Rattle.item_key.specs.declared.Item.{Item}
 use Rattle.neg_codec.specs.declared.CodecFault.{CodecFault}
 use Rattle.neg_codec.specs.declared.CodecFault.TheVariants as fault
-use Rattle.neg_codec.specs.Keys.{place, endless, least}
+use Rattle.item_key.specs.Keys.{place, endless, least}
 use Rattle.neg_codec.specs.Ranges.{Span}
 
 -- of the ranges from index i on, the first whose bound is below the one before, or follows infinity

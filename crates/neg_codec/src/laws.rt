@@ -1,16 +1,6 @@
-//! Laws of keys and messages.
+//! Laws of messages.
 
-ghost use Rattle.neg_codec.specs.Laws.{OneMessage, OnePlace, OneStretch, OrderOfKeys, RoundTrip};
-
-/// Keys are ordered by time, then by the bytes of their ids.
-pub fn order_of_keys()
-    ensures { OrderOfKeys }
-{}
-
-/// Two items in one place are the same.
-pub fn one_place()
-    ensures { OnePlace }
-{}
+ghost use Rattle.neg_codec.specs.Laws.{OneMessage, OneStretch, RoundTrip};
 
 /// Each key lies in just one stretch of a message.
 pub fn one_stretch()

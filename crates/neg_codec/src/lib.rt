@@ -4,22 +4,6 @@
 use std::alloc::{AllocError, AllocFailed};
 use thiserror::Error;
 
-/// The id of a record: 32 bytes, ordered byte by byte.
-#[derive(Clone, Copy, PartialEq, Eq, PartialOrd)]
-pub struct Id(pub [u8; 32]);
-
-/// A record's time in seconds and its id. Items are ordered by time, then by id.
-#[derive(Clone, Copy, PartialEq, Eq, PartialOrd, Ord)]
-pub struct Item {
-    pub time: u64,
-    pub id: Id,
-}
-
-mod id_order;
-mod key;
-
-pub use key::Key;
-
 /// Where a range ends: below a key, or nowhere.
 #[derive(Clone, Copy, PartialEq, Eq, PartialOrd, Ord)]
 pub enum Bound {
@@ -85,13 +69,13 @@ pub enum CodecFault {
 
 mod bounds;
 mod fields;
-mod items;
 mod laws;
 mod message;
 mod sizes;
 mod writing;
 
-pub use laws::{one_message, one_place, one_stretch, order_of_keys, round_trip};
+pub use item_key::{Id, Item, Key, one_place, order_of_keys};
+pub use laws::{one_message, one_stretch, round_trip};
 pub use message::{Message, decode};
 pub use writing::encode;
 

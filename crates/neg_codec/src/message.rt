@@ -1,7 +1,7 @@
 //! Messages, and how they are read.
 
 ghost use Rattle.std.specs.Prelude.{All, None, Some, IfNone, IfSome, ◌≡◌, ℕ, ◌+◌, ◌*◌, ◌<◌, ◌≤◌, ◌↔◌, List, ◌⊎◌, length, map, Ok, Err, Result, IfOk, IfErr, OnOk, IsOk};
-ghost use Rattle.neg_codec.specs.Keys.{least, IsId};
+ghost use Rattle.item_key.specs.Keys.{least, IsId};
 ghost use Rattle.neg_codec.specs.declared.CodecFault.{CodecFault};
 ghost use Rattle.neg_codec.specs.Ranges.{Claim, print, Span, edge_of, span_of, claim_of, Ascends, IsSpan, IsClaim, IsMessage};
 ghost use Rattle.neg_codec.specs.Misplaced.{first_misplaced};
@@ -10,7 +10,8 @@ ghost use Rattle.neg_codec.specs.Lending.{claim_lent, IsWhole};
 ghost use Rattle.neg_codec.specs.Reading.{Gives, ids_of, range_at, ranges_at, message_at, longest};
 
 use crate::fields::{Lent, range_of};
-use crate::{Bound, CodecFault, Id, Payload, Range};
+use crate::{Bound, CodecFault, Payload, Range};
+use item_key::Id;
 use std::alloc::{AllocError, Global};
 use std::marker::Model;
 

@@ -6,7 +6,8 @@ ghost use Rattle.neg_codec.specs.Encoding.{bound_text, claim_text, range_text, I
 
 use crate::message::{ids_have_their_lengths, print_has_its_length, span_has_its_lengths};
 use crate::writing::len_kept;
-use crate::{Bound, Key, Payload, Range};
+use crate::{Bound, Payload, Range};
+use item_key::Key;
 use neg_varint::spell;
 
 /// How many bytes a bound takes that isn't infinite, above the time before.

@@ -6,7 +6,8 @@ ghost use Rattle.neg_codec.specs.Ranges.{edge_of, claim_of, span_of};
 ghost use Rattle.neg_codec.specs.Text.{Spells};
 ghost use Rattle.neg_codec.specs.Encoding.{length_kept, bound_text, claim_text, range_text, text_of};
 
-use crate::{Bound, Id, Key, Message, Payload, Range};
+use crate::{Bound, Message, Payload, Range};
+use item_key::{Id, Key};
 use neg_varint::put;
 use std::alloc::{AllocError, Global};
 

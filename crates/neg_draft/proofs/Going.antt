@@ -2,8 +2,8 @@
 use Rattle.std.proofs.Common.{◌≡◌, ℕ, suc, drop, ◌+◌, ◌<◌, ◌≤◌, ◌⊎◌, inl, inr, List, [], ◌∷◌, ◌++◌, length, get_or, map, take, refl, sym, ap, subst, ◌∙◌, arith}
 use Rattle.std.specs.Prelude.{All, Contains}
 use Rattle.std.proofs.lemmas.List.Elements.{All-head, All-tail, All-weaker, All-contains, All-contains_itself, Contains-append_left}
-use Rattle.neg_codec.specs.declared.Item.{Item}
-use Rattle.neg_codec.specs.Keys.{place, endless, infinity}
+use Rattle.item_key.specs.declared.Item.{Item}
+use Rattle.item_key.specs.Keys.{place, endless, infinity}
 use Rattle.neg_codec.specs.declared.Payload.{Payload}
 use Rattle.neg_codec.specs.declared.Payload.TheVariants as payload
 use Rattle.neg_codec.specs.Ranges.{Claim, print, Span, Stretch, IsSkip, Ascends, IsEdge, claim_of, edge_of, span_of}

@@ -4,8 +4,8 @@ use Rattle.std.specs.Prelude.{All, Contains, slice_get, slice_range, Some}
 use Rattle.std.proofs.lemmas.Bool.{cases_lt}
 use Rattle.std.proofs.lemmas.List.{length-map, length-take-le, length-drop}
 use Rattle.std.proofs.lemmas.List.Elements.{All-cons, All-nil, All-weaker, All-contains, All-contains_itself}
-use Rattle.neg_codec.specs.declared.Item.{Item}
-use Rattle.neg_codec.specs.Keys.{place, least, infinity, IsKey, IsId}
+use Rattle.item_key.specs.declared.Item.{Item}
+use Rattle.item_key.specs.Keys.{place, least, infinity, IsKey, IsId}
 use Rattle.neg_codec.specs.Ranges.{ids, Span, IsEdge}
 use Rattle.neg_codec.specs.Encoding.{text_of}
 use Rattle.neg_codec.proofs.Lengths.{ids_most, ids_least}

@@ -6,8 +6,8 @@ use Rattle.std.specs.declared.alloc.AllocError.{AllocError}
 use Rattle.std.proofs.lemmas.Bool.{ltb-false, le-ltb}
 use Rattle.std.proofs.lemmas.List.{length-append}
 use Rattle.std.proofs.lemmas.List.Elements.{All-cons, All-nil, All-append}
-use Rattle.neg_codec.specs.declared.Item.{Item}
-use Rattle.neg_codec.specs.Keys.{place, least, infinity, IsKey}
+use Rattle.item_key.specs.declared.Item.{Item}
+use Rattle.item_key.specs.Keys.{place, least, infinity, IsKey}
 use Rattle.neg_codec.specs.Ranges.{skip, print, Span, Stretch, IsSkip, Ascends, IsEdge}
 use Rattle.neg_codec.specs.Encoding.{bound_text, claim_text, range_text, ranges_text, text_of}
 use Rattle.neg_codec.proofs.Lengths.{bound_most, bound_infinite, skip_len, print_len, range_len}

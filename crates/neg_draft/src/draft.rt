@@ -1,7 +1,7 @@
 //! A message that is being written.
 
 ghost use Rattle.std.specs.Prelude.{◌≡◌, ◌+◌, ◌<◌, ◌≤◌, ◌↔◌, [], ◌∷◌, IfOk, IfSome, IfNone, OnOk, OnErr, IsTrue, length};
-ghost use Rattle.neg_codec.specs.Keys.{place, least, infinity};
+ghost use Rattle.item_key.specs.Keys.{place, least, infinity};
 ghost use Rattle.neg_codec.specs.Ranges.{edge_of, claim_of, span_of};
 ghost use Rattle.neg_codec.specs.Encoding.{text_of, IsShort};
 ghost use Rattle.neg_draft.specs.Coverage.{Written, Tells, passed, told_more, before_payload, IsDraft};

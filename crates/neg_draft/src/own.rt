@@ -1,7 +1,7 @@
 //! What a roll has between two bounds.
 
 ghost use Rattle.std.specs.Prelude.{◌≡◌, ◌+◌, ◌-◌, ◌*◌, ◌<◌, ◌≤◌, ◌↔◌, ◌⊎◌, [], ◌∷◌, All, IfOk, OnOk, IsTrue, length, map, slice_range};
-ghost use Rattle.neg_codec.specs.Keys.{place, infinity};
+ghost use Rattle.item_key.specs.Keys.{place, infinity};
 ghost use Rattle.neg_codec.specs.Ranges.{ids, edge_of, span_of};
 ghost use Rattle.neg_codec.specs.Ranges as told;
 ghost use Rattle.neg_codec.specs.Encoding.{text_of};

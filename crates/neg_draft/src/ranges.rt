@@ -1,7 +1,7 @@
 //! Ranges, with how many bytes they take.
 
 ghost use Rattle.std.specs.Prelude.{◌≡◌, ◌+◌, ◌<◌, ◌≤◌, ◌↔◌, ◌^◌, [], ◌∷◌, ◌++◌, IsTrue, OnOk, OnErr, length, map, take};
-ghost use Rattle.neg_codec.specs.Keys.{place, least};
+ghost use Rattle.item_key.specs.Keys.{place, least};
 ghost use Rattle.neg_codec.specs.Ranges.{edge_of, claim_of, span_of};
 ghost use Rattle.neg_codec.specs.Encoding.{text_of, IsShort};
 ghost use Rattle.neg_draft.specs.Coverage.{end_of, gap};
@@ -22,7 +22,7 @@ pub struct Ranges {
 
 impl Model for Ranges {
     ghost use Rattle.std.specs.Prelude.{List, ◌≡◌, map, length};
-    ghost use Rattle.neg_codec.specs.Keys.{least};
+    ghost use Rattle.item_key.specs.Keys.{least};
     ghost use Rattle.neg_codec.specs.Ranges.{Span, edge_of, span_of};
     ghost use Rattle.neg_codec.specs.Encoding.{text_of};
     ghost use Rattle.neg_draft.specs.Coverage.{end_of};

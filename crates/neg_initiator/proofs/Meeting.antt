@@ -4,8 +4,8 @@ use Rattle.std.specs.Prelude.{Contains}
 use Rattle.std.proofs.lemmas.Bool.{cases_lt}
 use Rattle.std.proofs.lemmas.List.Elements.{Contains-append_left, Contains-append_right, Contains-append_cases}
 use Rattle.neg_codec.proofs.Stretches.{contains_head, contains_cases, contains_none}
-use Rattle.neg_codec.specs.declared.Item.{Item}
-use Rattle.neg_codec.specs.Keys.{place, endless, infinity}
+use Rattle.item_key.specs.declared.Item.{Item}
+use Rattle.item_key.specs.Keys.{place, endless, infinity}
 use Rattle.neg_codec.specs.Ranges.{skip, Span, Stretch, stretches_from, IsSkip, Ascends, IsEdge}
 use Rattle.item_roll.specs.Closed.{closed_from}
 use Rattle.item_roll.specs.Truth.{Meet}

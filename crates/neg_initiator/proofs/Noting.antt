@@ -9,7 +9,7 @@ use Rattle.std.proofs.lemmas.Cmp.{tied_itself}
 use Rattle.std.proofs.lemmas.List.{take-append-drop}
 use Rattle.std.proofs.lemmas.List.Elements.{All-contains, All-from_recursion, Contains-append_left}
 use Rattle.neg_codec.proofs.Stretches.{contains_none}
-use Rattle.neg_codec.specs.declared.Id.{Id}
+use Rattle.item_key.specs.declared.Id.{Id}
 use Rattle.neg_initiator.specs.Listed.{Distinct}
 use Rattle.neg_initiator.specs.Notes.{NotesOne, Notes}
 use Rattle.neg_initiator.proofs.Keys.{seen_gives, seen_keeps, seen_there}

@@ -6,7 +6,7 @@ use Rattle.std.proofs.lemmas.Slice.Eq.{bytes_eq-Decides}
 use Rattle.neg_codec.proofs.Stretches.{contains_head, contains_tail, contains_cases, contains_none}
 use Rattle.neg_codec.specs.declared.Bound.{Bound}
 use Rattle.neg_codec.specs.declared.Bound.TheVariants.{At, Infinite}
-use Rattle.neg_codec.specs.declared.key.Key.{Key}
+use Rattle.item_key.specs.declared.key.Key.{Key}
 
 map_has : {X Y : Type 0} (f : X → Y) (xs : List X) (x : X) → Contains xs x → Contains (map f xs) (f x)
 map_has f [] x h = absurd (contains_none x h)

@@ -2,8 +2,8 @@
 use Rattle.std.proofs.Common.{◌≡◌, ◌<◌, ◌≤◌, ◌⊎◌, ◌||◌, IsTrue, inl, inr, Bool, true, false, cond, ltb, List, [], ◌∷◌, ◌++◌, refl, sym, ap, subst, ◌∙◌, arith}
 use Rattle.std.proofs.lemmas.Bool.{cases_lt, lt-ltb}
 use Rattle.neg_codec.proofs.Stretches.{endless_above}
-use Rattle.neg_codec.specs.declared.Item.{Item}
-use Rattle.neg_codec.specs.Keys.{place, endless, infinity}
+use Rattle.item_key.specs.declared.Item.{Item}
+use Rattle.item_key.specs.Keys.{place, endless, infinity}
 use Rattle.neg_codec.specs.Ranges.{Span, Stretch, stretches_from, Ascends}
 use Rattle.item_roll.specs.Closed.{closed_from}
 use Rattle.item_roll.specs.Truth.{Meet}

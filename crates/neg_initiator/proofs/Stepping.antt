@@ -4,9 +4,9 @@ use Rattle.std.specs.Prelude.{Contains, All, ◌↔◌}
 use Rattle.std.proofs.lemmas.Bool.{le-ltb}
 use Rattle.std.proofs.lemmas.List.Elements.{All-nil, All-head, All-tail, All-push, All-contains, Contains-append_cases}
 use Rattle.neg_codec.proofs.Stretches.{one_stretch, some_stretch, key_below, contains_head, contains_tail, contains_cases, contains_none}
-use Rattle.neg_codec.specs.declared.Id.{Id}
-use Rattle.neg_codec.specs.declared.Item.{Item}
-use Rattle.neg_codec.specs.Keys.{place, least, infinity, IsKey}
+use Rattle.item_key.specs.declared.Id.{Id}
+use Rattle.item_key.specs.declared.Item.{Item}
+use Rattle.item_key.specs.Keys.{place, least, infinity, IsKey}
 use Rattle.neg_codec.specs.Ranges.{Claim, skip, print, ids, Span, Stretch, stretches, Lies, IsSkip, Ascends, IsSpan}
 use Rattle.neg_codec.specs.Encoding.{text_of}
 use Rattle.item_roll.specs.Closed.{closed_from}

@@ -4,11 +4,11 @@ use Rattle.std.specs.Prelude.{◌↔◌, Contains, All, Result, Ok}
 use Rattle.std.proofs.lemmas.List.Elements.{All-contains, All-weaker, All-contains_itself}
 use Rattle.neg_codec.proofs.Stretches.{one_stretch, contains_head, contains_tail, contains_cases, contains_none}
 use Rattle.neg_codec.specs.declared.CodecFault.{CodecFault}
-use Rattle.neg_codec.specs.declared.Id.{Id}
+use Rattle.item_key.specs.declared.Id.{Id}
 use Rattle.neg_codec.specs.Reading.{message_at}
-use Rattle.neg_codec.specs.declared.Item.{Item}
+use Rattle.item_key.specs.declared.Item.{Item}
 use Rattle.neg_codec.specs.declared.Range.{Range}
-use Rattle.neg_codec.specs.Keys.{place, least, infinity, IsKey}
+use Rattle.item_key.specs.Keys.{place, least, infinity, IsKey}
 use Rattle.neg_codec.specs.Ranges.{Claim, print, ids, Span, Stretch, stretches, stretches_from, Lies, IsSkip, Ascends, IsSpan, edge_of, span_of}
 use Rattle.neg_print.specs.Print.{print_of}
 use Rattle.item_roll.specs.Closed.{closed_from}

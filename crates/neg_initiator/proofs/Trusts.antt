@@ -4,8 +4,8 @@ use Rattle.std.specs.Prelude.{Contains}
 use Rattle.std.proofs.lemmas.Bool.{ltb-true, ltb-false}
 use Rattle.std.proofs.lemmas.List.Elements.{Contains-append_cases}
 use Rattle.neg_codec.proofs.Stretches.{contains_cases, contains_none}
-use Rattle.neg_codec.specs.declared.Item.{Item}
-use Rattle.neg_codec.specs.Keys.{place, least, endless, infinity}
+use Rattle.item_key.specs.declared.Item.{Item}
+use Rattle.item_key.specs.Keys.{place, least, endless, infinity}
 use Rattle.neg_codec.specs.Ranges.{Claim, skip, print, Span, Stretch, stretches, stretches_from, IsSkip, Ascends, span_of}
 use Rattle.item_roll.specs.Closed.{closed_from}
 use Rattle.neg_codec.specs.declared.Range.{Range}

@@ -1,8 +1,8 @@
 -- The ask that a session begins with.
 use Rattle.std.specs.Prelude.{ℕ, ◌≡◌, ◌+◌, ◌≤◌, ◌⊎◌, List, length, All}
-use Rattle.neg_codec.specs.declared.Item.{Item}
+use Rattle.item_key.specs.declared.Item.{Item}
 use Rattle.neg_codec.specs.Encoding.{text_of}
-use Rattle.neg_codec.specs.Keys.{least, infinity}
+use Rattle.item_key.specs.Keys.{least, infinity}
 use Rattle.neg_codec.specs.Ranges.{Span, stretches, IsSkip, Ascends}
 use Rattle.neg_draft.specs.Coverage.{NoneEmpty, SkipsJoined}
 use Rattle.item_roll.specs.Parts.{IsRoll, count_below}

@@ -1,8 +1,8 @@
 -- Which ids a reply adds to those found: what it lists of a stretch, against what the own roll has there.
 use Rattle.std.specs.Prelude.{◌≡◌, ◌<◌, ◌⊎◌, ℕ, List, [], ◌∷◌, length, Contains}
-use Rattle.neg_codec.specs.declared.Id.{Id}
-use Rattle.neg_codec.specs.declared.Item.{Item}
-use Rattle.neg_codec.specs.Keys.{IsKey}
+use Rattle.item_key.specs.declared.Id.{Id}
+use Rattle.item_key.specs.declared.Item.{Item}
+use Rattle.item_key.specs.Keys.{IsKey}
 use Rattle.neg_codec.specs.Ranges.{ids, Span, Stretch, stretches, Lies}
 use Rattle.item_roll.specs.Parts.{part, ids_of}
 use Rattle.neg_draft.specs.Coverage.{HasKeys}

@@ -1,6 +1,6 @@
 -- The ids among which others are looked up, and those that were found.
 use Rattle.std.specs.Prelude.{List}
-use Rattle.neg_codec.specs.declared.Id.{Id}
+use Rattle.item_key.specs.declared.Id.{Id}
 use Rattle.neg_initiator.specs.declared.ids.Ids.{Ids}
 use Rattle.neg_initiator.specs.declared.ids.Ids.TheVariants as ids
 use Rattle.neg_initiator.specs.declared.ids.Lookup.{Lookup}

@@ -1,6 +1,6 @@
 -- A session made of its parts.
 use Rattle.std.specs.Prelude.{ℕ, List}
-use Rattle.neg_codec.specs.declared.Item.{Item}
+use Rattle.item_key.specs.declared.Item.{Item}
 use Rattle.neg_codec.specs.Ranges.{Span}
 use Rattle.neg_initiator.specs.Session.{Session}
 use Rattle.neg_initiator.specs.Settling.{Findings}

@@ -1,6 +1,6 @@
 -- Ids of a list that others lack, put into those found before.
 use Rattle.std.specs.Prelude.{◌≡◌, ◌⊎◌, List, Contains}
-use Rattle.neg_codec.specs.declared.Id.{Id}
+use Rattle.item_key.specs.declared.Id.{Id}
 
 -- one id, where the others lack it
 pub record NotesOne (others : List Id) (id : Id) (old new : List Id) : Type 0 where

@@ -1,7 +1,7 @@
 -- The bounds of a trusted stretch.
 use Rattle.neg_codec.specs.declared.Bound.{Bound}
-use Rattle.neg_codec.specs.declared.Item.{Item}
-use Rattle.neg_codec.specs.declared.key.Key.{Key}
+use Rattle.item_key.specs.declared.Item.{Item}
+use Rattle.item_key.specs.declared.key.Key.{Key}
 use Rattle.neg_codec.specs.Ranges.{edge_of}
 
 abbrev pub pair_of : Key × Bound → Item × Item

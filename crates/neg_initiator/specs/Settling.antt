@@ -1,7 +1,7 @@
 -- What the initiator does with one stretch of a reply.
 use Rattle.std.specs.Prelude.{◌≡◌, ◌⊎◌, ℕ, List, Contains}
-use Rattle.neg_codec.specs.declared.Id.{Id}
-use Rattle.neg_codec.specs.declared.Item.{Item}
+use Rattle.item_key.specs.declared.Id.{Id}
+use Rattle.item_key.specs.declared.Item.{Item}
 use Rattle.neg_codec.specs.Ranges.{Claim, skip, print, ids, Span, Lies}
 use Rattle.neg_print.specs.Print.{print_of}
 use Rattle.item_roll.specs.Parts.{part, ids_of}

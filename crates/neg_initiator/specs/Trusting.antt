@@ -1,7 +1,7 @@
 -- Which stretches of the last ask are trusted for what a reply skips.
 use Rattle.std.specs.Prelude.{◌≡◌, ◌⊎◌, ℕ, Bool, IsTrue, List, Contains, nat_lt, if◌then◌else◌}
-use Rattle.neg_codec.specs.declared.Item.{Item}
-use Rattle.neg_codec.specs.Keys.{place}
+use Rattle.item_key.specs.declared.Item.{Item}
+use Rattle.item_key.specs.Keys.{place}
 use Rattle.neg_codec.specs.Ranges.{print, skip, Span, Stretch, stretches, IsSkip}
 use Rattle.item_roll.specs.Truth.{IsTrueOf, Meet}
 use Rattle.neg_draft.specs.Coverage.{HasKeys}

@@ -1,13 +1,14 @@
 //! What a session has found out.
 
 ghost use Rattle.std.specs.Prelude.{◌≡◌, ◌<◌, ◌↔◌, [], OnOk, Contains, IsTrue, length};
-ghost use Rattle.neg_codec.specs.declared.Id.{Id};
+ghost use Rattle.item_key.specs.declared.Id.{Id};
 ghost use Rattle.neg_initiator.specs.Listed.{Distinct};
 ghost use Rattle.neg_initiator.specs.Lookups.{looked_up, ids_in, IsSet};
 ghost use Rattle.neg_initiator.specs.Notes.{NotesOne, Notes};
 
 use crate::ids::{Ids, Lookup};
-use neg_codec::{Bound, Id, Key};
+use item_key::{Id, Key};
+use neg_codec::Bound;
 use std::alloc::{AllocError, Global};
 
 /// What a session has found out so far.

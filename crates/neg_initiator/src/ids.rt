@@ -1,11 +1,11 @@
 //! Lists and sets of ids.
 
 ghost use Rattle.std.specs.Prelude.{◌≡◌, ◌<◌, ◌⊎◌, ◌↔◌, [], length, IsTrue, IfOk, OnOk, Contains};
-ghost use Rattle.neg_codec.specs.declared.Id.{Id};
+ghost use Rattle.item_key.specs.declared.Id.{Id};
 ghost use Rattle.neg_initiator.specs.Listed.{Distinct};
 ghost use Rattle.neg_initiator.specs.Lookups.{looked_up, ids_in, IsSet};
 
-use neg_codec::Id;
+use item_key::Id;
 use std::alloc::{AllocError, Global};
 use std::collections::BTreeSet;
 

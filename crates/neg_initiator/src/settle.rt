@@ -1,7 +1,7 @@
 //! What is done with the stretches of a reply.
 
 ghost use Rattle.std.specs.Prelude.{◌≡◌, ◌<◌, ◌≤◌, ◌⊎◌, [], length, IfOk, IfErr, OnOk, Err};
-ghost use Rattle.neg_codec.specs.Keys.{place};
+ghost use Rattle.item_key.specs.Keys.{place};
 ghost use Rattle.neg_codec.specs.Ranges.{ids, edge_of, span_of};
 ghost use Rattle.neg_codec.specs.Encoding.{text_of};
 ghost use Rattle.item_roll.specs.Parts.{part, ids_of};
@@ -17,8 +17,9 @@ ghost use Rattle.neg_initiator.specs.Walked.{IsRead};
 use crate::InitFault;
 use crate::found::{Found, compare, tidy};
 use crate::trust::{trust, trust_skipped};
+use item_key::Id;
 use item_roll::Roll;
-use neg_codec::{Bound, Id, Message, Payload, Range};
+use neg_codec::{Bound, Message, Payload, Range};
 use neg_draft::Draft;
 use std::alloc::{AllocError, Global};
 

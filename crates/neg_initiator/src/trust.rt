@@ -1,8 +1,8 @@
 //! Stretches that are trusted because the reply skips them.
 
 ghost use Rattle.std.specs.Prelude.{◌≡◌, ◌≤◌, ◌<◌, ◌↔◌, [], ◌∷◌, ◌++◌, List, Any, Contains, true, IsTrue, OnOk, length, map, take};
-ghost use Rattle.neg_codec.specs.declared.Item.{Item};
-ghost use Rattle.neg_codec.specs.Keys.{place};
+ghost use Rattle.item_key.specs.declared.Item.{Item};
+ghost use Rattle.item_key.specs.Keys.{place};
 ghost use Rattle.neg_codec.specs.Ranges.{Ascends, stretches, stretches_from, edge_of, span_of};
 ghost use Rattle.item_roll.specs.Truth.{Meet};
 ghost use Rattle.neg_draft.specs.Coverage.{begun_at, end_of};
@@ -10,7 +10,8 @@ ghost use Rattle.neg_initiator.specs.Listed.{Distinct};
 ghost use Rattle.neg_initiator.specs.Pairs.{pair_of};
 ghost use Rattle.neg_initiator.specs.Trusting.{between, earlier, IsSkippedIn, TrustsOne, TrustsSkipped};
 
-use neg_codec::{Bound, Key, Message, Payload, Range};
+use item_key::Key;
+use neg_codec::{Bound, Message, Payload, Range};
 use std::alloc::AllocError;
 
 /// Whether two stretches, each between two bounds, have a key in common.

@@ -6,8 +6,8 @@ use Rattle.std.proofs.lemmas.List.{take_all, get_or_default}
 use Rattle.std.proofs.lemmas.List.Elements.{All-weaker, All-contains_itself, Contains-append_cases}
 use Rattle.neg_codec.specs.declared.Range.{Range}
 use Rattle.neg_codec.proofs.Stretches.{one_stretch, key_below, contains_cases, contains_none}
-use Rattle.neg_codec.specs.declared.Item.{Item}
-use Rattle.neg_codec.specs.Keys.{place, least, infinity, IsKey}
+use Rattle.item_key.specs.declared.Item.{Item}
+use Rattle.item_key.specs.Keys.{place, least, infinity, IsKey}
 use Rattle.neg_codec.specs.Ranges.{Claim, Span, Stretch, stretches, Lies, IsSkip, Ascends, IsSpan, edge_of, span_of}
 use Rattle.neg_codec.specs.Encoding.{text_of}
 use Rattle.neg_codec.proofs.Placing.{span_at}

@@ -1,7 +1,7 @@
 -- What a reply owes to the question beside following the roll.
 use Rattle.std.specs.Prelude.{◌≡◌, ◌⊎◌, ℕ, List, [], ◌∷◌, length, All, Contains}
-use Rattle.neg_codec.specs.declared.Item.{Item}
-use Rattle.neg_codec.specs.Keys.{place, least, IsKey}
+use Rattle.item_key.specs.declared.Item.{Item}
+use Rattle.item_key.specs.Keys.{place, least, IsKey}
 use Rattle.neg_codec.specs.Ranges.{Claim, skip, print, ids, Span, Stretch, stretches, Lies, IsSkip}
 use Rattle.neg_codec.specs.Text.{Spells}
 use Rattle.neg_codec.specs.declared.CodecFault.{CodecFault}

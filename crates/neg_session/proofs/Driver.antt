@@ -5,8 +5,8 @@ use Rattle.std.specs.Global.{Global}
 use Rattle.std.proofs.lemmas.Bool.{eqb-true, eqb-false}
 use Rattle.std.proofs.lemmas.List.Elements.{All-push, All-contains}
 use Rattle.neg_codec.specs.declared.CodecFault.{CodecFault}
-use Rattle.neg_codec.specs.declared.Id.{Id}
-use Rattle.neg_codec.specs.declared.Item.{Item}
+use Rattle.item_key.specs.declared.Id.{Id}
+use Rattle.item_key.specs.declared.Item.{Item}
 use Rattle.neg_codec.specs.Laws.{OneMessage}
 use Rattle.neg_codec.specs.Ranges.{Span, stretches, IsSkip}
 use Rattle.neg_codec.specs.Reading.{message_at}

@@ -1,6 +1,6 @@
 -- Which questions a session with the own roll asks.
 use Rattle.std.specs.Prelude.{◌≤◌, List, [], ◌∷◌, ℕ, length, All}
-use Rattle.neg_codec.specs.declared.Item.{Item}
+use Rattle.item_key.specs.declared.Item.{Item}
 use Rattle.neg_codec.specs.Ranges.{Span, stretches, IsSkip}
 use Rattle.neg_codec.specs.Text.{Spells}
 use Rattle.item_roll.specs.Truth.{IsTrueOf}

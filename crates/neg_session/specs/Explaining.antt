@@ -1,6 +1,6 @@
 -- Which lists of items explain what a peer answered.
 use Rattle.std.specs.Prelude.{ℕ, List, All}
-use Rattle.neg_codec.specs.declared.Item.{Item}
+use Rattle.item_key.specs.declared.Item.{Item}
 use Rattle.neg_codec.specs.Ranges.{Span}
 use Rattle.neg_codec.specs.Text.{Spells}
 use Rattle.item_roll.specs.Parts.{IsRoll}

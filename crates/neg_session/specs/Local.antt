@@ -3,7 +3,7 @@
 use Rattle.std.specs.Prelude.{◌≡◌, ◌≤◌, ◌++◌, ℕ, List, length, All, Err, refl}
 use Rattle.std.proofs.Common.{◌∙◌}
 use Rattle.neg_codec.specs.declared.CodecFault.{CodecFault}
-use Rattle.neg_codec.specs.declared.Item.{Item}
+use Rattle.item_key.specs.declared.Item.{Item}
 use Rattle.neg_codec.specs.Reading.{message_at}
 use Rattle.item_roll.specs.Parts.{IsRoll}
 use Rattle.neg_responder.specs.Reply.{RefusesQuery}

@@ -3,7 +3,7 @@ ghost use Rattle.std.specs.Prelude.{◌≡◌, IfOk};
 ghost use Rattle.nostr_filter.specs.Matching.{met, has_text, matches_of};
 ghost use Rattle.newest.specs.Newest.{rank, comes_before};
 
-use neg_codec::Id;
+use item_key::Id;
 use nostr_event::Event;
 use nostr_filter::{Filter, Rank, rank_at};
 use std::alloc::AllocError;

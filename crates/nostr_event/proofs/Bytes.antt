@@ -1,9 +1,9 @@
 -- Ids and lists of 32 bytes.
 use Rattle.std.proofs.Common.{◌<◌, ℕ, zero, suc, List, [], ◌∷◌, All, slice_index, arith}
 use Rattle.std.proofs.lemmas.List.Elements.{All-head, All-tail}
-use Rattle.neg_codec.specs.declared.Id.{Id}
-use Rattle.neg_codec.specs.Keys.{IsId}
-use Rattle.neg_codec.proofs.Order.{all_bytes}
+use Rattle.item_key.specs.declared.Id.{Id}
+use Rattle.item_key.specs.Keys.{IsId}
+use Rattle.item_key.proofs.Order.{all_bytes}
 use Rattle.nostr_event.specs.EventView.{IsBytesOf}
 
 each_byte : (xs : List ℕ) → All (λ b. b < 256) xs → (i : ℕ) → slice_index xs i < 256

@@ -4,7 +4,7 @@ use Rattle.hex.specs.Hex.{encode_lower}
 use Rattle.serde_json.specs.Data.{unsigned, Data, number, string, array, object, Items, no_items, item, no_members, member}
 use Rattle.serde_json.specs.Find.{get, as_str, as_number, as_array, as_object, as_u64}
 use Rattle.serde_json.specs.View.{items_of, number_view}
-use Rattle.neg_codec.specs.Keys.{endless}
+use Rattle.item_key.specs.Keys.{endless}
 use Rattle.nostr_event.specs.EventView.{EventView, IsBytesOf, IsIdOf, IsInRange}
 use Rattle.nostr_event.specs.declared.fields.Shapes.{Shapes}
 use Rattle.nostr_event.specs.declared.reading.Bare.{Bare}

@@ -2,9 +2,9 @@
 use Rattle.std.specs.Prelude.{◌≡◌, ◌<◌, ◌^◌, ◌⊎◌, ℕ, List, length}
 use Rattle.hex.specs.Hex.{IsBytes}
 use Rattle.sha2.specs.Sha256.{sha256}
-use Rattle.neg_codec.specs.Keys.{endless}
-use Rattle.neg_codec.specs.declared.Id.{Id}
-use Rattle.neg_codec.specs.declared.Item.{Item}
+use Rattle.item_key.specs.Keys.{endless}
+use Rattle.item_key.specs.declared.Id.{Id}
+use Rattle.item_key.specs.declared.Item.{Item}
 use Rattle.nostr_event.specs.declared.draft.Draft.{Draft}
 use Rattle.nostr_event.specs.declared.draft.Spelling.TheVariants.{Plain, Escaped}
 use Rattle.nostr_event.specs.IdText.{id_text_of}

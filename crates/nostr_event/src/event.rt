@@ -1,14 +1,14 @@
 // Events whose ids are right.
 ghost use Rattle.std.specs.Prelude.{◌≡◌, ◌<◌, IfOk, IfSome, None, IsTrue, ◌↔◌};
 ghost use Rattle.serde_json.specs.Written.{compact_text};
-ghost use Rattle.neg_codec.specs.Keys.{endless};
+ghost use Rattle.item_key.specs.Keys.{endless};
 ghost use Rattle.nostr_event.specs.EventView.{IsIdOf, IsInRange, IsEvent, item_of};
 ghost use Rattle.nostr_event.specs.EventJson.{Reads, object_of};
 
 use crate::draft::{Draft, Spelling};
 use crate::ids::id_of;
 use crate::printing::text_of;
-use neg_codec::{Id, Item};
+use item_key::{Id, Item};
 use std::alloc::{AllocError, Global};
 use std::marker::Model;
 

@@ -5,7 +5,7 @@ ghost use Rattle.nostr_event.specs.EventView.{IsBytesOf};
 
 use crate::fault::{EventFault, EventField};
 use id_text::{digits_of, parse_id};
-use neg_codec::Id;
+use item_key::Id;
 
 /// The 32 bytes that the text spells in 64 lower-case hexadecimal digits, if it does.
 pub fn bytes32_of(text: &str) -> Option<[u8; 32]>

@@ -10,8 +10,8 @@ use crate::draft::{Draft, Spelling};
 use crate::hexes::digits32_of;
 use crate::runs::plain_len;
 use crate::tags::{Iter, Tag, Tags};
+use item_key::Id;
 use itoa::Buffer;
-use neg_codec::Id;
 use sha2::{Digest, Sha256};
 use std::alloc::{AllocError, Global};
 

@@ -9,7 +9,7 @@ ghost use Rattle.nostr_event.specs.declared.draft.Spelling.TheVariants.{Escaped}
 use crate::draft::{Draft, Spelling};
 use crate::hexes::{digits32_of, digits64_of};
 use crate::ids::{put_number, put_quoted, put_string, put_tags};
-use neg_codec::Id;
+use item_key::Id;
 use std::alloc::{AllocError, Global};
 
 /// As many bytes as most events have.

@@ -10,7 +10,7 @@ use crate::fault::{EventFault, EventField};
 use crate::fields::{below, shapes_of, tags_of};
 use crate::hexes::{hex32_at, hex64_at};
 use crate::texts::Text;
-use neg_codec::Id;
+use item_key::Id;
 use serde_json::Value;
 use std::alloc::Global;
 

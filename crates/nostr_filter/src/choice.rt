@@ -3,7 +3,7 @@ ghost use Rattle.std.specs.Prelude.{◌≡◌, ◌++◌, IfOk, OnOk, map, take, 
 ghost use Rattle.nostr_filter.specs.Choice.{newest_first, in_order, rank_of, matching_from, cut_of, picked, chosen};
 
 use crate::filter::Filter;
-use neg_codec::Id;
+use item_key::Id;
 use nostr_event::Event;
 use std::alloc::{AllocError, Global};
 use std::cmp::Reverse;

@@ -4,7 +4,7 @@ ghost use Rattle.nostr_filter.specs.Matching.{tag_meets, tags_meet, within_of, m
 ghost use Rattle.std.specs.List.{list_any, list_all};
 
 use crate::conditions::{Bytes32List, Kinds, TagCondition, TagConditions};
-use neg_codec::Id;
+use item_key::Id;
 use nostr_event::{Event, Tag, Tags};
 
 /// What an event has to meet (NIP-01). An absent condition is met by each event, an empty list by none.

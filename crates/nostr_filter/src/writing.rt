@@ -112,22 +112,6 @@ fn whole_map(alloc: Global, filter: &Filter) -> Result<Map<String, Value>, Alloc
     Ok(map)
 }
 
-// Puts the lists that are given.
-fn put_lists(
-    map: &mut Map<String, Value>,
-    alloc: Global,
-    authors: Option<Value>,
-    ids: Option<Value>,
-    kinds: Option<Value>,
-) -> Result<(), AllocError>
-    ensures { OnOk result (members_view map.new.entries ≡ put_given (codes "authors") (option_map view authors)
-        (put_given (codes "ids") (option_map view ids) (put_given (codes "kinds") (option_map view kinds) (members_view map.old.entries)))) }
-{
-    put_value(map, alloc, "kinds", kinds)?;
-    put_value(map, alloc, "ids", ids)?;
-    put_value(map, alloc, "authors", authors)
-}
-
 // The members but for the conditions on tags.
 fn named_map(alloc: Global, filter: &Filter) -> Result<Map<String, Value>, AllocError>
     ensures members { IfOk result (λ m. members_view m.entries ≡ named_members filter.now) }
@@ -135,11 +119,13 @@ fn named_map(alloc: Global, filter: &Filter) -> Result<Map<String, Value>, Alloc
     ensures ids { IfOk result (λ _. All32 filter.now.ids) }
     ensures kinds { IfOk result (λ _. AllKinds filter.now.kinds) }
 {
-    let authors = hex_given(alloc, &filter.authors)?;
-    let ids = hex_given(alloc, &filter.ids)?;
-    let kinds = kinds_given(alloc, &filter.kinds)?;
     let mut map = whole_map(alloc, filter)?;
-    put_lists(&mut map, alloc, authors, ids, kinds)?;
+    let kinds = kinds_given(alloc, &filter.kinds)?;
+    put_value(&mut map, alloc, "kinds", kinds)?;
+    let ids = hex_given(alloc, &filter.ids)?;
+    put_value(&mut map, alloc, "ids", ids)?;
+    let authors = hex_given(alloc, &filter.authors)?;
+    put_value(&mut map, alloc, "authors", authors)?;
     Ok(map)
 }
 

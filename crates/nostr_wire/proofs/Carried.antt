@@ -6,7 +6,7 @@ use Rattle.json.specs.Json.{after_end_array}
 use Rattle.serde_json.specs.Data.{Data, array, string}
 use Rattle.serde_json.specs.Read.{read}
 use Rattle.serde_json.specs.View.{items_of}
-use Rattle.neg_codec.specs.declared.Id.{Id}
+use Rattle.item_key.specs.declared.Id.{Id}
 use Rattle.nostr_event.specs.EventView.{EventView}
 use Rattle.nostr_event.specs.declared.fault.EventFault.{EventFault}
 use Rattle.nostr_event.proofs.Bytes.{id_of_bytes}

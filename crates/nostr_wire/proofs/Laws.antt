@@ -2,8 +2,8 @@
 use Rattle.std.proofs.Common.{◌≡◌, ◌≢◌, ℕ, List, [], ◌∷◌, map, Bool, true, Some, Ok, inl, inr, refl, sym, ◌∙◌, ap, ap₂, subst, codes}
 use Rattle.hex.specs.Hex.{decode_of}
 use Rattle.serde_json.specs.Data.{Data, boolean, string}
-use Rattle.neg_codec.specs.declared.Id.{Id}
-use Rattle.neg_codec.specs.Keys.{id_of_bytes}
+use Rattle.item_key.specs.declared.Id.{Id}
+use Rattle.item_key.specs.Keys.{id_of_bytes}
 use Rattle.nostr_event.specs.EventView.{EventView}
 use Rattle.nostr_event.proofs.Bytes.{bytes_of_id}
 use Rattle.nostr_event.proofs.FieldTests.{object_from_get}

@@ -4,8 +4,8 @@ use Rattle.std.specs.Str.{chars}
 use Rattle.hex.specs.Hex.{encode_lower, decode_of}
 use Rattle.serde_json.specs.Data.{Data, boolean, string}
 use Rattle.serde_json.specs.Find.{get, as_str, as_bool, as_object}
-use Rattle.neg_codec.specs.declared.Id.{Id}
-use Rattle.neg_codec.specs.Keys.{IsId}
+use Rattle.item_key.specs.declared.Id.{Id}
+use Rattle.item_key.specs.Keys.{IsId}
 use Rattle.nostr_event.specs.EventView.{EventView}
 use Rattle.nostr_event.specs.EventJson.{Reads as ReadsEvent, Refuses as RefusesEvent, object_of as event_object}
 use Rattle.nostr_event.specs.declared.fault.EventFault.{EventFault}

@@ -1,6 +1,6 @@
 -- The messages, each by its name and what stands behind it (NIP-01, NIP-77).
 use Rattle.std.specs.Prelude.{ℕ, Bool, List, [], ◌∷◌, map, drop, codes}
-use Rattle.neg_codec.specs.declared.Id.{Id}
+use Rattle.item_key.specs.declared.Id.{Id}
 use Rattle.serde_json.specs.Data.{Data}
 use Rattle.nostr_event.specs.EventView.{EventView}
 use Rattle.nostr_wire.specs.declared.messages.FromClient.{FromClient}

@@ -12,7 +12,7 @@ use crate::lists::{Bytes, Sub, is_name};
 use crate::names::Name;
 use hex::FromHexError;
 use id_text::{digits_of, parse_bytes, parse_id};
-use neg_codec::Id;
+use item_key::Id;
 use nostr_event::{Event, EventFault, Text};
 use nostr_filter::{Filter, FilterFault};
 use serde_json::Value;

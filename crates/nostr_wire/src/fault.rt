@@ -2,7 +2,7 @@
 ghost use Rattle.std.specs.Prelude.{◌≡◌};
 ghost use Rattle.nostr_wire.specs.declared.fault.WireFault.TheVariants.{Memory};
 
-use neg_codec::Id;
+use item_key::Id;
 use nostr_event::EventFault;
 use std::alloc::{AllocError, AllocFailed};
 

@@ -1,7 +1,7 @@
 // What clients and relays say.
 use crate::lists::{Bytes, Filters, Sub};
 use crate::names::Name;
-use neg_codec::Id;
+use item_key::Id;
 use nostr_event::{Event, Text};
 use nostr_filter::Filter;
 use std::sync::Arc;

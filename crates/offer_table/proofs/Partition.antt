@@ -10,7 +10,7 @@ use Rattle.std.proofs.lemmas.Bool.{false≢true, cases_Bool, eq-eqb, ne_eqb, eqb
 use Rattle.std.proofs.lemmas.List.Sums.{sum_by-cons}
 use Rattle.std.proofs.lemmas.List.Elements.{All-head, All-tail, All-cons, All-nil, All-map, All-weaker, All-filter}
 use Rattle.std.proofs.lemmas.Map.Entries.{All-lookup}
-use Rattle.neg_codec.specs.declared.Id.{Id}
+use Rattle.item_key.specs.declared.Id.{Id}
 use Rattle.sharing.specs.Offers.{AreRelays, IsOffers, Ascend, id_cmp, is_id, beside, relays_of}
 use Rattle.sharing.proofs.Orders.{head_sorted, tail_sorted, same_id, id_apart, id_flips, All-unmap, lt_from_less}
 use Rattle.sharing.proofs.Looks.{map_twice, map_itself}

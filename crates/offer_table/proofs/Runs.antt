@@ -9,7 +9,7 @@ use Rattle.std.proofs.lemmas.Bool.{cases_lt, eq-eqb, eqb-true}
 use Rattle.std.proofs.lemmas.List.{map-append, get_or-drop, length-drop, length-map, length-take-le, get_or_default}
 use Rattle.std.proofs.lemmas.List.Elements.{All-head, All-tail, All-cons, All-nil, All-drop, All-push, filter-append}
 use Rattle.std.proofs.lemmas.List.Sorted.{IsNonDecreasingBy-drop}
-use Rattle.neg_codec.specs.declared.Id.{Id}
+use Rattle.item_key.specs.declared.Id.{Id}
 use Rattle.sharing.specs.Offers.{AreRelays, Ascend, id_cmp}
 use Rattle.sharing.proofs.Orders.{head_sorted, tail_sorted, sorted_push, less_from}
 use Rattle.offer_table.specs.Relays.{bits_of}

@@ -1,6 +1,6 @@
 -- A table of offers: which relays reported, and who offers what.
 use Rattle.std.specs.Prelude.{ℕ, ◌≤◌, not, List, length, count_by, is_some}
-use Rattle.neg_codec.specs.declared.Id.{Id}
+use Rattle.item_key.specs.declared.Id.{Id}
 use Rattle.sharing.specs.declared.TheConstants.{MOST_IDS}
 use Rattle.sharing.specs.Offers.{IsOffers, beside}
 

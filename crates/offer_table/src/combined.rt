@@ -1,7 +1,7 @@
 //! The offers of two lists, walked side by side.
 
 ghost use Rattle.std.specs.Prelude.{◌≡◌, ◌≤◌, ◌+◌, ◌∷◌, ℕ, [], length, map, nat_lt, OnOk, IfOk, MatchOption};
-ghost use Rattle.neg_codec.specs.declared.Id.{Id};
+ghost use Rattle.item_key.specs.declared.Id.{Id};
 ghost use Rattle.sharing.specs.declared.TheConstants.{MOST_IDS};
 ghost use Rattle.sharing.specs.Sharing.{is_among};
 ghost use Rattle.sharing.specs.Offers.{AreRelays, Ascend, IsOffers, relays_of};
@@ -10,7 +10,7 @@ ghost use Rattle.offer_table.specs.Combined.{keeps, most_kept, IsNextId, IsPushe
 
 use crate::RelaySet;
 use crate::guess::Pairs;
-use neg_codec::Id;
+use item_key::Id;
 use sharing::MOST_IDS;
 use std::alloc::{AllocError, Global};
 use std::cmp::Ordering;

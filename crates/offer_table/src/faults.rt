@@ -1,7 +1,7 @@
 //! Why a table isn't made, or a base isn't set.
 
 use crate::RelaySet;
-use neg_codec::Id;
+use item_key::Id;
 use std::alloc::{AllocError, AllocFailed};
 use thiserror::Error;
 

@@ -2,7 +2,7 @@
 //! even that: whoever takes the names sees to it that they do no harm. What counts here is speed.
 
 use crate::RelaySet;
-use neg_codec::Id;
+use item_key::Id;
 use std::alloc::{AllocError, Global};
 use std::cmp::Ordering;
 

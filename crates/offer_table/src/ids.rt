@@ -5,7 +5,7 @@ ghost use Rattle.std.specs.Iterator.{at_most};
 ghost use Rattle.std.specs.Map.Iter.{deref, TakesFirst};
 
 use crate::RelaySet;
-use neg_codec::Id;
+use item_key::Id;
 use std::iter::Iterator;
 use std::marker::Model;
 
@@ -17,7 +17,7 @@ pub struct Ids<'a> {
 
 impl<'a> Model for Ids<'a> {
     ghost use Rattle.std.specs.Prelude.{List, map};
-    ghost use Rattle.neg_codec.specs.declared.Id.{Id};
+    ghost use Rattle.item_key.specs.declared.Id.{Id};
 
     ghost Value = { List Id };
 

@@ -3,7 +3,7 @@
 ghost use Rattle.std.specs.Prelude.{◌≡◌, ◌≤◌, ◌+◌, ◌<◌, ◌==◌, ◌||◌, ◌&&◌, not, ℕ, [], ◌∷◌, length, map, Some, Err, slice_get, OnOk, IfOk, OnErr, IfErr, MatchOption, IsOkUnless};
 ghost use Rattle.std.specs.List.{list_any};
 ghost use Rattle.std.specs.Map.Iter.{deref, ShowsInOrder};
-ghost use Rattle.neg_codec.specs.declared.Id.{Id};
+ghost use Rattle.item_key.specs.declared.Id.{Id};
 ghost use Rattle.sharing.specs.Sharing.{is_among};
 ghost use Rattle.sharing.specs.Offers.{AreRelays, Ascend, IsOffers, relays_of, is_id};
 ghost use Rattle.offer_table.specs.Table.{IsTable, new_in};
@@ -16,7 +16,7 @@ use crate::combined::{Keep, combined, room_for};
 use crate::groups::Groups;
 use crate::guess::{Guess, Known, Pairs};
 use crate::{Ids, OfferFault, RelaySet};
-use neg_codec::Id;
+use item_key::Id;
 use sharing::{MOST_IDS, RELAYS};
 use std::alloc::{AllocError, Global};
 use std::collections::BTreeSet;

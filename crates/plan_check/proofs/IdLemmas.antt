@@ -4,8 +4,8 @@ use Rattle.std.proofs.lemmas.Bool.{cases_lt}
 use Rattle.std.proofs.lemmas.List.{get_or_past, drop_at}
 use Rattle.hex.specs.Hex.{encode_lower, lower_digits, IsBytes, decode_of}
 use Rattle.hex.proofs.HexLemmas.{length-encode_with, decode_of-encode_lower}
-use Rattle.neg_codec.specs.declared.Id.{Id}
-use Rattle.neg_codec.specs.Keys.{IsId}
+use Rattle.item_key.specs.declared.Id.{Id}
+use Rattle.item_key.specs.Keys.{IsId}
 
 pub length-digits : (id : Id) → IsId id → length (encode_lower id.0) ≡ 64
 length-digits id is = let e = length-encode_with lower_digits id.0 in omega (arith, e, is.len)

@@ -7,7 +7,7 @@ use Rattle.std.specs.Ordering.{is_eq, ordering_reverse}
 use Rattle.std.specs.List.{All, list_any}
 use Rattle.std.proofs.lemmas.Bool.{false≢true, cases_Bool, or_parts, or_from, true_from_ne_false, not-false}
 use Rattle.std.proofs.lemmas.List.Elements.{All-head, All-tail, All-cons, All-nil, All-weaker, All-map}
-use Rattle.neg_codec.specs.declared.Id.{Id}
+use Rattle.item_key.specs.declared.Id.{Id}
 use Rattle.sharing.specs.Sharing.{is_among, load, IsSharing, IsGreatest, Shows}
 use Rattle.sharing.specs.Bases.{base_in}
 use Rattle.sharing.specs.Offers.{id_cmp, is_id, Ascend, beside, relays_of, relay_in}

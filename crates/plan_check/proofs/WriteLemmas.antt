@@ -6,8 +6,8 @@ use Rattle.std.proofs.Math.Seq.{take-append_seam}
 use Rattle.std.proofs.lemmas.Grind.{flat_map-append}
 use Rattle.std.proofs.lemmas.List.{append-nil, take_more}
 use Rattle.std.proofs.lemmas.List.Elements.{All-push, All-map}
-use Rattle.neg_codec.specs.declared.Id.{Id}
-use Rattle.neg_codec.specs.Keys.{IsId}
+use Rattle.item_key.specs.declared.Id.{Id}
+use Rattle.item_key.specs.Keys.{IsId}
 use Rattle.plan_check.specs.File.{File, IsFile, pairs_of}
 use Rattle.plan_check.specs.TextLines.{lines_of, ended}
 use Rattle.plan_check.specs.PlanText.{header_line, plan_text, offers_text, IsOfForm, IsTextOf}

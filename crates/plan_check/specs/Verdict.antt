@@ -1,7 +1,7 @@
 -- When a plan file's gives are a sharing that its group shows to be least, and why not.
 use Rattle.std.specs.Prelude.{◌≡◌, ℕ, ◌+◌, ◌&&◌, ◌==◌, not, Bool, List, map, Option, Some, None, Result, Ok, Err, is_some, count_by, if◌then◌else◌}
 use Rattle.std.specs.List.{list_any}
-use Rattle.neg_codec.specs.declared.Id.{Id}
+use Rattle.item_key.specs.declared.Id.{Id}
 use Rattle.sharing.specs.Sharing.{is_among, load, IsSharing, IsGreatest, Shows}
 use Rattle.sharing.specs.Bases.{base_in}
 use Rattle.sharing.specs.Offers.{beside, relays_of, relay_in}

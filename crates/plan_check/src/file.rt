@@ -9,7 +9,7 @@ use crate::order::{
     Counts, Places, are_all_relays, do_rise, first_place, malformed_base, malformed_give,
     malformed_offer, misplaced_base, misplaced_give, misplaced_offer,
 };
-use neg_codec::Id;
+use item_key::Id;
 use std::marker::Model;
 
 /// What relays begin with, offers, gives and a group, in order.

@@ -2,7 +2,7 @@
 
 ghost use Rattle.std.specs.Prelude.{◌≡◌, ◌≤◌, ◌<◌, ◌+◌, ◌*◌, ◌++◌, All, length, take, drop, decimal};
 ghost use Rattle.hex.specs.Hex.{encode_lower};
-ghost use Rattle.neg_codec.specs.Keys.{IsId};
+ghost use Rattle.item_key.specs.Keys.{IsId};
 ghost use Rattle.sharing.specs.declared.TheConstants.{RELAYS};
 ghost use Rattle.sharing.specs.Offers.{AreRelays};
 ghost use Rattle.plan_check.specs.File.{IsBase};
@@ -11,7 +11,7 @@ ghost use Rattle.plan_check.specs.PlanText.{number_text, relays_text, base_line,
 ghost use Rattle.plan_check.specs.declared.lines.TheConstants.{LONGEST_LINE};
 
 use id_text::digits_of;
-use neg_codec::Id;
+use item_key::Id;
 use sharing::SLOTS;
 
 /// Bytes that are enough for each line: for that of an id which all relays offer, with four bytes for each relay.

@@ -6,7 +6,7 @@ ghost use Rattle.sharing.specs.declared.TheConstants.{RELAYS};
 ghost use Rattle.plan_check.specs.Lines.{first_at, first_out, first_place, rises, is_base, are_relays, is_empty, is_behind, or_else};
 ghost use Rattle.sharing.specs.Offers.{id_cmp};
 
-use neg_codec::Id;
+use item_key::Id;
 use sharing::{MOST_BASE, RELAYS};
 
 /// Whether an id comes behind the one before it.

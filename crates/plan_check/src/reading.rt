@@ -14,7 +14,7 @@ use crate::records::{parse_base, parse_give, parse_group, parse_offer};
 use crate::scanning::{scan, skip_line};
 use crate::text_lines::cut_line;
 use crate::{PlanFault, PlanFile};
-use neg_codec::Id;
+use item_key::Id;
 use std::alloc::{AllocError, Global};
 
 /// The lists of a plan file, in any order.

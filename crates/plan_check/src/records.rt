@@ -2,14 +2,14 @@
 
 ghost use Rattle.std.specs.Prelude.{◌≡◌, ◌≢◌, ◌<◌, ◌++◌, ℕ, List, All, IfSome, IfNone, IfOk, length, codes};
 ghost use Rattle.hex.specs.Hex.{encode_lower};
-ghost use Rattle.neg_codec.specs.declared.Id.{Id as AnId};
-ghost use Rattle.neg_codec.specs.Keys.{IsId};
+ghost use Rattle.item_key.specs.declared.Id.{Id as AnId};
+ghost use Rattle.item_key.specs.Keys.{IsId};
 ghost use Rattle.sharing.specs.declared.TheConstants.{RELAYS};
 ghost use Rattle.plan_check.specs.File.{IsBase};
 ghost use Rattle.plan_check.specs.PlanText.{base_line, offer_line, give_line, group_line, IsOffer, IsGive};
 
 use crate::words::{cut_id, cut_load, cut_relay, parse_relays, skip_word};
-use neg_codec::Id;
+use item_key::Id;
 use std::alloc::{AllocError, Global};
 
 /// The relay of the base of a line without its line feed, and what its load begins with.

@@ -1,7 +1,7 @@
 //! Whether a text is a plan text, and what is wrong where it is none. Nothing here takes memory.
 
 ghost use Rattle.std.specs.Prelude.{◌≡◌, ◌≢◌, ◌&&◌, ◌+◌, ◌<◌, ◌≤◌, ◌∷◌, ◌↔◌, ℕ, List, length, All, IsTrue, IfOk, IfErr, IfSome, IfNone, Ok, Err};
-ghost use Rattle.neg_codec.specs.declared.Id.{Id as AnId};
+ghost use Rattle.item_key.specs.declared.Id.{Id as AnId};
 ghost use Rattle.sharing.specs.declared.TheConstants.{RELAYS};
 ghost use Rattle.plan_check.specs.declared.faults.PlanFault.{PlanFault as AFault};
 ghost use Rattle.plan_check.specs.File.{File};
@@ -17,7 +17,7 @@ use crate::order::{Counts, Places, comes_behind, comes_next, first_place, note};
 use crate::records::{cut_offer, parse_base, parse_give};
 use crate::text_lines::cut_line;
 use crate::words::{scan_relays, skip_word};
-use neg_codec::Id;
+use item_key::Id;
 
 /// Lines of one kind at the front of a text: how many, the place of the first that is out of order, and the text after
 /// them.

@@ -10,7 +10,7 @@ ghost use Rattle.plan_check.specs.File.{AreBasesInOrder, pairs_of};
 ghost use Rattle.plan_check.specs.Verdict.{given_load, IsSharedOut, GroupShows, Judges};
 
 use crate::{PlanFault, PlanFile};
-use neg_codec::Id;
+use item_key::Id;
 use sharing::SLOTS;
 
 /// Whether this relay is among these.

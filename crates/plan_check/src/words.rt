@@ -2,8 +2,8 @@
 
 ghost use Rattle.std.specs.Prelude.{◌≡◌, ◌≢◌, ◌<◌, ◌≤◌, ◌^◌, ◌+◌, ◌++◌, ◌∷◌, ℕ, List, All, IfSome, IfNone, IfOk, decimal, drop, length, slice_index};
 ghost use Rattle.hex.specs.Hex.{encode_lower};
-ghost use Rattle.neg_codec.specs.declared.Id.{Id as AnId};
-ghost use Rattle.neg_codec.specs.Keys.{IsId};
+ghost use Rattle.item_key.specs.declared.Id.{Id as AnId};
+ghost use Rattle.item_key.specs.Keys.{IsId};
 ghost use Rattle.sharing.specs.declared.TheConstants.{RELAYS, MOST_BASE};
 ghost use Rattle.plan_check.specs.PlanText.{number_text, relays_text};
 ghost use Rattle.plan_check.specs.Lines.{rises};
@@ -11,7 +11,7 @@ ghost use Rattle.plan_check.specs.PlanParts.{IsNextWord, AreRelaysText};
 
 use crate::order::comes_next;
 use id_text::{parse_id, parse_number};
-use neg_codec::Id;
+use item_key::Id;
 use sharing::{MOST_BASE, RELAYS};
 use std::alloc::{AllocError, Global};
 

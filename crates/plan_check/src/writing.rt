@@ -2,7 +2,7 @@
 
 ghost use Rattle.std.specs.Prelude.{◌≡◌, ◌<◌, ◌++◌, All, IfOk, OnOk, string_bytes};
 ghost use Rattle.std.specs.List.{flat_map};
-ghost use Rattle.neg_codec.specs.Keys.{IsId};
+ghost use Rattle.item_key.specs.Keys.{IsId};
 ghost use Rattle.sharing.specs.declared.TheConstants.{RELAYS};
 ghost use Rattle.sharing.specs.Offers.{AreRelays};
 ghost use Rattle.plan_check.specs.File.{IsBase, pairs_of};
@@ -11,7 +11,7 @@ ghost use Rattle.plan_check.specs.PlanText.{header_line, base_line, offer_line, 
 
 use crate::PlanFile;
 use crate::lines::{LONGEST_LINE, set_base, set_give, set_group, set_offer};
-use neg_codec::Id;
+use item_key::Id;
 use std::alloc::{AllocError, Global};
 
 /// Appends the header.

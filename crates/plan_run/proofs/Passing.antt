@@ -1,6 +1,6 @@
 -- Texts that pass the check, and texts that fail it.
 use Rattle.std.proofs.Common.{◌≡◌, ℕ, List, Option, Some, None, ◌⊎◌, Ok, Err, inl, inr, refl, sym, ap, ◌∙◌, subst, arith}
-use Rattle.neg_codec.specs.declared.Id.{Id}
+use Rattle.item_key.specs.declared.Id.{Id}
 use Rattle.sharing.specs.Bases.{base_in}
 use Rattle.sharing.specs.Sharing.{Shows, NoneSmaller}
 use Rattle.mirror_run.specs.declared.refusal.LineFault.{LineFault}

@@ -2,8 +2,8 @@
 use Rattle.std.proofs.Common.{◌≡◌, ℕ, List, map, refl, ap, sym, ◌∙◌, subst}
 use Rattle.std.specs.List.{All}
 use Rattle.std.proofs.lemmas.List.Elements.{All-map}
-use Rattle.neg_codec.specs.declared.Id.{Id}
-use Rattle.neg_codec.specs.Keys.{IsId}
+use Rattle.item_key.specs.declared.Id.{Id}
+use Rattle.item_key.specs.Keys.{IsId}
 use Rattle.sharing.proofs.Orders.{All-unmap}
 use Rattle.plan_check.specs.File.{File, IsBase, IsFile}
 use Rattle.plan_check.specs.PlanText.{plan_text, IsOffer, IsOfForm, IsTextOf}

@@ -1,6 +1,6 @@
 -- The plan that is made of a text.
 use Rattle.std.specs.Prelude.{ℕ, ◌≤◌, List, length}
-use Rattle.neg_codec.specs.declared.Id.{Id}
+use Rattle.item_key.specs.declared.Id.{Id}
 use Rattle.sharing.specs.declared.TheConstants.{MOST_IDS}
 use Rattle.sharing.specs.Bases.{base_of}
 use Rattle.fetch_plan.specs.Plan.{Planned, IsPlanOf}

@@ -1,6 +1,6 @@
 -- The plan file that is made of the offers of another, and what the checker says of a file.
 use Rattle.std.specs.Prelude.{◌≡◌, ℕ, ◌<◌, ◌≤◌, List, length, take, Err}
-use Rattle.neg_codec.specs.declared.Id.{Id}
+use Rattle.item_key.specs.declared.Id.{Id}
 use Rattle.sharing.specs.declared.TheConstants.{MOST_IDS}
 use Rattle.sharing.specs.Bases.{base_in}
 use Rattle.sharing.specs.Reached.{IsLeast}

@@ -8,7 +8,7 @@ ghost use Rattle.plan_check.specs.TextLines.{lines_of, ended};
 ghost use Rattle.plan_check.specs.PlanText.{relays_text, offer_line, IsOffer};
 ghost use Rattle.plan_run.specs.Planned.{IsFront};
 
-use neg_codec::Id;
+use item_key::Id;
 use offer_table::{Bases, RelaySet};
 use plan_check::{cut_line, cut_offer, cut_relay, is_tail, read_head};
 use std::alloc::{AllocError, Global};

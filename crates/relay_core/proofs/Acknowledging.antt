@@ -5,8 +5,8 @@ use Rattle.std.specs.Arc.{arc_value}
 use Rattle.std.specs.declared.alloc.Global.{Global}
 use Rattle.std.specs.declared.sync.Arc.{Arc}
 use denote.RawPtr.{null_ptr}
-use Rattle.neg_codec.specs.declared.Id.{Id}
-use Rattle.neg_codec.specs.declared.Item.{Item}
+use Rattle.item_key.specs.declared.Id.{Id}
+use Rattle.item_key.specs.declared.Item.{Item}
 use Rattle.event_table.specs.Events.{matching}
 use Rattle.event_store.specs.Events.{Pinned}
 use Rattle.event_store.specs.declared.desk.InsertFault.TheVariants.{Full, Memory}

@@ -1,7 +1,7 @@
 -- What is pinned, and what is answered from it.
 use Rattle.std.proofs.Common.{◌≡◌, ℕ, ◌≤◌, List, [], ◌∷◌, length, ap, sym, subst, ◌∙◌}
 use Rattle.std.specs.Prelude.{Err}
-use Rattle.neg_codec.specs.declared.Item.{Item}
+use Rattle.item_key.specs.declared.Item.{Item}
 use Rattle.neg_codec.specs.declared.CodecFault.TheVariants as codec
 use Rattle.neg_codec.specs.Ranges.{Span}
 use Rattle.neg_codec.specs.Text.{Spells}

@@ -1,6 +1,6 @@
 -- What a relay says (NIP-01, NIP-77), as forms of texts.
 use Rattle.std.specs.Prelude.{ℕ, List, [], ◌∷◌, Bool, codes}
-use Rattle.neg_codec.specs.declared.Id.{Id}
+use Rattle.item_key.specs.declared.Id.{Id}
 use Rattle.nostr_event.specs.EventView.{EventView}
 use Rattle.nostr_wire.specs.Elements.{sub, event}
 use Rattle.nostr_wire.specs.Forms.{Form, relay_form}

@@ -1,6 +1,6 @@
 -- Negentropy sessions (NIP-77).
 use Rattle.std.specs.Prelude.{◌≡◌, ◌≤◌, ◌⊎◌, ℕ, List, [], ◌∷◌, ◌++◌, length, map, nat_lt, nat_le, IsPermutation, MatchBool, MatchOption, Err, codes}
-use Rattle.neg_codec.specs.declared.Item.{Item}
+use Rattle.item_key.specs.declared.Item.{Item}
 use Rattle.neg_codec.specs.declared.CodecFault.{CodecFault}
 use Rattle.neg_codec.specs.declared.CodecFault.TheVariants as codec
 use Rattle.neg_codec.specs.Ranges.{Span}

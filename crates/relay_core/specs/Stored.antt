@@ -1,6 +1,6 @@
 -- What is said of an event that was to be stored (OK of NIP-01).
 use Rattle.std.specs.Prelude.{Bool, true, false, if◌then◌else◌, codes}
-use Rattle.neg_codec.specs.declared.Id.{Id}
+use Rattle.item_key.specs.declared.Id.{Id}
 use Rattle.event_store.specs.declared.desk.InsertFault.TheVariants.{Full, Memory}
 use Rattle.nostr_wire.specs.Forms.{Form}
 use Rattle.relay_core.specs.declared.storing.StoringFault.{StoringFault}

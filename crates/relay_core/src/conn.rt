@@ -22,7 +22,7 @@ use crate::talk::Talk;
 use event_log::Kept;
 use event_store::{InsertFault, Naming, Placed, Reader};
 use event_text::EventScratch;
-use neg_codec::Id;
+use item_key::Id;
 use nostr_wire::FromRelay;
 use std::alloc::Global;
 use std::marker::Model;

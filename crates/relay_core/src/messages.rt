@@ -4,7 +4,7 @@ ghost use Rattle.std.specs.Arc.{arc_value};
 ghost use Rattle.nostr_wire.specs.Forms.{relay_form};
 ghost use Rattle.relay_core.specs.Messages.{event_to, okay as okay_form, closed as closed_form, notice as notice_form, ended as ended_form};
 
-use neg_codec::Id;
+use item_key::Id;
 use nostr_event::{Event, Text};
 use nostr_wire::{FromRelay, Name, Sub};
 use std::alloc::{AllocError, Global};

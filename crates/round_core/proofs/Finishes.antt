@@ -5,7 +5,7 @@ use Rattle.std.proofs.lemmas.List.{take-append-drop, get_or_append_left, get_or-
 use Rattle.std.proofs.lemmas.List.Elements.{All-get_or}
 use Rattle.std.proofs.lemmas.Grind.{flat_map-append}
 use Rattle.std.proofs.lemmas.Bool.{false≢true, cases_lt, cases_Bool, eqb-true, false_from_ne_true, eq-eqb, or_left}
-use Rattle.neg_codec.specs.declared.Id.{Id}
+use Rattle.item_key.specs.declared.Id.{Id}
 use Rattle.sharing.specs.Sharing.{is_among}
 use Rattle.sharing.specs.Offers.{is_id, relays_of, IsOffers}
 use Rattle.sharing.proofs.Orders.{id_itself, id_flips}

@@ -9,7 +9,7 @@ use Rattle.std.proofs.lemmas.List.Folds.{list_any-append}
 use Rattle.std.proofs.lemmas.Grind.{flat_map-append}
 use Rattle.std.proofs.Math.Seq.{take-append_seam}
 use Rattle.std.proofs.lemmas.Bool.{cases_Bool}
-use Rattle.neg_codec.specs.declared.Id.{Id}
+use Rattle.item_key.specs.declared.Id.{Id}
 use Rattle.fetch_plan.specs.Plan.{Planned}
 use Rattle.fetch_plan.specs.declared.cell.Cell.{Cell}
 use Rattle.fetch_plan.specs.declared.cell.Cell.TheVariants.{Free}

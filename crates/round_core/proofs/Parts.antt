@@ -4,7 +4,7 @@ use Rattle.std.specs.Prelude.{is_some, IsErr, MatchOption, Result}
 use Rattle.std.proofs.lemmas.List.{take_all}
 use Rattle.std.specs.declared.alloc.AllocError.{AllocError}
 use Rattle.sharing.specs.Bases.{base_of}
-use Rattle.neg_codec.specs.declared.Id.{Id}
+use Rattle.item_key.specs.declared.Id.{Id}
 use Rattle.sharing.specs.Offers.{Ascend}
 use Rattle.sharing.specs.Sharing.{NoneSmaller}
 use Rattle.offer_table.specs.Table.{Table, IsTable}

@@ -5,7 +5,7 @@ use Rattle.std.specs.declared.alloc.AllocError.{AllocError}
 use Rattle.std.proofs.lemmas.List.{get_or-replicate, get_or_past, length-replicate, length-append, get_or_append_left, get_or-append_right}
 use Rattle.std.proofs.Math.Seq.{take-append_seam}
 use Rattle.std.proofs.lemmas.Bool.{cases_lt, or_right}
-use Rattle.neg_codec.specs.declared.Id.{Id}
+use Rattle.item_key.specs.declared.Id.{Id}
 use Rattle.sharing.specs.Bases.{base_of}
 use Rattle.sharing.specs.Sharing.{is_among, NoneSmaller}
 use Rattle.sharing.specs.Offers.{Ascend, AreRelays, IsOffers, StandsFor}

@@ -1,7 +1,7 @@
 -- What a history of events and answers says of reports, plans, cells and placed ids.
 use Rattle.std.specs.Prelude.{◌≡◌, ℕ, ◌-◌, ◌<◌, ◌==◌, ◌&&◌, Bool, true, false, List, [], map, take, length, slice_index_or, count_by, filter, flat_map, unwrap_or, None}
 use Rattle.std.specs.List.{list_any, last_or}
-use Rattle.neg_codec.specs.declared.Id.{Id}
+use Rattle.item_key.specs.declared.Id.{Id}
 use Rattle.sharing.specs.Sharing.{is_among}
 use Rattle.sharing.specs.Offers.{StandsFor, AreRelays, is_id}
 use Rattle.offer_table.specs.Table.{Table}

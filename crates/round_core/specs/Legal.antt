@@ -1,6 +1,6 @@
 -- Which answers are right after a history.
 use Rattle.std.specs.Prelude.{◌≡◌, ℕ, ◌+◌, ◌<◌, ◌==◌, ◌||◌, ◌⊎◌, nat_lt, Bool, true, false, not, List, [], ◌∷◌, ◌++◌, length, count_by, slice_index, slice_index_or, slice_get, Option, Some, None, is_some, MatchBool, if◌then◌else◌}
-use Rattle.neg_codec.specs.declared.Id.{Id}
+use Rattle.item_key.specs.declared.Id.{Id}
 use Rattle.sharing.specs.declared.TheConstants.{RELAYS, MOST_IDS}
 use Rattle.sharing.specs.Sharing.{is_among, NoneSmaller}
 use Rattle.sharing.specs.Bases.{base_of}

@@ -1,7 +1,7 @@
 //! Events of a round, and their answers.
 
 use fetch_plan::Cell;
-use neg_codec::Id;
+use item_key::Id;
 use offer_table::Bases;
 use std::collections::BTreeSet;
 

@@ -11,7 +11,7 @@ ghost use Rattle.round_core.specs.Left.{Leaves, is_on_cell, ReportsTo, SealsTo, 
 use crate::rules::{add_report, answer_at, lowest_held, more_cells, plan_without, write_cell};
 use crate::{Answer, Refusal, RoundEvent, Touch};
 use fetch_plan::{Cell, Plan, left_out, plan};
-use neg_codec::Id;
+use item_key::Id;
 use offer_table::{Bases, OfferTable};
 use std::alloc::{AllocError, Global};
 use std::collections::BTreeSet;

@@ -10,7 +10,7 @@ ghost use Rattle.round_core.specs.Left.{gives_in, first_in, give_in, answer_in, 
 
 use crate::{Answer, Refusal, Touch};
 use fetch_plan::{Cell, Plan, plan};
-use neg_codec::Id;
+use item_key::Id;
 use offer_table::{Bases, OfferFault, OfferTable, RelaySet};
 use std::alloc::{AllocError, Global};
 use std::collections::BTreeSet;

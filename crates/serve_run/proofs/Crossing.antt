@@ -7,11 +7,11 @@ use Rattle.std.proofs.Crossing.{crosses}
 use Rattle.event_store.specs.declared.name.Naming.{Ghosts}
 use Rattle.ws_serve.proofs.Crossing.{talk_send}
 use Rattle.ws_serve.proofs.greeting.Greeting.TheSendSync as greeting
-use Rattle.serve_run.specs.contracts.client.Line as Line
+use Rattle.client_hall.specs.contracts.client.Line as Line
 use Rattle.serve_run.specs.contracts.guest.Stage as Stage
 use Rattle.serve_run.specs.contracts.guest.Guest as Guest
-use Rattle.serve_run.proofs.client.Client.TheSendSync as client
-use Rattle.serve_run.proofs.client.Line.TheSendSync as line
+use Rattle.client_hall.proofs.client.Client.TheSendSync as client
+use Rattle.client_hall.proofs.client.Line.TheSendSync as line
 
 module _ (J : RattleType) (g : Ghosts J.Denot) where
   stage_send : IsSend (Stage.the_row J g)

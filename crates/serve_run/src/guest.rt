@@ -1,6 +1,6 @@
 //! A connection that is served turn by turn.
 
-use crate::client::{Client, Line};
+use client_hall::{Client, Enter, Line};
 use event_log::Keeper;
 use event_store::{Desk, Naming, Reader};
 use relay_core::RelayLimits;
@@ -14,12 +14,6 @@ const MOST_WAITING: usize = 65_536;
 
 /// A message of which more bytes than these have come is long.
 const LONG: usize = 262_144;
-
-/// Who is given a seat.
-pub trait Enter: Drop {
-    /// A connection whose handshake is still to come.
-    fn enter(alloc: Global, client: Arc<Client>, line: Line) -> Self;
-}
 
 /// How far a connection is.
 #[derive(Drop)]

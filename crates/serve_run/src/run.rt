@@ -2,17 +2,14 @@
 
 ghost use Rattle.std.specs.Prelude.{◌≡◌};
 
-use crate::client::Patience;
-use crate::door::{Door, WAKER};
 use crate::guest::Guest;
-use crate::hall::Hall;
 use crate::serving::serve_beside;
 use crate::tending::keep_meanwhile;
+use client_hall::{Door, Hall, Patience, WAKER};
 use event_store::{Blank, Desk, Naming, Reader, open_store};
 use mio::net::TcpListener;
 use mio::{Poll, Waker};
 use mirror_settings::{Address, Job, Settings, SettingsKey, Syncing, read_settings};
-use relay_core::RelayLimits;
 use std::alloc::Global;
 use std::fs::File;
 use std::io;
@@ -117,11 +114,18 @@ pub fn open_hall<J: Naming, K: Drop, R: Net, W: Write>(
     let seats = seats_of(settings);
     let (door, waker, port) = door_at(rt, alloc, address, seats)?;
     let conns = settings.conns.unwrap_or(u64::MAX);
-    let limits = RelayLimits::default().read_only(settings.read_only);
     let patience = Patience::of(settings);
     let syncs = settings.fsync == Syncing::Always;
     let hall = Hall::new(
-        alloc, conns, seats, door, waker, patience, limits, syncs, desk,
+        alloc,
+        conns,
+        seats,
+        door,
+        waker,
+        patience,
+        settings.read_only,
+        syncs,
+        desk,
     )?;
     say_place(alloc, writer, address, port)?;
     Ok(hall)

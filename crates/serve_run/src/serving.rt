@@ -3,8 +3,8 @@
 ghost use Rattle.std.specs.Thread.{IsSend, IsSync};
 
 use crate::guest::Guest;
-use crate::hall::Hall;
 use crate::working::Serving;
+use client_hall::Hall;
 use event_store::{Desk, Naming, Reader};
 use std::alloc::Global;
 use std::io::Write;

@@ -1,7 +1,7 @@
 //! The events file while connections are served: these are told of what is published.
 
 use crate::guest::Guest;
-use crate::hall::Hall;
+use client_hall::Hall;
 use event_store::{Desk, Naming};
 use std::io::Write;
 use std::rt::Clock;

@@ -1,19 +1,17 @@
 //! Workers, who give connections their turns.
 
-use crate::door::Door;
 use crate::guest::Guest;
-use crate::hall::Hall;
-use crate::queue::{Errand, Next};
-use crate::seat::Seat;
+use client_hall::{Door, Errand, Hall, Next, Seat};
 use event_log::{Keeper, Kept};
 use event_store::{Desk, Naming, Placed, Reader};
+use relay_core::RelayLimits;
 use std::alloc::Global;
 use std::io::Write;
 use std::rt::Clock;
 use std::sync::Wait;
 use std::time::Instant;
 use store_run::{Clerk, Duty, Keeping};
-use ws_serve::Turned;
+use ws_serve::{Turned, Turns};
 
 /// A turn of so many milliseconds took long.
 const LONG: u128 = 100;
@@ -42,6 +40,19 @@ impl<'h, 'k, G, K, J: Naming, H: Keeper<J>> Keeper<J> for Aside<'h, 'k, G, K, H>
     }
 }
 
+/// How a turn in a hall reads long texts.
+fn turns_of<G, K>(hall: &Hall<G, K>, reads_long: bool) -> Turns<'_> {
+    Turns {
+        lock: hall.turn(),
+        reads_long,
+    }
+}
+
+/// What a hall's connections may have at most.
+fn limits_of<G, K>(hall: &Hall<G, K>) -> RelayLimits {
+    RelayLimits::default().read_only(hall.is_read_only())
+}
+
 /// Gives the connection in a seat a turn, which reads long texts or doesn't.
 fn give_turn<J: Naming, D: Wait + Drop, R: Wait, C: Clock, E: Write + Drop>(
     rt: &R,
@@ -63,7 +74,7 @@ fn give_turn<J: Naming, D: Wait + Drop, R: Wait, C: Clock, E: Write + Drop>(
         hall,
         keeper: &clerk,
     };
-    let (desk, turns, limits) = (hall.desk(), hall.turns(reads_long), hall.limits());
+    let (desk, turns, limits) = (hall.desk(), turns_of(hall, reads_long), limits_of(hall));
     seat.begin(rt);
     let guest = seat.guest.lock(rt).take();
     if let Some(mut guest) = guest {

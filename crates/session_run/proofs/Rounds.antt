@@ -5,7 +5,7 @@ use Rattle.std.proofs.lemmas.List.Sums.{sum_by_push}
 use Rattle.std.proofs.lemmas.Grind.{flat_map-append}
 use Rattle.std.specs.List.{sum_by, count_by, enumerate_from}
 use Rattle.std.specs.Io.KnownBytes.{Appends}
-use Rattle.neg_codec.specs.declared.Id.{Id}
+use Rattle.item_key.specs.declared.Id.{Id}
 use Rattle.sharing.specs.declared.TheConstants.{MOST_BASE}
 use Rattle.sharing.specs.Bases.{base_of}
 use Rattle.sharing.specs.Offers.{StandsFor}

@@ -4,16 +4,16 @@ use Rattle.std.specs.Prelude.{All, slice_get}
 use Rattle.core.specs.Option.{option_map}
 use Rattle.std.proofs.lemmas.List.Elements.{All-get_or}
 use Rattle.std.proofs.lemmas.Option.{get_or_from_slice_get, slice_get-map, slice_get_within}
-use Rattle.neg_codec.specs.declared.Id.{Id}
-use Rattle.neg_codec.specs.declared.Item.{Item}
+use Rattle.item_key.specs.declared.Id.{Id}
+use Rattle.item_key.specs.declared.Item.{Item}
 use Rattle.neg_session.specs.Exchange.{Exchange}
 use Rattle.offer_table.specs.Table.{Table}
 use Rattle.fetch_plan.specs.Plan.{Planned}
 use Rattle.fetch_plan.specs.declared.cell.Cell.{Cell}
 use Rattle.fetch_plan.specs.declared.cell.Cell.TheVariants.{Free, Done, Missed}
+use Rattle.event_source.specs.Fetching.{Fetching}
 use Rattle.mirror_core.specs.declared.end.End.{End}
-use Rattle.mirror_core.specs.Fetching.{Fetching}
-use Rattle.ws_link.specs.Streams.{AtRelay, OnLane, IsPlannedOver, AreOverStreams}
+use Rattle.stream_laws.specs.Streams.{AtRelay, OnLane, IsPlannedOver, AreOverStreams}
 use Rattle.ws_link.specs.Wired.{Wired}
 use Rattle.session_run.specs.Rounds.{CameOver, IsOverIfFetched}
 use Rattle.session_run.specs.Synced.{log_of}

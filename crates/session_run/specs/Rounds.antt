@@ -1,7 +1,7 @@
 -- The rounds of a job: which plan is made of what the last one left, and what became of the ids.
 use Rattle.std.specs.Prelude.{◌≡◌, ℕ, ◌+◌, ◌-◌, ◌^◌, ◌<◌, ◌≤◌, min, ◌⊎◌, Bool, true, false, List, [], ◌∷◌, length, count_by, All}
 use Rattle.std.specs.List.{sum_by}
-use Rattle.neg_codec.specs.declared.Id.{Id}
+use Rattle.item_key.specs.declared.Id.{Id}
 use Rattle.sharing.specs.declared.TheConstants.{RELAYS, MOST_BASE}
 use Rattle.sharing.specs.Bases.{base_of}
 use Rattle.sharing.specs.Offers.{StandsFor}
@@ -9,11 +9,11 @@ use Rattle.offer_table.specs.Table.{Table}
 use Rattle.fetch_plan.specs.Plan.{Planned}
 use Rattle.fetch_plan.specs.declared.cell.Cell.{Cell}
 use Rattle.fetch_plan.specs.declared.cell.Cell.TheVariants.{Done, Missed}
+use Rattle.event_source.specs.Fetching.{Fetching}
 use Rattle.mirror_core.specs.Next.{IsLeft, asked_of}
 use Rattle.mirror_core.specs.LeftOver.{IsFailover}
-use Rattle.mirror_core.specs.Fetching.{Fetching}
 use Rattle.ws_link.specs.Fetched.{WasFetched}
-use Rattle.ws_link.specs.Streams.{AreOverStreams}
+use Rattle.stream_laws.specs.Streams.{AreOverStreams}
 use Rattle.ws_link.specs.Wired.{Wired}
 use Rattle.session_run.specs.declared.fetching.Counts.{Counts}
 

@@ -1,7 +1,7 @@
 -- What sessions with relays come to, and the plan of what they found.
 use Rattle.std.specs.Prelude.{◌≡◌, ℕ, List, map, length, ⊤}
 use Rattle.std.specs.List.Sorted.{IsPermutation}
-use Rattle.neg_codec.specs.declared.Item.{Item}
+use Rattle.item_key.specs.declared.Item.{Item}
 use Rattle.item_roll.specs.Parts.{IsRoll}
 use Rattle.neg_session.specs.Exchange.{Exchange}
 use Rattle.neg_session.specs.Most.{AreMost}
@@ -16,7 +16,7 @@ use Rattle.mirror_core.specs.declared.end.End.{End}
 use Rattle.mirror_core.specs.Ends.{EachRan}
 use Rattle.mirror_core.specs.Tables.{IsTableOf}
 use Rattle.mirror_core.specs.Headline.{Headline}
-use Rattle.ws_link.specs.Streams.{IsPlannedOver}
+use Rattle.stream_laws.specs.Streams.{IsPlannedOver}
 use Rattle.ws_link.specs.Wired.{Wired}
 
 -- what a relay was asked and answered, and how many questions failed

@@ -10,9 +10,10 @@ use crate::pace::{Paced, SharedPace};
 use crate::progress::{Progress, RelayLine};
 use crate::told::ToldSource;
 use claim_board::{Board, BoardFault, Cell};
+use event_source::Source;
 use event_store::{Desk, Naming};
 use fetch_plan::Plan;
-use mirror_core::{End, FetchFault, Source, Stop, fetch_all};
+use mirror_core::{End, FetchFault, Stop, fetch_all};
 use mirror_settings::Settings;
 use offer_table::RelaySet;
 use std::alloc::{AllocError, Global};
@@ -21,8 +22,9 @@ use std::io::Write;
 use std::sync::{Mutex, Wait};
 use std::thread::Threads;
 use store_run::Refusal;
+use stream_laws::cells_over_streams;
 use tungstenite::RandomKeys;
-use ws_link::{WsSource, cells_over_streams};
+use ws_link::WsSource;
 
 /// What became of ids.
 #[derive(Clone, Copy)]

@@ -39,8 +39,9 @@ use std::random::RandomSource;
 use std::sync::{Mutex, Wait};
 use std::thread::Threads;
 use store_run::{Keeping, Refusal, keep_beside, say};
+use stream_laws::plan_over_streams;
 use tungstenite::RandomKeys;
-use ws_link::{WsPeer, plan_over_streams};
+use ws_link::WsPeer;
 
 /// Lets a relay's load begin with this one, if it is a relay and the load one that it may begin with.
 fn begin_load(bases: &mut Bases, relay: usize, load: u64)

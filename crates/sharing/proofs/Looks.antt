@@ -6,7 +6,7 @@ use Rattle.std.specs.List.{All}
 use Rattle.std.proofs.lemmas.Bool.{false≢true, or_cases, eqb-true}
 use Rattle.std.proofs.lemmas.List.Elements.{All-head, All-tail, All-cons, All-nil}
 use Rattle.std.proofs.lemmas.List.Sums.{sum_by-cons}
-use Rattle.neg_codec.specs.declared.Id.{Id}
+use Rattle.item_key.specs.declared.Id.{Id}
 use Rattle.sharing.specs.Sharing.{is_among, load, taken}
 use Rattle.sharing.specs.Offers.{id_cmp, Ascend, beside, relay_in}
 use Rattle.sharing.proofs.Orders.{id_itself, id_apart, head_sorted, tail_sorted, All-unmap}

@@ -10,7 +10,7 @@ use Rattle.std.specs.List.Sorted.{IsStrictlySortedBy}
 use Rattle.std.proofs.lemmas.Bool.{ne_eqb, eq-eqb, or_from, or_left, cases_lt, cases_eq, false≢true, false_from_ne_true}
 use Rattle.std.proofs.lemmas.Cmp.{ranked, nat_list_cmp_total, on_total, tied_itself}
 use Rattle.std.proofs.lemmas.List.Elements.{All-from_recursion, recursion_from_All, All-push, All-tail, All-head, All-nil, All-cons, All-weaker}
-use Rattle.neg_codec.specs.declared.Id.{Id}
+use Rattle.item_key.specs.declared.Id.{Id}
 use Rattle.sharing.specs.Sharing.{is_among}
 use Rattle.sharing.specs.Offers.{id_cmp, is_id}
 use Rattle.sharing.proofs.Counting.{NoneTwice}

@@ -11,7 +11,7 @@
 #![tactic(auto)]
 
 ghost use Rattle.std.specs.Prelude.{◌≡◌, ◌≤◌, ◌<◌, ◌-◌, ◌*◌, ◌⊎◌, ◌↔◌, ℕ, List, length};
-ghost use Rattle.neg_codec.specs.declared.Id.{Id};
+ghost use Rattle.item_key.specs.declared.Id.{Id};
 ghost use Rattle.sharing.specs.Sharing.{IsSharing, taken, load, IsGreatest, Shows, NoneSmaller, alone};
 
 /// A relay is a number below this.

@@ -1,7 +1,7 @@
 //! A roll that has as many items as it takes.
 
+use item_key::{Id, Item};
 use item_roll::{Roll, RollFault};
-use neg_codec::{Id, Item};
 use std::alloc::{AllocError, Global};
 use std::test::*;
 

@@ -1,6 +1,6 @@
 //! Tables of as many ids as a table takes.
 
-use neg_codec::Id;
+use item_key::Id;
 use offer_table::{OfferFault, OfferTable};
 use std::alloc::{AllocError, Global};
 use std::collections::BTreeSet;

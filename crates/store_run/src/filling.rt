@@ -3,7 +3,7 @@
 //! The lines are read in parts. While the events of some parts are put into the store, those of the next ones are read, each part's
 //! by a thread of its own, and the text of those behind them.
 
-ghost use Rattle.std.specs.Prelude.{◌≤◌, length};
+ghost use Rattle.std.specs.Prelude.{◌≡◌, ◌≤◌, length};
 ghost use Rattle.std.specs.Thread.{IsSend, IsSync};
 
 use crate::refusal::{Refusal, read_refusal};
@@ -149,7 +149,9 @@ impl<B: Drop> Drop for Unread<B> {
 
 impl<B: Drop> Unread<B> {
     /// What stands behind the last line feed.
-    fn into_rest(self) -> Vec<u8> {
+    fn into_rest(self) -> Vec<u8>
+        ensures { result.items ≡ self.rest.items }
+    {
         let Self {
             lines: _,
             len: _,

@@ -4,9 +4,9 @@ use Rattle.std.specs.Arc.{arc_value}
 use Rattle.std.specs.declared.sync.Arc.{Arc as AnArc}
 use Rattle.std.specs.declared.alloc.Global.{Global}
 use Rattle.std.proofs.lemmas.List.{map-append}
-use Rattle.neg_codec.specs.declared.Id.{Id}
+use Rattle.item_key.specs.declared.Id.{Id}
 use Rattle.nostr_event.specs.EventView.{EventView}
-use Rattle.mirror_core.specs.Fetching.{Fetching, fetching, ids_of}
+use Rattle.event_source.specs.Fetching.{Fetching, fetching, ids_of}
 use Rattle.wire.specs.Line.{Line, Talk, talk_of}
 use Rattle.wire.specs.Talk.{Grows}
 use Rattle.wire.proofs.Growing.{prefix_self}

@@ -4,7 +4,5 @@ pub mod Linking
 pub mod Speaking
 pub mod Due
 pub mod Fetching
-pub mod Streams
-pub mod Cells
 pub mod Subscribing
 mod Failing

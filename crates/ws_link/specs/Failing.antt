@@ -3,9 +3,9 @@ use Rattle.std.specs.Prelude.{◌≡◌}
 use Rattle.neg_session.specs.Exchange.{Exchange}
 use Rattle.neg_session.specs.declared.peer.PeerFault.{PeerFault}
 use Rattle.neg_session.specs.declared.peer.PeerFault.TheVariants as peer
-use Rattle.mirror_core.specs.Fetching.{Fetching}
-use Rattle.mirror_core.specs.declared.source.SourceFault.{SourceFault}
-use Rattle.mirror_core.specs.declared.source.SourceFault.TheVariants as source
+use Rattle.event_source.specs.Fetching.{Fetching}
+use Rattle.event_source.specs.declared.source.SourceFault.{SourceFault}
+use Rattle.event_source.specs.declared.source.SourceFault.TheVariants as source
 use Rattle.ws_socket.specs.declared.fault.LinkFault.{LinkFault}
 use Rattle.ws_socket.specs.declared.fault.LinkFault.TheVariants.{Link, Refused, Wire, TooManyOthers, Memory}
 use Rattle.ws_link.specs.Wired.{Wired, failed_by, with_bytes_of}

@@ -1,7 +1,7 @@
 -- Which events were asked for over a stream, and which it gave.
 use Rattle.std.specs.Prelude.{◌≡◌, ◌⊎◌, ◌&&◌, ℕ, List, [], ◌∷◌, ◌++◌, map, Bool, not, if◌then◌else◌, Option, None, Some, bytes_eq, codes}
 use Rattle.std.specs.List.{list_any}
-use Rattle.neg_codec.specs.declared.Id.{Id}
+use Rattle.item_key.specs.declared.Id.{Id}
 use Rattle.nostr_event.specs.EventView.{EventView}
 use Rattle.nostr_filter.specs.declared.filter.Filter.{Filter}
 use Rattle.nostr_wire.specs.declared.messages.FromClient.TheVariants as client
@@ -9,7 +9,7 @@ use Rattle.nostr_wire.specs.declared.messages.FromRelay.TheVariants as relay
 use Rattle.nostr_wire.specs.Forms.{Form, client_form, event_form, relay_form, relay_table}
 use Rattle.nostr_wire.specs.Reading.{Reads}
 use Rattle.nostr_wire.specs.Writing.{text_of}
-use Rattle.mirror_core.specs.Fetching.{Fetching}
+use Rattle.event_source.specs.Fetching.{Fetching}
 use Rattle.websocket.specs.Content.{Content, text}
 use Rattle.wire.specs.Line.{Talk}
 use Rattle.wire.specs.Talk.{Says}

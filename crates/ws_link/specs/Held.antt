@@ -1,7 +1,7 @@
 -- What a link keeps of its stream.
 use Rattle.std.specs.Prelude.{◌≡◌, ℕ, List, [], ◌∷◌, Bool, Option, None, Some}
 use Rattle.neg_session.specs.Exchange.{Exchange}
-use Rattle.mirror_core.specs.Fetching.{Fetching}
+use Rattle.event_source.specs.Fetching.{Fetching}
 use Rattle.nostr_filter.specs.declared.filter.Filter.{Filter}
 use Rattle.wire.specs.Line.{Line, Talk, talk_of}
 use Rattle.ws_link.specs.Fetched.{AreFetched}

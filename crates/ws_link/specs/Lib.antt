@@ -6,5 +6,4 @@ pub mod Fetched
 pub mod Held
 pub mod Parts
 pub mod Taken
-pub mod Streams
 pub mod Live

@@ -1,6 +1,6 @@
 -- What a message says to a fetch, and what is kept of it.
 use Rattle.std.specs.Prelude.{◌≡◌, ⊤, List, Option, None}
-use Rattle.neg_codec.specs.declared.Id.{Id}
+use Rattle.item_key.specs.declared.Id.{Id}
 use Rattle.nostr_event.specs.EventView.{EventView}
 use Rattle.nostr_wire.specs.declared.messages.FromRelay.{FromRelay}
 use Rattle.nostr_wire.specs.Forms.{relay_form}

@@ -3,14 +3,12 @@
 
 mod client;
 mod head;
-mod laws;
 mod link;
 mod live;
 mod notes;
 mod peer;
 mod source;
 
-pub use laws::{cells_over_streams, plan_over_streams};
 pub use live::{Brought, WsSubscription};
 pub use notes::{Explains, Notes};
 pub use peer::WsPeer;

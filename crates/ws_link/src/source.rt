@@ -2,8 +2,8 @@
 ghost use Rattle.std.specs.Prelude.{◌≡◌, ◌≢◌, ◌⊎◌, ◌+◌, ◌<◌, ◌^◌, ◌-◌, [], ◌∷◌, ◌++◌, map, List, IfOk, IfErr, OnOk, OnErr, true, false, Some, None, Err, Ok};
 ghost use Rattle.std.specs.Arc.{arc_value};
 ghost use Rattle.std.specs.Option.{option_copied};
-ghost use Rattle.mirror_core.specs.Fetching.{Fetching, fetching, ids_of};
-ghost use Rattle.neg_codec.specs.declared.Id.{Id};
+ghost use Rattle.event_source.specs.Fetching.{Fetching, fetching, ids_of};
+ghost use Rattle.item_key.specs.declared.Id.{Id};
 ghost use Rattle.nostr_event.specs.EventView.{EventView};
 ghost use Rattle.nostr_wire.specs.Forms.{client_form};
 ghost use Rattle.nostr_wire.specs.Writing.{text_of};
@@ -18,9 +18,9 @@ ghost use Rattle.ws_link.specs.Taken.{Tells, MayTell, AreDue, TakesDue};
 use crate::client::{close, connected, copy_of, heard, named, say};
 use crate::link::Link;
 use crate::notes::{Explains, Notes};
+use event_source::{Fetch, Source, SourceFault};
 use event_text::EventScratch;
-use mirror_core::{Fetch, Source, SourceFault};
-use neg_codec::Id;
+use item_key::Id;
 use nostr_event::{Event, Text};
 use nostr_filter::{Bytes32List, Filter};
 use nostr_wire::{Filters, FromClient, FromRelay, Sub};
@@ -56,7 +56,7 @@ impl<S: Drop, K: Drop> Drop for WsSource<S, K> {
 impl<S, K> Model for WsSource<S, K> {
     ghost use Rattle.std.specs.Prelude.{None};
     ghost use Rattle.std.specs.Option.{is_some};
-    ghost use Rattle.mirror_core.specs.Fetching.{Fetching};
+    ghost use Rattle.event_source.specs.Fetching.{Fetching};
     ghost use Rattle.ws_link.specs.Wired.{Wired};
     ghost use Rattle.ws_link.specs.Held.{given_by, taken_by, StandsFetched};
 

@@ -5,7 +5,7 @@ use Rattle.std.specs.Arc.{arc_value}
 use mathlib.Core.List.{IsPrefix}
 use Rattle.event_list.proofs.Prefixes.{prefix_self, prefix_trans}
 use Rattle.event_store.specs.declared.desk.InsertFault.TheVariants.{Full, Memory}
-use Rattle.neg_codec.specs.declared.Id.{Id}
+use Rattle.item_key.specs.declared.Id.{Id}
 use Rattle.nostr_event.specs.EventView.{EventView}
 use Rattle.nostr_wire.specs.Forms.{Form, relay_form}
 use Rattle.relay_core.specs.declared.limits.RelayLimits.{RelayLimits}

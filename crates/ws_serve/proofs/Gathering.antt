@@ -7,7 +7,7 @@ use Rattle.std.specs.declared.alloc.Global.{Global}
 use Rattle.std.specs.declared.sync.Arc.{Arc}
 use mathlib.Core.List.{IsPrefix}
 use Rattle.event_list.proofs.Prefixes.{prefix_self, prefix_trans}
-use Rattle.neg_codec.specs.declared.Id.{Id}
+use Rattle.item_key.specs.declared.Id.{Id}
 use Rattle.nostr_event.specs.EventView.{EventView}
 use Rattle.nostr_wire.specs.Forms.{Form, relay_form}
 use Rattle.relay_core.specs.declared.limits.RelayLimits.{RelayLimits}

@@ -1,7 +1,7 @@
 -- What is said to a text.
 use Rattle.std.specs.Prelude.{◌≡◌, ◌⊎◌, ℕ, List, [], ◌∷◌, ◌++◌, Bool, false, Option, Some, None, codes}
 use mathlib.Core.List.{IsPrefix}
-use Rattle.neg_codec.specs.declared.Id.{Id}
+use Rattle.item_key.specs.declared.Id.{Id}
 use Rattle.nostr_event.specs.EventView.{EventView}
 use Rattle.nostr_wire.specs.Forms.{Form}
 use Rattle.relay_core.specs.declared.limits.RelayLimits.{RelayLimits}

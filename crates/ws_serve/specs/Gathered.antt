@@ -1,7 +1,7 @@
 -- Events that came together, and are still to be answered.
 use Rattle.std.specs.Prelude.{◌≡◌, ◌⊎◌, ⊤, ℕ, List, [], ◌∷◌, ◌++◌, map, Option, None, Some, Result, Ok, Err}
 use mathlib.Core.List.{IsPrefix}
-use Rattle.neg_codec.specs.declared.Id.{Id}
+use Rattle.item_key.specs.declared.Id.{Id}
 use Rattle.nostr_event.specs.EventView.{EventView}
 use Rattle.nostr_wire.specs.Forms.{Form}
 use Rattle.relay_core.specs.declared.limits.RelayLimits.{RelayLimits}

@@ -23,7 +23,7 @@ use crate::turns::{Turns, serve_text};
 use event_log::{Keeper, Kept};
 use event_store::{Desk, InsertFault, Naming, Placed, Reader};
 use event_text::EventScratch;
-use neg_codec::Id;
+use item_key::Id;
 use nostr_event::Event;
 use nostr_wire::FromRelay;
 use relay_core::{Conn, Step, StoringFault};

@@ -1,6 +1,6 @@
 use Rattle.std.proofs.Common.{◌≤◌, ap, sym, subst, ◌∙◌}
 use Rattle.std.specs.Prelude.{slice_range}
-use Rattle.neg_codec.specs.Keys.{place, IsKey}
+use Rattle.item_key.specs.Keys.{place, IsKey}
 use Rattle.neg_codec.specs.Ranges.{edge_of}
 use Rattle.item_roll.specs.Parts.{ids_of}
 use Rattle.event_table.proofs.Asked.{part_within, not_below}

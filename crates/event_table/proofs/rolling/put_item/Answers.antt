@@ -1,6 +1,6 @@
 use Rattle.std.proofs.Common.{sym, subst, List, [], ◌∷◌, ◌++◌}
 use Rattle.std.specs.Prelude.{IsPermutation}
-use Rattle.neg_codec.specs.declared.Item.{Item}
+use Rattle.item_key.specs.declared.Item.{Item}
 use Rattle.event_table.proofs.Stands.{item_push}
 use Rattle.event_table.proofs.rolling.put_item.Goals as goal
 

@@ -2,7 +2,7 @@ use Rattle.std.proofs.Common.{arith, map, take, List, ◌++◌, subst}
 use Rattle.std.specs.Prelude.{IsPermutation}
 use Rattle.std.proofs.lemmas.List.{take_all}
 use Rattle.std.proofs.lemmas.List.Sorted.{IsPermutation-trans}
-use Rattle.neg_codec.specs.declared.Item.{Item}
+use Rattle.item_key.specs.declared.Item.{Item}
 use Rattle.nostr_event.specs.EventView.{item_of}
 use Rattle.event_table.proofs.rolling.put_items.Goals as goal
 

@@ -1,6 +1,6 @@
 use Rattle.std.proofs.Common.{sym, subst, map, List, ◌∙◌}
 use Rattle.std.specs.Prelude.{IsPermutation}
-use Rattle.neg_codec.specs.declared.Item.{Item}
+use Rattle.item_key.specs.declared.Item.{Item}
 use Rattle.nostr_event.specs.EventView.{item_of}
 use Rattle.event_table.specs.States.{IsRolled}
 use Rattle.event_table.proofs.rolling.roll_of_all.Goals as goal

@@ -1,6 +1,6 @@
 use Rattle.std.proofs.Common.{◌≡◌, ◌<◌, ◌≤◌, ℕ, List, ap, subst, sym, ◌∙◌}
-use Rattle.neg_codec.specs.declared.Item.{Item}
-use Rattle.neg_codec.specs.Keys.{place, item_of}
+use Rattle.item_key.specs.declared.Item.{Item}
+use Rattle.item_key.specs.Keys.{place, item_of}
 use Rattle.item_roll.specs.Splits.{minimal_bound_of}
 use Rattle.item_roll.proofs.Bounds.{ids_order, bound_same, bound_other, bound_between}
 use Rattle.item_roll.proofs.bound.minimal_bound.Goals as goal

@@ -1,6 +1,6 @@
 use Rattle.std.proofs.Common.{◌≡◌, ◌≤◌, List, length, refl, arith}
 use Rattle.std.specs.Prelude.{Option, Some, None, MatchOption}
-use Rattle.neg_codec.specs.declared.Item.{Item}
+use Rattle.item_key.specs.declared.Item.{Item}
 use Rattle.item_roll.proofs.Kept.{placed, room_in, at_entry, told_many}
 use Rattle.item_roll.proofs.Grows.{told_few}
 use Rattle.item_roll.proofs.Halves.{cut_join, cut_tell, room_first, room_second}

@@ -1,5 +1,5 @@
 use Rattle.std.proofs.Common.{ℕ, ◌+◌, ◌%◌, ◌^◌, get_or, [], ap, sym, ◌∙◌}
-use Rattle.neg_codec.specs.Keys.{item_of}
+use Rattle.item_key.specs.Keys.{item_of}
 use Rattle.neg_print.specs.Print.{little_number}
 use Rattle.neg_print.specs.Total.{total_of}
 use Rattle.item_roll.proofs.Totals.{sum_more, sum_none}

@@ -1,4 +1,4 @@
-use Rattle.neg_codec.specs.Keys.{place}
+use Rattle.item_key.specs.Keys.{place}
 use Rattle.item_roll.proofs.Compare.{cmp_test}
 use Rattle.item_roll.proofs.order.is_before.Goals as goal
 

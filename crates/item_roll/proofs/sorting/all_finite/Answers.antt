@@ -1,5 +1,5 @@
 use Rattle.std.proofs.Common.{◌<◌, get_or, [], arith, rules}
-use Rattle.neg_codec.specs.Keys.{endless, item_of}
+use Rattle.item_key.specs.Keys.{endless, item_of}
 use Rattle.item_roll.proofs.Distinct.{keys_more}
 use Rattle.item_roll.proofs.sorting.all_finite.Goals as goal
 

@@ -1,6 +1,6 @@
 use Rattle.std.proofs.Common.{ℕ, ◌<◌, ◌+◌, get_or}
-use Rattle.neg_codec.specs.declared.Item.{Item}
-use Rattle.neg_codec.specs.Keys.{place}
+use Rattle.item_key.specs.declared.Item.{Item}
+use Rattle.item_key.specs.Keys.{place}
 use Rattle.item_roll.proofs.sorting.has_repeat.Given as goal
 
 abbrev pub invariant-loop-i : goal.invariant-loop-i

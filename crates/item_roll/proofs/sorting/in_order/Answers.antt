@@ -1,6 +1,6 @@
 use Rattle.std.proofs.Common.{rules}
 use Rattle.std.proofs.lemmas.List.Sorted.{IsNonDecreasingBy-from_sort_by}
-use Rattle.neg_codec.specs.Keys.{place}
+use Rattle.item_key.specs.Keys.{place}
 use Rattle.item_roll.proofs.sorting.in_order.Goals as goal
 
 pub returns-clause-rises : goal.returns-clause-rises

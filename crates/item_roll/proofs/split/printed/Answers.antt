@@ -1,6 +1,6 @@
 use Rattle.std.proofs.Common.{◌≡◌, ◌-◌, ℕ, List, arith, refl}
-use Rattle.neg_codec.specs.declared.Item.{Item}
-use Rattle.neg_codec.specs.Keys.{least}
+use Rattle.item_key.specs.declared.Item.{Item}
+use Rattle.item_key.specs.Keys.{least}
 use Rattle.neg_codec.specs.Ranges.{Span, print}
 use Rattle.item_roll.specs.Splits.{minimal_bound_of}
 use Rattle.item_roll.proofs.Truths.{got, key_at, order_at}

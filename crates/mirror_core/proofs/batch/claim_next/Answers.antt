@@ -1,5 +1,5 @@
 use Rattle.std.proofs.Common.{◌≡◌, ℕ, ◌+◌, List, Some, sym, ap, ◌∙◌, subst, arith}
-use Rattle.neg_codec.specs.declared.Id.{Id}
+use Rattle.item_key.specs.declared.Id.{Id}
 use Rattle.claim_board.specs.declared.records.LaneRecord.{LaneRecord}
 use Rattle.mirror_core.specs.Batches.{Batched}
 use Rattle.mirror_core.specs.Asked.{AreIdsOf}

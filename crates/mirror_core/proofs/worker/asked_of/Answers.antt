@@ -4,9 +4,9 @@ use Rattle.std.specs.Arc.{arc_value}
 use Rattle.std.specs.declared.sync.Arc.{Arc as AnArc}
 use Rattle.std.specs.declared.alloc.Global.{Global as AGlobal}
 use Rattle.std.proofs.lemmas.List.Elements.{All-push, Contains-get_or}
-use Rattle.neg_codec.specs.declared.Id.{Id}
+use Rattle.item_key.specs.declared.Id.{Id}
 use Rattle.nostr_event.specs.EventView.{EventView}
-use Rattle.mirror_core.specs.Fetching.{IsGiven, IsAsked}
+use Rattle.event_source.specs.Fetching.{IsGiven, IsAsked}
 use Rattle.mirror_core.proofs.worker.asked_of.Goals.{in-Some+in_ok-push, in_default}
 use Rattle.mirror_core.proofs.worker.asked_of.Goals as goal
 

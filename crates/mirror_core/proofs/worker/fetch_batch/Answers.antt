@@ -2,12 +2,12 @@ use Rattle.std.proofs.Common.{◌≡◌, ℕ, List, Result, Ok, Err, refl, sym, 
 use Rattle.std.specs.Prelude.{false, Contains, vec_len}
 use Rattle.std.proofs.lemmas.List.{nil_from_length}
 use Rattle.std.proofs.lemmas.Bool.{eqb-true}
-use Rattle.mirror_core.specs.Fetching.{ids_of}
+use Rattle.event_source.specs.Fetching.{ids_of}
+use Rattle.event_source.specs.declared.source.SourceFault.{SourceFault}
 use Rattle.mirror_core.proofs.Batches.{holds_none, cells_within, batched_clear}
 use Rattle.mirror_core.proofs.Logs.{logs_one, logs_none, told_by}
 use Rattle.event_store.specs.declared.desk.InsertFault.{InsertFault}
 use Rattle.event_store.specs.declared.desk.InsertFault.TheVariants as refused
-use Rattle.mirror_core.specs.declared.source.SourceFault.{SourceFault}
 use Rattle.mirror_core.specs.declared.worker.Stop.{Stop}
 use Rattle.mirror_core.specs.declared.worker.Stop.TheVariants as ended
 use Rattle.mirror_core.specs.Working.{is_through, stop_of}

@@ -3,7 +3,7 @@ use Rattle.std.specs.Prelude.{Contains}
 use Rattle.std.proofs.lemmas.List.{drop_more}
 use Rattle.std.proofs.Math.ListN.{drop_of_length-le}
 use Rattle.claim_board.proofs.Words.{in_first}
-use Rattle.mirror_core.specs.Fetching.{ids_of}
+use Rattle.event_source.specs.Fetching.{ids_of}
 use Rattle.mirror_core.specs.Batches.{Batched}
 use Rattle.mirror_core.proofs.Batches.{holds_none, cell_within, cells_within, batched_ended, batched_clear, settles_ended, settles_none, settles_then, same_then}
 use Rattle.mirror_core.proofs.worker.settle.Goals as goal

@@ -1,5 +1,5 @@
 use Rattle.std.proofs.Common.{◌≡◌, drop}
-use Rattle.mirror_core.specs.Fetching.{ids_of}
+use Rattle.event_source.specs.Fetching.{ids_of}
 use Rattle.mirror_core.specs.Batches.{Batched, SameLane, Settles}
 use Rattle.mirror_core.proofs.worker.settle.Given as goal
 

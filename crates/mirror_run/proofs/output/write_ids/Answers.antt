@@ -3,7 +3,7 @@ use Rattle.std.specs.List.{flat_map}
 use Rattle.std.specs.Map.Iter.{deref}
 use Rattle.std.proofs.lemmas.Map.Iter.{iter_end}
 use Rattle.std.proofs.lemmas.List.{map-append}
-use Rattle.neg_codec.specs.declared.Id.{Id}
+use Rattle.item_key.specs.declared.Id.{Id}
 use Rattle.mirror_run.specs.ReconText.{message_text, count_text}
 use Rattle.mirror_run.proofs.OutputLemmas.{Appends-both, Appends-same, flat_map-push}
 use Rattle.mirror_run.proofs.output.write_ids.Goals as goal

@@ -2,7 +2,7 @@ use Rattle.std.proofs.Common.{◌≡◌, take}
 use Rattle.std.specs.List.{list_any}
 use Rattle.std.specs.BTreeSet.{contains}
 use Rattle.std.specs.Ordering.{eq_by_cmp}
-use Rattle.neg_codec.specs.declared.Item.{Item}
+use Rattle.item_key.specs.declared.Item.{Item}
 use Rattle.mirror_run.specs.Placing.{IsTaken}
 use Rattle.mirror_run.proofs.PlacingLemmas.{order}
 use Rattle.mirror_run.proofs.placing.first_refused.Given as goal

@@ -2,8 +2,8 @@ use Rattle.std.proofs.Common.{List, subst}
 use Rattle.std.specs.Prelude.{All}
 use Rattle.std.proofs.lemmas.List.{take_all}
 use Rattle.std.proofs.lemmas.List.Elements.{All-more}
-use Rattle.neg_codec.specs.declared.Id.{Id}
-use Rattle.neg_codec.specs.Keys.{IsId}
+use Rattle.item_key.specs.declared.Id.{Id}
+use Rattle.item_key.specs.Keys.{IsId}
 use Rattle.neg_codec.proofs.message.ids_have_their_lengths.Goals as goal
 
 pub loop-id-preserved : goal.loop-id-preserved

@@ -2,7 +2,7 @@ use Rattle.std.proofs.Common.{◌≡◌, ◌<◌, ℕ, List, [], length, arith, 
 use Rattle.std.proofs.lemmas.Result.{err_from_is_err_and}
 use Rattle.std.proofs.lemmas.Bool.{eqb-true, eqb-false}
 use Rattle.std.proofs.lemmas.List.{map_push, nil_from_length}
-use Rattle.neg_codec.specs.Keys.{least}
+use Rattle.item_key.specs.Keys.{least}
 use Rattle.neg_codec.specs.Ranges.{span_of, edge_of}
 use Rattle.neg_codec.specs.Reading.{ranges_at}
 use Rattle.neg_codec.proofs.Loop.{GoesOn, goes_on, ends, is_done}

@@ -1,5 +1,5 @@
 use Rattle.std.proofs.Common.{rules, ap, ◌∙◌}
-use Rattle.neg_codec.specs.declared.Item.{Item}
+use Rattle.item_key.specs.declared.Item.{Item}
 use Rattle.neg_codec.proofs.Lengths.{key_sum}
 use Rattle.neg_codec.proofs.sizes.key_len.Goals as goal
 

@@ -1,8 +1,8 @@
 use Rattle.std.proofs.Common.{rules, ◌≡◌, ℕ, List, ap, subst, sym, ◌∙◌, length, arith}
 use Rattle.std.specs.Prelude.{All}
 use Rattle.neg_varint.specs.Spelling.{spelling}
-use Rattle.neg_codec.specs.declared.Id.{Id}
-use Rattle.neg_codec.specs.Keys.{IsId}
+use Rattle.item_key.specs.declared.Id.{Id}
+use Rattle.item_key.specs.Keys.{IsId}
 use Rattle.neg_codec.specs.Ranges.{Claim, ids, claim_of}
 use Rattle.neg_codec.specs.Encoding.{claim_text, IsShort}
 use Rattle.neg_codec.proofs.Lengths.{skip_len, print_len, ids_parts}

@@ -2,7 +2,7 @@ use Rattle.std.proofs.Common.{◌≡◌, ℕ, ◌+◌, List, [], drop, map, sym,
 use Rattle.std.specs.Prelude.{All}
 use Rattle.std.proofs.Math.ListN.{drop_of_length-le}
 use Rattle.std.proofs.lemmas.List.{length-map}
-use Rattle.neg_codec.specs.Keys.{least}
+use Rattle.item_key.specs.Keys.{least}
 use Rattle.neg_codec.specs.Ranges.{Span, Ascends, IsSpan, span_of}
 use Rattle.neg_codec.specs.Text.{Spells}
 use Rattle.neg_codec.specs.Encoding.{text_of}

@@ -1,6 +1,6 @@
 use Rattle.std.proofs.Common.{◌≤◌, length, [], arith}
 use Rattle.std.proofs.lemmas.List.{take_all}
-use Rattle.neg_codec.specs.declared.Id.{Id}
+use Rattle.item_key.specs.declared.Id.{Id}
 use Rattle.neg_initiator.proofs.Noting.{notes_none, notes_more}
 use Rattle.neg_initiator.specs.Lookups.{looked_up, ids_in}
 use Rattle.neg_initiator.proofs.found.note_all.Goals as goal

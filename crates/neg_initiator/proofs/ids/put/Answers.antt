@@ -1,7 +1,7 @@
 use Rattle.std.proofs.Common.{inl, inr, sym, subst}
 use Rattle.std.specs.Prelude.{Contains}
 use Rattle.std.specs.BTreeSet.{insert_key}
-use Rattle.neg_codec.specs.declared.Id.{Id}
+use Rattle.item_key.specs.declared.Id.{Id}
 use Rattle.neg_initiator.specs.Ids.{id_cmp}
 use Rattle.neg_initiator.proofs.Keys.{put_gives, put_keeps, put_there}
 use Rattle.neg_initiator.proofs.ids.put.Goals as goal

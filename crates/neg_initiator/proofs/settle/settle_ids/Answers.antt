@@ -1,5 +1,5 @@
 use Rattle.std.proofs.Common.{◌≡◌, List, ap, sym, ◌∙◌, map}
-use Rattle.neg_codec.specs.declared.Item.{Item}
+use Rattle.item_key.specs.declared.Item.{Item}
 use Rattle.neg_codec.specs.Ranges.{edge_of}
 use Rattle.item_roll.specs.Parts.{part, ids_of}
 use Rattle.neg_initiator.specs.Pairs.{pair_of}

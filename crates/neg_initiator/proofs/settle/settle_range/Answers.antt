@@ -1,6 +1,6 @@
 use Rattle.std.proofs.Common.{◌≡◌, ◌<◌, ◌≤◌, ℕ, List, Bool, false, ap, inl, map, refl, subst, sym, ◌∙◌, arith}
 use Rattle.std.specs.Prelude.{◌↔◌, IsTrue}
-use Rattle.neg_codec.specs.declared.Item.{Item}
+use Rattle.item_key.specs.declared.Item.{Item}
 use Rattle.neg_draft.specs.Coverage.{passed}
 use Rattle.neg_codec.specs.Ranges.{Claim, Span, skip, edge_of, span_of, claim_of}
 use Rattle.neg_initiator.specs.Findings.{findings_of}

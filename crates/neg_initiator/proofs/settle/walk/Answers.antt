@@ -1,6 +1,6 @@
 use Rattle.std.proofs.Common.{◌<◌, ◌≤◌, [], ◌∷◌, length, map, take, refl, sym, ap, ◌∙◌, arith}
 use Rattle.std.proofs.lemmas.List.{take_all}
-use Rattle.neg_codec.specs.Keys.{place, least}
+use Rattle.item_key.specs.Keys.{place, least}
 use Rattle.neg_codec.specs.Ranges.{Ascends, span_of}
 use Rattle.neg_draft.proofs.Covering.{end-append}
 use Rattle.neg_draft.proofs.Walking.{ranges_upto}

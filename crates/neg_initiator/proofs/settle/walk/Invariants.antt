@@ -1,5 +1,5 @@
 use Rattle.std.proofs.Common.{◌≡◌, take, map}
-use Rattle.neg_codec.specs.Keys.{least}
+use Rattle.item_key.specs.Keys.{least}
 use Rattle.neg_codec.specs.Ranges.{edge_of, span_of}
 use Rattle.neg_draft.specs.Coverage.{end_of}
 use Rattle.neg_initiator.specs.Findings.{findings_of}

@@ -2,7 +2,7 @@ use Rattle.std.proofs.Common.{◌≡◌, ℕ, ◌<◌, ◌≤◌, ◌++◌, IsTr
 use Rattle.std.proofs.lemmas.Bool.{cases_lt}
 use Rattle.std.proofs.Math.Seq.{take-length}
 use Rattle.std.proofs.lemmas.List.{take_all}
-use Rattle.neg_codec.specs.Keys.{place}
+use Rattle.item_key.specs.Keys.{place}
 use Rattle.neg_codec.specs.Ranges.{Span, Ascends, edge_of, span_of}
 use Rattle.neg_draft.proofs.Walking.{ranges_at, ranges_upto}
 use Rattle.neg_initiator.specs.Trusting.{between}

@@ -1,5 +1,5 @@
 use Rattle.std.proofs.Common.{ap, arith}
-use Rattle.neg_codec.specs.Keys.{place}
+use Rattle.item_key.specs.Keys.{place}
 use Rattle.neg_codec.specs.Ranges.{edge_of}
 use Rattle.neg_draft.proofs.Covering.{edge_low}
 use Rattle.neg_initiator.proofs.trust.trust.Goals as goal

@@ -1,6 +1,6 @@
 use Rattle.std.proofs.Common.{◌≡◌, ◌<◌, ◌≤◌, ◌++◌, List, [], ◌∷◌, length, map, take, drop, suc, sym, ap, subst, ◌∙◌, arith}
 use Rattle.std.proofs.lemmas.List.{take_all, take-append-drop, map-append}
-use Rattle.neg_codec.specs.Keys.{place, least}
+use Rattle.item_key.specs.Keys.{place, least}
 use Rattle.neg_codec.specs.Ranges.{Span, Ascends, edge_of, span_of}
 use Rattle.item_roll.specs.Closed.{closed_from}
 use Rattle.neg_draft.proofs.Covering.{end-append}

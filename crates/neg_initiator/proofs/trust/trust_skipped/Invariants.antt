@@ -1,5 +1,5 @@
 use Rattle.std.proofs.Common.{◌≡◌, ◌≤◌, take, map}
-use Rattle.neg_codec.specs.Keys.{place, least}
+use Rattle.item_key.specs.Keys.{place, least}
 use Rattle.neg_codec.specs.Ranges.{edge_of, span_of}
 use Rattle.item_roll.specs.Closed.{closed_from}
 use Rattle.neg_draft.specs.Coverage.{end_of}

@@ -1,11 +1,11 @@
 use Rattle.std.proofs.Common.{ℕ, ◌≡◌, ◌+◌, ◌-◌, ◌≤◌, List, refl, sym, subst, map, length, ap, arith}
 use Rattle.std.specs.Prelude.{All}
-use Rattle.neg_codec.specs.declared.Item.{Item}
+use Rattle.item_key.specs.declared.Item.{Item}
 use Rattle.neg_codec.specs.declared.Range.{Range}
 use Rattle.item_roll.specs.Truth.{Follows}
 use Rattle.neg_codec.specs.Ranges.{Span, Ascends, IsSpan, span_of}
 use Rattle.neg_codec.specs.Encoding.{text_of}
-use Rattle.neg_codec.specs.Keys.{least, infinity}
+use Rattle.item_key.specs.Keys.{least, infinity}
 use Rattle.neg_draft.specs.Coverage.{passed, NoneEmpty, SkipsJoined}
 use Rattle.neg_responder.specs.Reply.{SkipsSame, TellsOthers, IsReply}
 use Rattle.neg_responder.proofs.Replying.{replied_none, replied_at, replied_whole, replied_others, replied_over}

@@ -8,8 +8,8 @@ use Rattle.json.specs.Tree as tree
 use Rattle.serde_json.specs.Read.{max_depth}
 use Rattle.serde_json.specs.Written.{outline}
 use Rattle.serde_json.proofs.Texts.{print-outline}
-use Rattle.neg_codec.specs.declared.Id.{Id}
-use Rattle.neg_codec.specs.Keys.{IsId}
+use Rattle.item_key.specs.declared.Id.{Id}
+use Rattle.item_key.specs.Keys.{IsId}
 use Rattle.nostr_wire.specs.Forms.{okay_form, relay_table}
 use Rattle.nostr_wire.specs.Reading.{Reads}
 use Rattle.nostr_wire.specs.Writing.{array_of, text_of}

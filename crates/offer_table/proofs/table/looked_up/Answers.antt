@@ -1,7 +1,7 @@
 use Rattle.std.proofs.Common.{◌≡◌, ℕ, List, [], Result, Some, None, get_or, rules, sym, ap, ◌∙◌, subst}
 use Rattle.std.specs.Prelude.{MatchResult, unwrap_or}
 use Rattle.std.proofs.lemmas.List.Sorted.{answers_always}
-use Rattle.neg_codec.specs.declared.Id.{Id}
+use Rattle.item_key.specs.declared.Id.{Id}
 use Rattle.sharing.specs.Offers.{beside}
 use Rattle.offer_table.proofs.Runs.{id_of}
 use Rattle.sharing.proofs.Searched.{looked}

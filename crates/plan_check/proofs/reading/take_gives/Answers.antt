@@ -1,6 +1,6 @@
 use Rattle.std.proofs.Common.{◌≡◌, ◌++◌, ◌∷◌, [], ℕ, sym, ap}
 use Rattle.std.proofs.lemmas.List.Elements.{All-push}
-use Rattle.neg_codec.specs.declared.Id.{Id}
+use Rattle.item_key.specs.declared.Id.{Id}
 use Rattle.plan_check.specs.TextLines.{ended}
 use Rattle.plan_check.specs.PlanText.{give_line, IsGive}
 use Rattle.plan_check.proofs.KindLemmas.{more_lines}

@@ -1,7 +1,7 @@
 use Rattle.std.proofs.Common.{◌≡◌, ◌∙◌, ap, sym, ℕ, List, arith}
 use Rattle.std.specs.Global.{Vec}
 use Rattle.std.specs.List.{All, list_all}
-use Rattle.neg_codec.specs.declared.Id.{Id}
+use Rattle.item_key.specs.declared.Id.{Id}
 use Rattle.sharing.specs.Sharing.{is_among}
 use Rattle.sharing.specs.Offers.{AreRelays}
 use Rattle.sharing.proofs.Orders.{All-unmap}

@@ -2,7 +2,7 @@ use Rattle.std.proofs.Common.{◌≡◌, ℕ, List, [], Result, Some, None, get_
 use Rattle.std.specs.Prelude.{MatchResult, is_some, is_ok, Ok, Err}
 use Rattle.std.specs.Ordering.{is_eq}
 use Rattle.std.proofs.lemmas.List.Sorted.{answers_always}
-use Rattle.neg_codec.specs.declared.Id.{Id}
+use Rattle.item_key.specs.declared.Id.{Id}
 use Rattle.sharing.specs.Offers.{beside}
 use Rattle.sharing.proofs.Orders.{same_id}
 use Rattle.sharing.proofs.Looks.{found_itself}

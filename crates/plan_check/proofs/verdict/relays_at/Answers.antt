@@ -6,7 +6,7 @@ use Rattle.std.specs.List.Sorted.{IsSearchInRange, IsBinarySearchResult}
 use Rattle.std.proofs.lemmas.List.{get_or_default}
 use Rattle.std.proofs.lemmas.List.Sorted.{answers_always}
 use Rattle.std.proofs.lemmas.Map.Made.{lookup-map_values}
-use Rattle.neg_codec.specs.declared.Id.{Id}
+use Rattle.item_key.specs.declared.Id.{Id}
 use Rattle.sharing.specs.Offers.{id_cmp, is_id, Ascend, beside}
 use Rattle.sharing.proofs.Orders.{same_id}
 use Rattle.sharing.proofs.Looks.{map_twice, found_itself}

@@ -1,6 +1,6 @@
 use Rattle.std.proofs.Common.{◌≡◌, ◌++◌, ℕ, List, flat_map, ap, ◌∙◌, subst, All}
-use Rattle.neg_codec.specs.declared.Id.{Id}
-use Rattle.neg_codec.specs.Keys.{IsId}
+use Rattle.item_key.specs.declared.Id.{Id}
+use Rattle.item_key.specs.Keys.{IsId}
 use Rattle.plan_check.specs.TextLines.{ended}
 use Rattle.plan_check.specs.PlanText.{header_line, plan_text}
 use Rattle.plan_check.proofs.FormLemmas.{based, offered, given, grouped}

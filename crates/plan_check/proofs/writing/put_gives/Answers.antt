@@ -1,5 +1,5 @@
 use Rattle.std.proofs.Common.{arith, ap, ◌∙◌, ◌++◌, ℕ, List}
-use Rattle.neg_codec.specs.Keys.{IsId}
+use Rattle.item_key.specs.Keys.{IsId}
 use Rattle.plan_check.proofs.FormLemmas.{given}
 use Rattle.plan_check.proofs.WriteLemmas.{written_more, all_more}
 use Rattle.plan_check.proofs.writing.put_gives.Goals as goal

@@ -1,7 +1,7 @@
 use Rattle.std.proofs.Common.{ap, sym, ◌∙◌, ◌++◌, ℕ, List, arith, subst}
 use Rattle.std.specs.Global.{Vec}
-use Rattle.neg_codec.specs.declared.Id.{Id}
-use Rattle.neg_codec.specs.Keys.{IsId}
+use Rattle.item_key.specs.declared.Id.{Id}
+use Rattle.item_key.specs.Keys.{IsId}
 use Rattle.sharing.specs.Offers.{AreRelays}
 use Rattle.sharing.proofs.Orders.{All-unmap}
 use Rattle.plan_check.proofs.FormLemmas.{offered}

@@ -1,5 +1,5 @@
 use Rattle.std.proofs.Common.{◌≡◌, ◌++◌, take, flat_map, All}
-use Rattle.neg_codec.specs.Keys.{IsId}
+use Rattle.item_key.specs.Keys.{IsId}
 use Rattle.plan_check.specs.File.{pairs_of}
 use Rattle.plan_check.specs.TextLines.{ended}
 use Rattle.plan_check.specs.PlanText.{offer_line}

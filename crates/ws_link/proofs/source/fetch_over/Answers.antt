@@ -3,7 +3,7 @@ use Rattle.std.proofs.lemmas.Result.{IfOk-from_err}
 use Rattle.std.specs.declared.alloc.Global.{Global}
 use Rattle.std.specs.declared.sync.Arc.{Arc as AnArc}
 use Rattle.nostr_event.specs.EventView.{EventView}
-use Rattle.mirror_core.specs.Fetching.{Fetching, fetching, ids_of}
+use Rattle.event_source.specs.Fetching.{Fetching, fetching, ids_of}
 use Rattle.wire.specs.Line.{talk_of}
 use Rattle.wire.proofs.Growing.{grows_chain}
 use Rattle.ws_link.proofs.Failing.{on_err_also}

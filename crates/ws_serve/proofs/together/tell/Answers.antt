@@ -1,6 +1,6 @@
 use Rattle.std.proofs.Common.{◌≡◌, subst, rules}
 use Rattle.std.specs.Prelude.{OnErr}
-use Rattle.neg_codec.specs.declared.Id.{Id}
+use Rattle.item_key.specs.declared.Id.{Id}
 use Rattle.ws_serve.specs.Gathered.{MaySayOf}
 use Rattle.ws_serve.proofs.together.tell.Goals as goal
 

@@ -1,6 +1,6 @@
 use Rattle.std.proofs.Common.{ℕ, List, sym, ap, ◌∙◌, get_or}
 use Rattle.std.proofs.lemmas.List.{get_or-map}
-use Rattle.neg_codec.specs.declared.Id.{Id}
+use Rattle.item_key.specs.declared.Id.{Id}
 use Rattle.claim_board.specs.Views.{BoardView}
 use Rattle.claim_board.proofs.board.Board.cell.Goals as goal
 

@@ -1,6 +1,6 @@
 use Rattle.std.proofs.Common.{◌≡◌, length, ℕ, List, ap, ◌∙◌, arith, get_or}
 use lib.ListN.{length-map}
-use Rattle.neg_codec.specs.declared.Id.{Id}
+use Rattle.item_key.specs.declared.Id.{Id}
 use Rattle.claim_board.specs.declared.records.Layout.{Layout}
 use Rattle.claim_board.proofs.Cuts.{starts}
 use Rattle.claim_board.proofs.Deals.{all_zero}

@@ -1,7 +1,7 @@
 use Rattle.std.proofs.Common.{◌≡◌, ℕ, ◌+◌, ◌∷◌, ◌++◌, [], length, false, subst, ◌∙◌, ap}
 use Rattle.std.specs.Prelude.{IfOk}
 use Rattle.std.specs.Arc.{arc_value}
-use Rattle.neg_codec.specs.declared.Id.{Id}
+use Rattle.item_key.specs.declared.Id.{Id}
 use Rattle.nostr_event.specs.EventView.{EventView}
 use Rattle.id_map.specs.Places.{SetsPlace}
 use Rattle.newest.specs.Newest.{AreOf}

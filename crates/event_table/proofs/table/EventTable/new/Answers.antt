@@ -1,7 +1,7 @@
 use Rattle.std.proofs.Common.{sym, subst, List, []}
 use Rattle.std.specs.Prelude.{IsPermutation}
 use Rattle.std.specs.Arc.{arc_value}
-use Rattle.neg_codec.specs.declared.Item.{Item}
+use Rattle.item_key.specs.declared.Item.{Item}
 use Rattle.event_index.specs.Postings.{Covered, Covers}
 use Rattle.event_table.proofs.Stands.{nothing_stands}
 use Rattle.event_table.proofs.table.EventTable.new.Goals as goal

@@ -1,7 +1,7 @@
 use Rattle.std.proofs.Common.{◌≡◌, ℕ, List, Result, Some, None, get_or, map, rules, sym, ap, ◌∙◌, subst}
 use Rattle.std.specs.Prelude.{MatchResult}
 use Rattle.std.proofs.lemmas.List.Sorted.{answers_always}
-use Rattle.neg_codec.specs.declared.Id.{Id}
+use Rattle.item_key.specs.declared.Id.{Id}
 use Rattle.sharing.specs.Offers.{Ascend, beside}
 use Rattle.sharing.proofs.Searched.{looked}
 use Rattle.fetch_plan.proofs.outcome.Plan.relay_of.Goals as goal

@@ -1,6 +1,6 @@
 use Rattle.std.proofs.Common.{◌≡◌, ℕ, ◌+◌, ◌*◌, ◌%◌, ◌^◌, ap, sym, ◌∙◌, List, length, take, arith}
 use Rattle.std.specs.List.{insert}
-use Rattle.neg_codec.specs.declared.Item.{Item}
+use Rattle.item_key.specs.declared.Item.{Item}
 use Rattle.neg_print.specs.Total.{total_of}
 use Rattle.item_roll.specs.Sums.{sum_at}
 use Rattle.item_roll.proofs.Totals.{sum_insert}

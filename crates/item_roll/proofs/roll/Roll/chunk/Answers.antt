@@ -1,5 +1,5 @@
 use Rattle.std.proofs.Common.{List, ◌<◌, length, arith, subst}
-use Rattle.neg_codec.specs.declared.Item.{Item}
+use Rattle.item_key.specs.declared.Item.{Item}
 use Rattle.item_roll.specs.Halves.{IsNumbered}
 use Rattle.item_roll.proofs.Kept.{next_is}
 use Rattle.item_roll.proofs.Numbered.{parts_many, numbered, numbered_in}

@@ -1,5 +1,5 @@
 use Rattle.std.proofs.Common.{List, ◌+◌, length, ap, arith}
-use Rattle.neg_codec.specs.declared.Item.{Item}
+use Rattle.item_key.specs.declared.Item.{Item}
 use Rattle.item_roll.proofs.Kept.{next_is, starts_most}
 use Rattle.item_roll.proofs.roll.Roll.chunks.Goals as goal
 

@@ -1,5 +1,5 @@
 use Rattle.std.proofs.Common.{◌≤◌, ◌*◌, List}
-use Rattle.neg_codec.specs.declared.Item.{Item}
+use Rattle.item_key.specs.declared.Item.{Item}
 use Rattle.item_roll.specs.Chunks.{starts}
 use Rattle.item_roll.proofs.roll.Roll.chunks.Given as goal
 

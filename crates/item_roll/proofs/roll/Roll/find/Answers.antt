@@ -1,6 +1,6 @@
 use Rattle.std.proofs.Common.{◌≡◌, ℕ, ap, sym, ◌∙◌}
 use Rattle.std.specs.List.{slice_range}
-use Rattle.neg_codec.specs.declared.Item.{Item}
+use Rattle.item_key.specs.declared.Item.{Item}
 use Rattle.neg_codec.specs.Ranges.{edge_of}
 use Rattle.item_roll.specs.Parts.{count_below}
 use Rattle.item_roll.proofs.Cuts.{part_is}

@@ -1,8 +1,8 @@
 use Rattle.std.proofs.Common.{◌≡◌, List, refl, sym, subst, arith}
 use Rattle.std.specs.List.{All}
 use Rattle.std.proofs.lemmas.List.Sorted.{All-permutation, IsPermutation-sym}
-use Rattle.neg_codec.specs.declared.Item.{Item}
-use Rattle.neg_codec.specs.Keys.{IsKey}
+use Rattle.item_key.specs.declared.Item.{Item}
+use Rattle.item_key.specs.Keys.{IsKey}
 use Rattle.item_roll.specs.Repeats.{HasRepeat, IsFinite}
 use Rattle.item_roll.proofs.Distinct.{twice_permuted, sorted_roll, never_twice, sorted_len}
 use Rattle.item_roll.proofs.roll.Roll.from_vec.Goals as goal

@@ -1,7 +1,7 @@
 use Rattle.std.proofs.Common.{◌+◌, ◌++◌, List, length, ap, ◌∙◌, arith}
 use Rattle.std.specs.List.{slice_range}
-use Rattle.neg_codec.specs.declared.Id.{Id}
-use Rattle.neg_codec.specs.declared.Item.{Item}
+use Rattle.item_key.specs.declared.Id.{Id}
+use Rattle.item_key.specs.declared.Item.{Item}
 use Rattle.item_roll.specs.Parts.{ids_of}
 use Rattle.item_roll.proofs.Pieces.{ids_join}
 use Rattle.item_roll.proofs.roll.Roll.ids.Goals as goal

@@ -1,5 +1,5 @@
 use Rattle.std.proofs.Common.{◌<◌, ◌∙◌, rules}
-use Rattle.neg_codec.specs.Keys.{endless}
+use Rattle.item_key.specs.Keys.{endless}
 use Rattle.item_roll.specs.Parts.{IsRoll}
 use Rattle.std.proofs.Common.{subst}
 use Rattle.item_roll.proofs.Inserts.{inserted_is}

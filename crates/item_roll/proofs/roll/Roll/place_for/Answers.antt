@@ -1,5 +1,5 @@
 use Rattle.std.proofs.Common.{length, ap, sym, ◌∙◌, arith}
-use Rattle.neg_codec.specs.Keys.{least}
+use Rattle.item_key.specs.Keys.{least}
 use Rattle.item_roll.proofs.Truths.{got}
 use Rattle.item_roll.proofs.Inserts.{gap_at_end, gap_before, stands_there}
 use Rattle.item_roll.proofs.roll.Roll.place_for.Goals as goal

@@ -1,7 +1,7 @@
 use Rattle.std.proofs.Common.{List, length, ◌≤◌, ◌<◌, sym, subst, arith}
 use Rattle.std.specs.Prelude.{OnOk, OnErr, Ok, Err, Result}
 use Rattle.std.proofs.lemmas.List.Edits.{length-insert}
-use Rattle.neg_codec.specs.declared.Item.{Item}
+use Rattle.item_key.specs.declared.Item.{Item}
 use Rattle.item_roll.specs.Parts.{IsRoll}
 use Rattle.item_roll.specs.Gaps.{IsGap}
 use Rattle.item_roll.proofs.Inserts.{inserted_roll}

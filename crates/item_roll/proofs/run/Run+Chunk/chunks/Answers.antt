@@ -1,5 +1,5 @@
 use Rattle.std.proofs.Common.{List, arith}
-use Rattle.neg_codec.specs.declared.Item.{Item}
+use Rattle.item_key.specs.declared.Item.{Item}
 use Rattle.item_roll.proofs.Kept.{told_many}
 use Rattle.item_roll.proofs.run.Run+Chunk.chunks.Goals as goal
 

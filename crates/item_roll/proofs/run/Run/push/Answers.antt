@@ -1,6 +1,6 @@
 use Rattle.std.proofs.Common.{◌+◌, ◌++◌, ◌≤◌, ◌%◌, ◌^◌, ℕ, List, length, refl, ap, sym, subst, ◌∙◌}
 use Rattle.std.specs.Arc.{arc_value}
-use Rattle.neg_codec.specs.declared.Item.{Item}
+use Rattle.item_key.specs.declared.Item.{Item}
 use Rattle.neg_print.specs.Total.{total_of}
 use Rattle.item_roll.proofs.Pushes.{kept_push}
 use Rattle.item_roll.proofs.run.Run.push.Goals as goal

@@ -5,9 +5,9 @@ use Rattle.std.specs.declared.alloc.Global.{Global as AGlobal}
 use Rattle.std.specs.Prelude.{slice_get}
 use Rattle.std.proofs.lemmas.List.{length-map}
 use Rattle.std.proofs.lemmas.Option.{slice_get-get_or}
-use Rattle.neg_codec.specs.declared.Id.{Id}
+use Rattle.item_key.specs.declared.Id.{Id}
 use Rattle.nostr_event.specs.EventView.{EventView}
-use Rattle.mirror_core.specs.Fetching.{ids_of}
+use Rattle.event_source.specs.Fetching.{ids_of}
 use Rattle.mirror_core.proofs.Given.{id_at}
 use Rattle.mirror_core.proofs.Placing.{right_more, whole_more, places_of_all}
 use Rattle.mirror_core.proofs.places.Places.of.Goals as goal

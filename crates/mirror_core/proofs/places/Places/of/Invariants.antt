@@ -1,4 +1,4 @@
-use Rattle.mirror_core.specs.Fetching.{ids_of}
+use Rattle.event_source.specs.Fetching.{ids_of}
 use Rattle.mirror_core.proofs.Placing.{Right, Whole}
 use Rattle.mirror_core.proofs.places.Places.of.Given as goal
 

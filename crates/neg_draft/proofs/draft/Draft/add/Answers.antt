@@ -1,6 +1,6 @@
 use Rattle.std.proofs.Common.{◌≡◌, ℕ, ◌+◌, ◌<◌, ◌≤◌, ◌++◌, [], ◌∷◌, length, List, refl, sym, ap, subst, ◌∙◌, append_assoc, arith}
-use Rattle.neg_codec.specs.Keys.{place, least, infinity}
-use Rattle.neg_codec.specs.declared.Item.{Item}
+use Rattle.item_key.specs.Keys.{place, least, infinity}
+use Rattle.item_key.specs.declared.Item.{Item}
 use Rattle.neg_codec.specs.Ranges.{Span, edge_of, span_of}
 use Rattle.neg_codec.specs.Encoding.{text_of}
 use Rattle.neg_draft.specs.Coverage.{Written, IsDraft, Tells, end_of, gap, told_more}

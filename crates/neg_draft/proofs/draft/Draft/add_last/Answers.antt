@@ -1,5 +1,5 @@
 use Rattle.std.proofs.Common.{rules, ap, arith}
-use Rattle.neg_codec.specs.Keys.{place, infinity}
+use Rattle.item_key.specs.Keys.{place, infinity}
 use Rattle.neg_codec.specs.Ranges.{edge_of}
 use Rattle.neg_draft.proofs.Owning.{count_up}
 use Rattle.neg_draft.proofs.Telling.{last_fits}

@@ -1,6 +1,6 @@
 use Rattle.std.proofs.Common.{◌≡◌, ◌+◌, ◌-◌, ◌≤◌, List, sym, subst, arith, length, [], ◌∷◌}
 use Rattle.std.specs.Prelude.{IfOk}
-use Rattle.neg_codec.specs.declared.Id.{Id}
+use Rattle.item_key.specs.declared.Id.{Id}
 use Rattle.neg_codec.specs.Ranges.{ids, IsEdge, edge_of}
 use Rattle.neg_codec.specs.Encoding.{text_of}
 use Rattle.item_roll.specs.Parts.{part, ids_of}

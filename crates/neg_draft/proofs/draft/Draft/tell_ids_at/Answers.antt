@@ -1,7 +1,7 @@
 use Rattle.std.proofs.Common.{◌≡◌, ◌<◌, inl, inr, subst, arith, [], ◌∷◌}
 use Rattle.std.specs.Prelude.{IfOk}
 use Rattle.std.proofs.lemmas.Result.{IfOk-weaker}
-use Rattle.neg_codec.specs.Keys.{place, infinity}
+use Rattle.item_key.specs.Keys.{place, infinity}
 use Rattle.neg_codec.specs.Ranges.{IsEdge, edge_of}
 use Rattle.neg_draft.specs.Coverage.{told_more, Cut, Told}
 use Rattle.neg_draft.proofs.Covering.{edge_low}

@@ -2,7 +2,7 @@ use Rattle.std.proofs.Common.{◌≡◌, ◌⊎◌, ◌<◌, ◌-◌, List, inl,
 use Rattle.std.specs.Prelude.{All}
 use Rattle.std.proofs.lemmas.Result.{IfOk-weaker}
 use Rattle.neg_codec.specs.declared.Range.{Range}
-use Rattle.neg_codec.specs.Keys.{place}
+use Rattle.item_key.specs.Keys.{place}
 use Rattle.neg_codec.specs.Ranges.{Span, edge_of, span_of}
 use Rattle.item_roll.specs.Parts.{count_below}
 use Rattle.item_roll.specs.Truth.{IsTrueOf}

@@ -1,7 +1,7 @@
 use Rattle.std.proofs.Common.{◌≡◌, List, map, take, length, sym, ap, ◌∙◌}
 use Rattle.std.proofs.lemmas.List.{take-map}
 use Rattle.neg_codec.specs.declared.Range.{Range}
-use Rattle.neg_codec.specs.Keys.{least}
+use Rattle.item_key.specs.Keys.{least}
 use Rattle.neg_codec.specs.Ranges.{Span, span_of}
 use Rattle.neg_codec.specs.Encoding.{text_of}
 use Rattle.neg_draft.specs.Coverage.{end_of}

@@ -1,7 +1,7 @@
 use Rattle.std.proofs.Common.{◌≡◌, ℕ, ◌+◌, ◌≤◌, ◌++◌, [], ◌∷◌, length, map, List, sym, ap, ◌∙◌, arith}
 use Rattle.std.proofs.lemmas.List.{map-append}
-use Rattle.neg_codec.specs.declared.Item.{Item}
-use Rattle.neg_codec.specs.Keys.{place, least}
+use Rattle.item_key.specs.declared.Item.{Item}
+use Rattle.item_key.specs.Keys.{place, least}
 use Rattle.neg_codec.specs.Ranges.{Span, edge_of, span_of}
 use Rattle.neg_codec.specs.Encoding.{text_of, range_text}
 use Rattle.neg_codec.proofs.Writes.{time_le}

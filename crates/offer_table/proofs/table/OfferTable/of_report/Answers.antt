@@ -4,7 +4,7 @@ use Rattle.sharing.specs.declared.TheConstants.{MOST_IDS}
 use Rattle.offer_table.specs.Table.{Table, IsTable}
 use Rattle.std.proofs.lemmas.Map.Iter.{iter_end}
 use Rattle.std.proofs.lemmas.List.{map-append}
-use Rattle.neg_codec.specs.declared.Id.{Id}
+use Rattle.item_key.specs.declared.Id.{Id}
 use Rattle.sharing.specs.Offers.{AreRelays, Ascend}
 use Rattle.offer_table.proofs.Tables.{each_with, ids-each_with, All-each_with, length-each_with}
 use Rattle.offer_table.proofs.table.OfferTable.of_report.Goals as goal

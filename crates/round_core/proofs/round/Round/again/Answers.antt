@@ -1,5 +1,5 @@
 use Rattle.std.proofs.Common.{◌≡◌, ◌-◌, false, ℕ, List, ◌++◌, get_or, length, drop, replicate, sym, ap, ◌∙◌, subst, Ok, Some}
-use Rattle.neg_codec.specs.declared.Id.{Id}
+use Rattle.item_key.specs.declared.Id.{Id}
 use Rattle.offer_table.specs.Table.{Table}
 use Rattle.fetch_plan.specs.LeftOut.{gone_of}
 use Rattle.fetch_plan.specs.declared.cell.Cell.{Cell}

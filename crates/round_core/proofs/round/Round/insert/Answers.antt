@@ -1,7 +1,7 @@
 use Rattle.std.proofs.Common.{◌≡◌, ◌||◌, Bool, true, cond, not, sym, ap, ◌∙◌, inl, inr}
 use Rattle.std.specs.List.{list_any}
 use Rattle.std.proofs.lemmas.Bool.{cases_Bool, or_right}
-use Rattle.neg_codec.specs.declared.Id.{Id}
+use Rattle.item_key.specs.declared.Id.{Id}
 use Rattle.sharing.specs.Offers.{is_id}
 use Rattle.sharing.proofs.Orders.{same_id, id_itself, id_flips}
 use Rattle.round_core.specs.declared.events.Answer.TheVariants.{Placed}

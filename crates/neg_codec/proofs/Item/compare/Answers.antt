@@ -1,6 +1,0 @@
-use Rattle.std.proofs.Common.{◌∙◌}
-use Rattle.neg_codec.proofs.Order.{key_cmp}
-use Rattle.neg_codec.proofs.Item.compare.Goals as goal
-
-pub returns : goal.returns
-returns c = c.cmp.ensures ∙ key_cmp c.args.self.now c.args.other.now c.id_has_its_length.ensures c.id_has_its_length-2.ensures

@@ -1,5 +1,0 @@
-use Rattle.ws_link.proofs.Cells.{cells_over}
-use Rattle.ws_link.proofs.laws.cells_over_streams.Goals as goal
-
-pub returns : goal.returns
-returns g c = cells_over _ g.S.Source.log

@@ -1,5 +1,0 @@
-use Rattle.ws_link.proofs.Streams.{planned_over}
-use Rattle.ws_link.proofs.laws.plan_over_streams.Goals as goal
-
-pub returns : goal.returns
-returns g c = planned_over g.P.Peer.log g.P.Peer.faults g.P.Peer.becomes
