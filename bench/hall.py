@@ -7,9 +7,10 @@ First it is shown what the system takes to send something to so many clients, by
 so many clients (`crowd.c`) are connected to a relay side by side, each with one filter, on this machine. Then events come one by
 one from another client. Shown are how long it took until all were served; how long it took until an event was with half of the
 clients, with 99 % of them and with all, in ms, the median of all events; the share of a processor that the relay takes while
-nothing happens; and the memory that each connection takes at rest. Last, over a store of its own, how long a client waits for an
-event by its id, the median of 200 requests, with no other client and beside others that ask without a pause for what takes long to
-be found.
+nothing happens; and the memory that each connection takes at rest. Both programs are shown twice: with clients that read at once, and
+so share the processors with who sends, and with such that read later, as if they were on other machines; then it counts when an
+event was at a client's socket. Last, over a store of its own, how long a client waits for an event by its id, the median of 200
+requests, with no other client and beside others that ask without a pause for what takes long to be found.
 """
 import argparse
 import json
@@ -21,7 +22,7 @@ import tempfile
 import threading
 import time
 
-from measure import ROOT, program_of
+from measure import built, program_of
 from relay import spent
 from strangers import compact, event
 from wire import Client
@@ -103,21 +104,41 @@ def fairness(program, count):
             relay.wait()
 
 
-def built(folder, name, *flags):
-    """The path of a program of this folder, built in another one."""
-    program = os.path.join(folder, name)
-    subprocess.run(["cc", "-O2", "-o", program, os.path.join(ROOT, "bench", name + ".c"), *flags], check=True)
-    return program
+# After how many milliseconds clients read that don't read at once.
+LATER = "300"
 
 
-def least(folder, count):
+def least(program, count, *wait):
     """What it takes to send something to so many clients, by one to four threads: the median times until half have it, and all."""
-    program = built(folder, "send", "-pthread")
     for threads in (1, 2, 3, 4):
-        said = subprocess.run([program, str(count), str(threads)], stdout=subprocess.PIPE, text=True, check=True, timeout=60).stdout
+        said = subprocess.run([program, str(count), str(threads), *wait], stdout=subprocess.PIPE, text=True, check=True, timeout=60).stdout
         rows = [[float(word) for word in line.split()] for line in said.splitlines()]
-        print("a program of %d threads that does nothing but send: ms until half and all have it: %s" % (
-            threads, ", ".join("%.1f" % statistics.median(row[k] for row in rows) for k in (0, 1))), flush=True)
+        print("a program of %d threads that does nothing but send%s: ms until half and all have it: %s" % (
+            threads, ", clients that read later" if wait else "", ", ".join("%.1f" % statistics.median(row[k] for row in rows) for k in (0, 1))), flush=True)
+
+
+def pushed(clients, relay, events, name):
+    """How long events take to so many clients."""
+    taken, rows = spent(relay.pid), []
+    for number in events:
+        clients.stdin.write(compact(["EVENT", event(number)]).decode() + "\n")
+        clients.stdin.flush()
+        rows.append([float(word) for word in clients.stdout.readline().split()[1:]])
+    print("an event was %s %d of them; ms until half, 99 %% and all have it: %s; processor time %.1f ms" % (
+        name, min(row[0] for row in rows), ", ".join("%.1f" % statistics.median(row[k] for row in rows) for k in (1, 2, 3)),
+        (spent(relay.pid) - taken) / len(rows) * 1e3), flush=True)
+
+
+def crowded(crowd, port, count, *wait):
+    """So many clients, each of which has been served."""
+    clients = subprocess.Popen([crowd, str(port), str(count), *wait], stdin=subprocess.PIPE, stdout=subprocess.PIPE, text=True)
+    return clients, float(clients.stdout.readline().split()[1])
+
+
+def ended(clients):
+    clients.stdin.close()
+    clients.wait()
+    time.sleep(2)
 
 
 def main():
@@ -130,27 +151,26 @@ def main():
     many = args.subscribers + 200
     resource.setrlimit(resource.RLIMIT_NOFILE, (many, many))
     with tempfile.TemporaryDirectory() as folder:
-        crowd = built(folder, "crowd")
-        least(folder, args.subscribers)
+        crowd, send = built(folder, "crowd"), built(folder, "send", "-pthread")
+        least(send, args.subscribers)
+        least(send, args.subscribers, LATER)
         relay, port = begun(args.mirror, conf_of(folder, clients=many))
         try:
             before = resident(relay.pid)
-            clients = subprocess.Popen([crowd, str(port), str(args.subscribers)], stdin=subprocess.PIPE, stdout=subprocess.PIPE, text=True)
-            print("all served after %s s" % clients.stdout.readline().split()[1], flush=True)
+            clients, seconds = crowded(crowd, port, args.subscribers)
+            print("all served after %.3f s" % seconds, flush=True)
             time.sleep(1)
             start, taken = time.time(), spent(relay.pid)
             time.sleep(5)
             print("at rest %.2f %% of a processor" % ((spent(relay.pid) - taken) / (time.time() - start) * 100))
             print("memory of a connection %.1f KiB" % ((resident(relay.pid) - before) / args.subscribers), flush=True)
-            rows = []
-            for number in range(args.events):
-                clients.stdin.write(compact(["EVENT", event(number)]).decode() + "\n")
-                clients.stdin.flush()
-                rows.append([float(word) for word in clients.stdout.readline().split()[1:]])
-            print("an event was with %d of them; ms until half, 99 %% and all have it: %s" % (
-                min(row[0] for row in rows), ", ".join("%.1f" % statistics.median(row[k] for row in rows) for k in (1, 2, 3))))
-            print("processor time of an event %.1f ms" % ((spent(relay.pid) - taken) / args.events * 1e3))
+            pushed(clients, relay, range(args.events), "with")
             print("memory of a connection %.1f KiB" % ((resident(relay.pid) - before) / args.subscribers), flush=True)
+            ended(clients)
+            clients, _ = crowded(crowd, port, args.subscribers, LATER)
+            time.sleep(1)
+            pushed(clients, relay, range(args.events, 2 * args.events), "at the sockets of")
+            ended(clients)
         finally:
             relay.kill()
             relay.wait()

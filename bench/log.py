@@ -17,16 +17,24 @@ import time
 from inputs import events as write_events
 from inputs import made
 from measure import program_of
-from relay import BESIDES, Serving, put
+from relay import BESIDES, Serving
 from wire import Client
 
 # How many events are sent before their answers are waited for.
 TOGETHER = 20
 
 
+def put(client, lines):
+    """Sends events, and waits for their answers."""
+    client.send(*[b'["EVENT",%s]' % line.strip().encode() for line in lines])
+    for _ in lines:
+        if b",true," not in client.read():
+            raise SystemExit("an event was refused")
+
+
 def in_twenties(client, lines):
     for at in range(0, len(lines), TOGETHER):
-        put(client, lines[at:at + TOGETHER], 2 * TOGETHER)
+        put(client, lines[at:at + TOGETHER])
 
 
 def acknowledged(program, folder, lines, fsync, clients=8):

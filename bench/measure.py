@@ -9,16 +9,25 @@ ROOT = os.path.dirname(os.path.dirname(os.path.abspath(__file__)))
 # Begins a program and waits for it. What a process held when it began another counts for that one's peak, so a script that
 # holds much begins this one first.
 WAITING = """
-import os, sys
+import os, sys, time
+start = time.perf_counter()
 child = os.posix_spawn(sys.argv[1], sys.argv[1:], os.environ)
 _, status, usage = os.wait4(child, 0)
+wall = time.perf_counter() - start
 ended = os.waitstatus_to_exitcode(status)
-sys.stderr.write("\\n%d %f %d" % (ended, usage.ru_utime + usage.ru_stime, usage.ru_maxrss))
+sys.stderr.write("\\n%d %f %f %d" % (ended, wall, usage.ru_utime + usage.ru_stime, usage.ru_maxrss))
 """
 
 
 class Refused(Exception):
     """A program ended with another status than 0."""
+
+
+def built(folder, name, *flags):
+    """The path of a program in C of this folder, built in another one."""
+    program = os.path.join(folder, name)
+    subprocess.run(["cc", "-O2", "-o", program, os.path.join(ROOT, "bench", name + ".c"), *flags], check=True)
+    return program
 
 
 def program_of(crate):
@@ -38,14 +47,14 @@ def ended(child, words, start, errors=b""):
 
 
 def apart(words):
-    """What a program writes as its standard output, its processor time, and its peak memory in KiB, from a script that
-    holds much."""
+    """What a program writes as its standard output, its wall time, its processor time, and its peak memory in KiB, from a script
+    that holds much."""
     run = subprocess.run([sys.executable, "-S", "-c", WAITING] + words, stdout=subprocess.PIPE, stderr=subprocess.PIPE)
     errors, _, last = run.stderr.decode(errors="replace").rpartition("\n")
-    status, seconds, peak = last.split()
+    status, wall, seconds, peak = last.split()
     if status != "0":
         raise Refused("%s: status %s %s" % (os.path.basename(words[0]), status, errors.strip()))
-    return run.stdout.decode(), float(seconds), int(peak)
+    return run.stdout.decode(), float(wall), float(seconds), int(peak)
 
 
 def once(words, source, target):

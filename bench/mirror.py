@@ -19,7 +19,6 @@ import os
 import re
 import sys
 import tempfile
-import time
 
 from inputs import events as write_events
 from inputs import made
@@ -45,9 +44,7 @@ def mirrored(program, folder, ports, options, passes):
     besides = {"fsync": options.fsync} if options.fsync else {}
     conf = settings(os.path.join(folder, "mirror.toml"), events=os.path.join(folder, "mirror.jsonl"), passes=passes, every_ms=1,
                     workers=options.workers, relays=["127.0.0.1:%d" % port for port in ports], live=False, **besides)
-    start = time.perf_counter()
-    said, seconds, peak = apart([program, "mirror", conf])
-    wall = time.perf_counter() - start
+    said, wall, seconds, peak = apart([program, "mirror", conf])
     told = [tuple(map(int, found.groups())) for found in map(PASS.match, said.splitlines()) if found]
     return told, wall, seconds, peak / 1024
 

@@ -3,12 +3,12 @@
 
     bench/relay.py [--baseline PATH] [--mirror PATH] [--events N] [--held N] [--only WORD,WORD,..] [--runs R] [--fsync WORD]
 
-Each row starts the program anew. `serve` reads a file of events with right ids (`inputs.py`), and is then asked by clients of
-this script (`wire.py`): it takes all events from one client, from eight, and in the order of their times, answers 1,000
-requests, ten times over, and is connected to 200 times. Of `feed`, which asks what one in twenty authors wrote of a kind, 100
+Each row starts the program anew. `serve` reads a file of events with right ids (`inputs.py`), and is then asked by clients that cost
+little themselves (`load.c`): it takes all events from one client, from eight, and in the order of their times, and answers 1,000
+requests, ten times over. It is connected to 200 times. Of `feed`, which asks what one in twenty authors wrote of a kind, 100
 are asked. `sync` brings a store that has a part of the events level with four relays that have half of them each. The relays
-are the same program's. Shown are the processor time that the work took, of requests what one time took, without the reading
-and writing of the file, and the greatest peak of resident memory.
+are the same program's, or the plain program's. Shown are the wall time and the processor time that the work took, of requests what
+one time took, without the reading and writing of the file but for `sync`, and the greatest peak of resident memory.
 
 With `--baseline`, a plain program with the same commands, both run in turn, R times each; the least times are shown, and
 the ratio of ours to its. With `--fsync`, the settings of all have it. With `--held`, a relay that takes events has so many of them
@@ -27,7 +27,7 @@ import time
 
 from inputs import events as write_events
 from inputs import made
-from measure import apart, program_of
+from measure import apart, built, program_of
 from wire import Client
 
 # What the settings of every run have besides.
@@ -113,83 +113,55 @@ class Cutting:
                 pass
 
 
-def put(client, lines, window=64):
-    """Sends events, of which at most so many are unanswered."""
-    texts = [b'["EVENT",%s]' % line.strip().encode() for line in lines]
-    sent = 0
-    for answered in range(len(texts)):
-        more = texts[sent:answered + window]
-        if len(more) > window // 2 or sent == answered:
-            client.send(*more)
-            sent += len(more)
-        if b",true," not in client.read():
-            raise SystemExit("an event was refused")
+class Load:
+    """Clients in C (`load.c`) that have done their work: how much of it there was, and the wall time. They stay until they are let go."""
 
+    def __init__(self, folder, kind, port, lines, clients=()):
+        path = os.path.join(folder, "load.jsonl")
+        with open(path, "w", encoding="utf-8") as text:
+            text.writelines(lines)
+        self.child = subprocess.Popen([os.path.join(folder, "load"), kind, str(port), *map(str, clients), path],
+                                      stdin=subprocess.PIPE, stdout=subprocess.PIPE, text=True)
+        came, wall = self.child.stdout.readline().split()
+        self.came, self.wall = int(came), float(wall)
 
-def events_until_end(client):
-    """How many events come until the stored ones have ended. What comes isn't taken apart, which would leave the relay idle."""
-    came, last = 0, b""
-    while not last.endswith(b'["EOSE","q"]'):
-        found = client.socket.recv(1 << 20)
-        if not found:
-            raise SystemExit("the relay closed the connection")
-        came += (last + found).count(b'["EVENT","q",') - last.count(b'["EVENT","q",')
-        last = (last + found)[-32:]
-    return came
-
-
-def ask(port, filters):
-    """Asks for each filter in turn, and tells how many events came."""
-    client = Client(port)
-    came = 0
-    for filter in filters:
-        client.send(b'["REQ","q",%s]' % json.dumps(filter).encode())
-        came += events_until_end(client)
-    client.close()
-    return came
-
-
-def side_by_side(calls):
-    threads = [threading.Thread(target=call) for call in calls]
-    for thread in threads:
-        thread.start()
-    for thread in threads:
-        thread.join()
+    def end(self):
+        self.child.stdin.close()
+        if self.child.wait() != 0:
+            raise SystemExit("clients ended with status %d" % self.child.returncode)
 
 
 def row_of_putting(program, folder, lines, clients, held):
     relay = Serving(program, folder, "put", clients, lines[:held])
-    lines = lines[held:]
     # The connections stay until the time is read, since the file is written once they have ended.
-    connections = [Client(relay.port) for _ in range(clients)]
-    side_by_side([lambda i=i: put(connections[i], lines[i::clients]) for i in range(clients)])
+    load = Load(folder, "put", relay.port, lines[held:], [clients])
     found = relay.cost()
-    for client in connections:
-        client.close()
+    load.end()
     relay.end()
-    return found, len(lines)
+    return (load.wall, *found), load.came
 
 
 def row_of_asking(program, folder, lines, filters, times=10):
     """Asks for the same several times over, and shows what one time took."""
-    relay = Serving(program, folder, "ask", 2, lines)
-    holder = Client(relay.port)
-    came = ask(relay.port, filters * times)
+    relay = Serving(program, folder, "ask", 1, lines)
+    load = Load(folder, "ask", relay.port, ["%s\n" % json.dumps(filter) for filter in filters] * times)
     seconds, peak = relay.cost()
-    holder.close()
+    load.end()
     relay.end()
-    return (seconds / times, peak), came
+    return (load.wall / times, seconds / times, peak), load.came
 
 
 def row_of_connecting(program, folder, times):
     relay = Serving(program, folder, "connect", times + 1)
     holder = Client(relay.port)
+    start = time.perf_counter()
     for _ in range(times):
         Client(relay.port).close()
+    wall = time.perf_counter() - start
     found = relay.cost()
     holder.close()
     relay.end()
-    return found, times
+    return (wall, *found), times
 
 
 def row_of_syncing(program, folder, lines, relays, share, partner, cut=None):
@@ -205,7 +177,7 @@ def row_of_syncing(program, folder, lines, relays, share, partner, cut=None):
     with open(mine, "w", encoding="utf-8") as text:
         text.writelines(own)
     conf = settings(os.path.join(folder, "sync.toml"), events=mine, relays=["127.0.0.1:%d" % port for port in ports], **BESIDES)
-    said, seconds, peak = apart([program, "sync", conf])
+    said, wall, seconds, peak = apart([program, "sync", conf])
     for relay in serving:
         relay.child.kill()
         relay.child.wait()
@@ -213,7 +185,7 @@ def row_of_syncing(program, folder, lines, relays, share, partner, cut=None):
     if cut is not None:
         # How far the relay comes before it closes isn't the same each time.
         told = {"least": told["least"], "planned": int(told["given"]) + int(told["left"])}
-    return (seconds, peak / 1024), str(told)
+    return (wall, seconds, peak / 1024), str(told)
 
 
 def time_of(line):
@@ -250,6 +222,7 @@ def main():
         BESIDES["fsync"] = options.fsync
     programs = [options.mirror] + ([options.baseline] if options.baseline else [])
     with tempfile.TemporaryDirectory() as folder:
+        built(folder, "load", "-pthread")
         source = os.path.join(folder, "events")
         made(write_events, source, options.events)
         with open(source, encoding="utf-8") as text:
@@ -272,12 +245,13 @@ def main():
             for _ in range(options.runs):
                 for program, its in zip(programs, runs):
                     its.append(rows[name](program))
-            best = [(min(cost[0] for cost, _ in its), max(cost[1] for cost, _ in its), its[0][1]) for its in runs]
-            line = "%-8s %8.4f s %7.0f MiB" % (name, best[0][0], best[0][1])
+            best = [[pick(cost[k] for cost, _ in its) for k, pick in enumerate((min, min, max))] for its in runs]
+            line = "%-8s %8.4f s wall %8.4f s processor %6.0f MiB" % (name, *best[0])
             if len(best) == 2:
-                line += "   plain %8.4f s (%5.2f) %7.0f MiB (%5.2f)%s" % (
-                    best[1][0], best[0][0] / max(best[1][0], 0.001), best[1][1], best[0][1] / best[1][1],
-                    "" if best[0][2] == best[1][2] else "   THE ANSWERS DIFFER: %s, %s" % (best[0][2], best[1][2]))
+                ratios = [ours / max(theirs, 0.001) for ours, theirs in zip(*best)]
+                line += "   plain %8.4f s (%5.2f) %8.4f s (%5.2f) %6.0f MiB (%5.2f)%s" % (
+                    *[cell for pair in zip(best[1], ratios) for cell in pair],
+                    "" if runs[0][0][1] == runs[1][0][1] else "   THE ANSWERS DIFFER: %s, %s" % (runs[0][0][1], runs[1][0][1]))
             print(line, flush=True)
 
 

@@ -1,15 +1,47 @@
-// What the programs of this folder share: the time in seconds, and the end of a program whose system call failed.
+// What the programs of this folder share: the time in seconds, what a socket has received and when, and the end of a program whose system
+// call failed.
 #include <stdio.h>
 #include <stdlib.h>
+#include <string.h>
+#include <sys/socket.h>
+#include <sys/uio.h>
 #include <time.h>
 
-static double now(void) {
+enum { MOST = 4096 };
+
+static inline double now(void) {
     struct timespec t;
     clock_gettime(CLOCK_MONOTONIC, &t);
     return t.tv_sec + t.tv_nsec / 1e9;
 }
 
-static void stop(const char *what) {
+static inline void stop(const char *what) {
     perror(what);
     exit(1);
+}
+
+// The time by the clock by which the system notes when something came.
+static inline double noted(void) {
+    struct timespec t;
+    clock_gettime(CLOCK_REALTIME, &t);
+    return t.tv_sec + t.tv_nsec / 1e9;
+}
+
+// Receives what has come, and when the last of it came to the socket, where that was asked for.
+static inline int received(int stream, char *buffer, double *at) {
+    union {
+        struct cmsghdr head;
+        char room[CMSG_SPACE(sizeof(struct timespec))];
+    } beside;
+    struct iovec into = {buffer, MOST};
+    struct msghdr message = {.msg_iov = &into, .msg_iovlen = 1, .msg_control = &beside, .msg_controllen = sizeof beside};
+    int got = (int)recvmsg(stream, &message, 0);
+    for (struct cmsghdr *part = CMSG_FIRSTHDR(&message); part; part = CMSG_NXTHDR(&message, part)) {
+        if (part->cmsg_level == SOL_SOCKET && part->cmsg_type == SCM_TIMESTAMPNS) {
+            struct timespec t;
+            memcpy(&t, CMSG_DATA(part), sizeof t);
+            *at = t.tv_sec + t.tv_nsec / 1e9;
+        }
+    }
+    return got;
 }

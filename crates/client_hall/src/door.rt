@@ -13,7 +13,7 @@ use std::sync::{Arc, Wait};
 use std::time::{Duration, Instant};
 
 /// How many events of sockets are taken at a time.
-const MOST_EVENTS: usize = 1_024;
+const MOST_EVENTS: usize = 128;
 
 /// How many connections are let in before others have their turns.
 const MOST_AT_ONCE: usize = 256;

@@ -39,8 +39,6 @@ pub struct Hall<G, K> {
     // What wakes who is at the door.
     waker: Waker,
     patience: Patience,
-    // Whether events of clients are refused.
-    is_read_only: bool,
     // Whether events are kept once they are synced, which may take long.
     syncs: bool,
     desk: Mutex<K>,
@@ -68,7 +66,6 @@ impl<G: Drop, K: Drop> Drop for Hall<G, K> {
             has_worker: _,
             waker: _,
             patience: _,
-            is_read_only: _,
             syncs: _,
             desk: _,
             turn: _,
@@ -107,7 +104,6 @@ impl<G: Drop, K: Drop> Hall<G, K> {
         door: Door,
         waker: Waker,
         patience: Patience,
-        is_read_only: bool,
         syncs: bool,
         desk: K,
     ) -> Result<Hall<G, K>, AllocError> {
@@ -126,7 +122,6 @@ impl<G: Drop, K: Drop> Hall<G, K> {
             has_worker: AtomicBool::new(false),
             waker,
             patience,
-            is_read_only,
             syncs,
             desk: Mutex::new(desk),
             turn: Mutex::new(()),
@@ -153,11 +148,6 @@ impl<G, K> Hall<G, K> {
 
     pub(crate) fn patience(&self) -> Patience {
         self.patience
-    }
-
-    /// Whether events of clients are refused.
-    pub fn is_read_only(&self) -> bool {
-        self.is_read_only
     }
 
     /// Held while a long text is read.

@@ -8,7 +8,9 @@ use event_file::EventsFile;
 use event_store::{Blank, Desk, Naming, Reader, open_store};
 use mirror_settings::{Job, Settings, SettingsKey, read_settings, unknown_keys};
 use pass_run::run_live;
-use serve_run::{Guest, Hall, keep_in_hall, keep_meanwhile, open_hall, readers_for, serve_beside};
+use serve_run::{
+    Guest, Hall, keep_in_hall, keep_meanwhile, limits_of, open_hall, readers_for, serve_beside,
+};
 use session_run::{Host, Progress};
 use std::alloc::Global;
 use std::fs::File;
@@ -144,6 +146,7 @@ fn run_serving<
         alloc,
         &hall,
         &keeping,
+        limits_of(settings),
         readers,
         ||
             requires { IsSend J.row × IsSend D.row × IsSend P.row × IsSend E.row }

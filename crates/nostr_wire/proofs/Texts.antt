@@ -1,5 +1,7 @@
 -- What a text of a value's tokens is read as.
-use Rattle.std.proofs.Common.{◌≡◌, ◌≤◌, ◌++◌, ℕ, suc, max, List, [], ◌∷◌, Some, option_and_then, codes, refl, sym, ap, ap₂, ◌∙◌, append_assoc, append-nil, arith}
+use Rattle.std.proofs.Common.{◌≡◌, ◌≤◌, ◌++◌, ℕ, suc, max, List, [], ◌∷◌, Some, Result, Ok, Err, IfOk, option_and_then, codes, Global, refl, sym, ap, ap₂, ◌∙◌, append_assoc, append-nil, arith}
+use Rattle.std.specs.String.{string_bytes}
+use Rattle.std.specs.declared.string.String.{String}
 use Rattle.json.specs.Print.{print_from, quoted}
 use Rattle.json.specs.Lex.{tokens}
 use Rattle.json.specs.Json as json
@@ -72,3 +74,8 @@ regroup name sub event = simp (append_assoc, append-nil)
 pub event_written : (s : List ℕ) (e : EventView) → (beginning s ++ compact_text (object_of e)) ++ 93 ∷ [] ≡ text_of (event_form s e)
 unfolding print_from
 event_written s e = regroup (quoted (codes "EVENT")) (quoted s) (compact_text (object_of e))
+
+-- the same behind what begins it, if that was made
+pub event_begun : {E : Type 0} (r : Result (String Global) E) (s : List ℕ) → IfOk r (λ t. string_bytes t ≡ beginning s) → IfOk r (λ t. (e : EventView) → (string_bytes t ++ compact_text (object_of e)) ++ codes "]" ≡ text_of (event_form s e))
+event_begun (Ok t) s begun = λ e. ap (λ (words : List ℕ). (words ++ compact_text (object_of e)) ++ 93 ∷ []) begun ∙ event_written s e
+event_begun (Err f) s begun = tt

@@ -1,8 +1,13 @@
 // The names in the messages that carry events.
-ghost use Rattle.std.specs.Prelude.{◌≡◌, true, IfOk, string_bytes};
+ghost use Rattle.std.specs.Prelude.{◌≡◌, ◌++◌, true, codes, IfOk, string_bytes};
 ghost use Rattle.std.specs.Arc.{arc_value};
+ghost use Rattle.serde_json.specs.Written.{compact_text};
+ghost use Rattle.nostr_event.specs.EventView.{EventView};
+ghost use Rattle.nostr_event.specs.EventJson.{object_of};
 ghost use Rattle.nostr_wire.specs.Elements.{is_sub};
 ghost use Rattle.nostr_wire.specs.Beginnings.{beginning};
+ghost use Rattle.nostr_wire.specs.Forms.{event_form};
+ghost use Rattle.nostr_wire.specs.Writing.{text_of};
 
 use crate::lists::Sub;
 use json::Writer;
@@ -124,9 +129,11 @@ impl Name {
         }
     }
 
-    // How the message of an event for it begins. It is made where room is.
-    pub(crate) fn begin(&self, room: String) -> Result<String, AllocError>
+    /// How the message of an event for it begins: behind that stand the event's own text and a `]`. It is made where room is, of which
+    /// what stands there is lost.
+    pub fn begin(&self, room: String) -> Result<String, AllocError>
         ensures text { IfOk result (λ s. string_bytes s ≡ beginning self.now) }
+        ensures message { IfOk result (λ s. (e : EventView) → (string_bytes s ++ compact_text (object_of e)) ++ codes "]" ≡ text_of (event_form self.now e)) }
         ensures name { IfOk result (λ _. is_sub self.now ≡ true) }
     {
         match &self.kind {

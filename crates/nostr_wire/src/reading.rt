@@ -296,14 +296,15 @@ pub fn read_client(alloc: Global, text: &str) -> Result<FromClient, WireFault>
     read
 }
 
-// Whether a text may be a request that takes much memory when it is read whole.
-fn may_be_great(text: &str) -> bool {
-    text.len() > LONG && !text.as_bytes().starts_with(b"[\"EVENT\"")
+// Whether a text may be a request, of which a great one takes much memory when it is read whole.
+fn may_be_request(text: &str) -> bool {
+    let bytes = text.as_bytes();
+    bytes.starts_with(b"[\"REQ\"") || (bytes.len() > LONG && !bytes.starts_with(b"[\"EVENT\""))
 }
 
 /// The same, but that of a request's filters only the first are kept, so many and one more: where it has more than so many, these
 /// tell that, and take no more memory. Each of the others is read, too, and given back before the next one is. The memory that
-/// an event's reading takes is kept for the next text.
+/// the reading of an event or a request takes is kept for the next text.
 pub fn read_client_few(
     alloc: Global,
     scratch: &mut EventScratch,
@@ -313,8 +314,10 @@ pub fn read_client_few(
     ensures message { IfOk result (λ m. Hears (Some most) text.now m) }
     ensures fault { IfErr result (λ f. Refuses client_table text.now f) }
 {
-    if may_be_great(text) {
-        if let Some(message) = request_text(alloc, text, Some(most))? {
+    if may_be_request(text) {
+        let request = request_text(alloc, scratch.lend(alloc), text, Some(most));
+        scratch.rest(text.len());
+        if let Some(message) = request? {
             return Ok(message);
         }
     }

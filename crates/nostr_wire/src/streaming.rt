@@ -126,14 +126,14 @@ fn is_request(name: &Value) -> bool
 /// The message of a text that begins as a request does, as `Hears` says; else none.
 pub fn request_text(
     alloc: Global,
+    scratch: &mut Scratch,
     text: &str,
     most: Option<usize>,
 ) -> Result<Option<FromClient>, WireFault>
     ensures ok { IfOk result (λ o. IfSome o (λ m. Hears most text.now m)) }
     ensures err { IfErr result (λ f. Refuses client_table text.now f) }
 {
-    let mut scratch = Scratch::new(alloc);
-    let Ok(mut reader) = Reader::new(text, &mut scratch) else {
+    let Ok(mut reader) = Reader::new(text, scratch) else {
         return Err(WireFault::Memory);
     };
     if !begins_array(&mut reader) || reader.take_end_array() {

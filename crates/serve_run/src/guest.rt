@@ -119,7 +119,7 @@ impl<J: Naming> Guest<J> {
         reader: &mut Reader<J>,
         desk: &Mutex<Desk<J, D>>,
         keeper: &H,
-        turns: Turns<'_>,
+        turns: &mut Turns<'_>,
         limits: RelayLimits,
     ) -> Option<Turned> {
         match &mut self.stage {

@@ -9,6 +9,6 @@ mod working;
 
 pub use client_hall::Hall;
 pub use guest::Guest;
-pub use run::{open_hall, readers_for, run_serve};
+pub use run::{limits_of, open_hall, readers_for, run_serve};
 pub use serving::serve_beside;
 pub use tending::{keep_in_hall, keep_meanwhile};

@@ -10,6 +10,7 @@ use event_store::{Blank, Desk, Naming, Reader, open_store};
 use mio::net::TcpListener;
 use mio::{Poll, Waker};
 use mirror_settings::{Address, Job, Settings, SettingsKey, Syncing, read_settings};
+use relay_core::RelayLimits;
 use std::alloc::Global;
 use std::fs::File;
 use std::io;
@@ -35,6 +36,13 @@ pub fn readers_for<R: Threads>(rt: &R) -> usize {
         Err(_) => WORKERS,
     };
     workers + 1
+}
+
+/// What each connection may have at most, and whether events of clients are refused.
+pub fn limits_of(settings: &Settings) -> RelayLimits
+    ensures { result.is_read_only ≡ settings.now.read_only }
+{
+    RelayLimits::default().read_only(settings.read_only)
 }
 
 /// How many connections are served at once.
@@ -116,17 +124,7 @@ pub fn open_hall<J: Naming, K: Drop, R: Net, W: Write>(
     let conns = settings.conns.unwrap_or(u64::MAX);
     let patience = Patience::of(settings);
     let syncs = settings.fsync == Syncing::Always;
-    let hall = Hall::new(
-        alloc,
-        conns,
-        seats,
-        door,
-        waker,
-        patience,
-        settings.read_only,
-        syncs,
-        desk,
-    )?;
+    let hall = Hall::new(alloc, conns, seats, door, waker, patience, syncs, desk)?;
     say_place(alloc, writer, address, port)?;
     Ok(hall)
 }
@@ -160,7 +158,8 @@ fn serve_hall<
     keeping: Keeping<J, E>,
     writer: &mut W,
 ) -> Result<(), Refusal> {
-    serve_beside(rt, alloc, &hall, &keeping, readers, || {
+    let limits = limits_of(settings);
+    serve_beside(rt, alloc, &hall, &keeping, limits, readers, || {
         keep_meanwhile(rt, &hall, &keeping)
     });
     // The store's desk, in the hall, is there until the file is written.

@@ -6,6 +6,7 @@ use crate::guest::Guest;
 use crate::working::Serving;
 use client_hall::Hall;
 use event_store::{Desk, Naming, Reader};
+use relay_core::RelayLimits;
 use std::alloc::Global;
 use std::io::Write;
 use std::rt::Clock;
@@ -34,9 +35,9 @@ fn run_beside<R: Threads + Wait + Sync, T: Send + Drop, H: Duty<T> + Sync, G: Fn
     done
 }
 
-/// Serves the hall's connections beside other work in this thread, and gives what the work answers once both have ended. There are as
-/// many workers as readers. A connection that ends by a fault touches no other. Where none can be accepted, it is tried again
-/// after a pause.
+/// Serves the hall's connections, each within the limits, beside other work in this thread, and gives what the work answers once both
+/// have ended. There are as many workers as readers. A connection that ends by a fault touches no other. Where none can be accepted,
+/// it is tried again after a pause.
 pub fn serve_beside<
     R: Threads + Wait + Clock + Sync,
     J: Naming + Send + Sync,
@@ -49,6 +50,7 @@ pub fn serve_beside<
     alloc: Global,
     hall: &Hall<Guest<J>, Desk<J, D>>,
     keeping: &Keeping<J, E>,
+    limits: RelayLimits,
     readers: Vec<Reader<J>>,
     work: G,
 ) -> B
@@ -59,6 +61,7 @@ pub fn serve_beside<
         clock: rt,
         hall,
         keeping,
+        limits,
     };
     run_beside(rt, alloc, &serving, readers, work)
 }

@@ -4,6 +4,7 @@ use crate::guest::Guest;
 use client_hall::{Door, Errand, Hall, Next, Seat};
 use event_log::{Keeper, Kept};
 use event_store::{Desk, Naming, Placed, Reader};
+use event_text::EventScratch;
 use relay_core::RelayLimits;
 use std::alloc::Global;
 use std::io::Write;
@@ -22,6 +23,7 @@ pub struct Serving<'c, 'h, C, G, K, P> {
     pub clock: &'c C,
     pub hall: &'h Hall<G, K>,
     pub keeping: &'h P,
+    pub limits: RelayLimits,
 }
 
 /// Who waits until events are kept, as a worker of a hall.
@@ -40,17 +42,17 @@ impl<'h, 'k, G, K, J: Naming, H: Keeper<J>> Keeper<J> for Aside<'h, 'k, G, K, H>
     }
 }
 
-/// How a turn in a hall reads long texts.
-fn turns_of<G, K>(hall: &Hall<G, K>, reads_long: bool) -> Turns<'_> {
+/// How a turn in a hall reads texts.
+fn turns_of<'t, G, K>(
+    hall: &'t Hall<G, K>,
+    reads_long: bool,
+    scratch: &'t mut EventScratch,
+) -> Turns<'t> {
     Turns {
         lock: hall.turn(),
         reads_long,
+        scratch,
     }
-}
-
-/// What a hall's connections may have at most.
-fn limits_of<G, K>(hall: &Hall<G, K>) -> RelayLimits {
-    RelayLimits::default().read_only(hall.is_read_only())
 }
 
 /// Gives the connection in a seat a turn, which reads long texts or doesn't.
@@ -61,6 +63,7 @@ fn give_turn<J: Naming, D: Wait + Drop, R: Wait, C: Clock, E: Write + Drop>(
     number: usize,
     reads_long: bool,
     reader: &mut Reader<J>,
+    scratch: &mut EventScratch,
 ) {
     let hall = serving.hall;
     let Some(seat) = hall.seats().get(number) else {
@@ -74,12 +77,20 @@ fn give_turn<J: Naming, D: Wait + Drop, R: Wait, C: Clock, E: Write + Drop>(
         hall,
         keeper: &clerk,
     };
-    let (desk, turns, limits) = (hall.desk(), turns_of(hall, reads_long), limits_of(hall));
+    let mut turns = turns_of(hall, reads_long, scratch);
     seat.begin(rt);
     let guest = seat.guest.lock(rt).take();
     if let Some(mut guest) = guest {
         let begun = Instant::now(serving.clock).ok();
-        let turned = guest.turn(rt, alloc, reader, desk, &keeper, turns, limits);
+        let turned = guest.turn(
+            rt,
+            alloc,
+            reader,
+            hall.desk(),
+            &keeper,
+            &mut turns,
+            serving.limits,
+        );
         let is_slow = took_long(begun, Instant::now(serving.clock).ok());
         let is_long = turned == Some(Turned::Later) || guest.is_in_long();
         seat.note_pace(is_slow, is_long);
@@ -162,14 +173,15 @@ fn serve<J: Naming, D: Wait + Drop, R: Wait, C: Clock, E: Write + Drop>(
     serving: &Serving<'_, '_, C, Guest<J>, Desk<J, D>, Keeping<J, E>>,
     errand: Errand,
     reader: &mut Reader<J>,
+    scratch: &mut EventScratch,
 ) {
     match errand {
-        Errand::Turn(number) => give_turn(rt, alloc, serving, number, false, reader),
+        Errand::Turn(number) => give_turn(rt, alloc, serving, number, false, reader, scratch),
         Errand::Slow(number) => {
-            give_turn(rt, alloc, serving, number, false, reader);
+            give_turn(rt, alloc, serving, number, false, reader, scratch);
             serving.hall.end_slow(rt);
         }
-        Errand::Long(number) => give_turn(rt, alloc, serving, number, true, reader),
+        Errand::Long(number) => give_turn(rt, alloc, serving, number, true, reader, scratch),
         Errand::News(part) => tell_part(rt, alloc, serving.hall, part, reader),
     }
 }
@@ -195,9 +207,10 @@ impl<'c, 'h, C: Wait + Clock, J: Naming, D: Wait + Drop, E: Write + Drop> Duty<R
     fn work<R: Wait>(&self, rt: &R, alloc: Global, reader: &mut Reader<J>) {
         let hall = self.hall;
         let reads_long = hall.begin(rt);
+        let mut scratch = EventScratch::new();
         for _ in 0..u64::MAX {
             match hall.next(self.clock, reads_long) {
-                Next::Errand(errand) => serve(rt, alloc, self, errand, reader),
+                Next::Errand(errand) => serve(rt, alloc, self, errand, reader, &mut scratch),
                 Next::Door(door, has_errands) => {
                     tend(rt, self.clock, alloc, hall, door, has_errands);
                 }

@@ -13,7 +13,9 @@ use event_store::{Blank, Desk, Naming, Reader, open_store};
 use mirror_core::{SyncFault, Synced};
 use mirror_settings::{Job, Settings, SettingsKey, read_settings};
 use offer_table::RelaySet;
-use serve_run::{Guest, Hall, keep_in_hall, keep_meanwhile, open_hall, readers_for, serve_beside};
+use serve_run::{
+    Guest, Hall, keep_in_hall, keep_meanwhile, limits_of, open_hall, readers_for, serve_beside,
+};
 use session_run::{
     Compared, Counts, Host, Nowhere, Progress, compare, fetch_rounds, put_counts, put_ends,
     put_plan,
@@ -212,6 +214,7 @@ fn run_serving<
         alloc,
         &hall,
         &keeping,
+        limits_of(settings),
         readers,
         ||
             requires { IsSend J.row × IsSend D.row × IsSend P.row × IsSend E.row }

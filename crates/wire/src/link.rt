@@ -180,21 +180,54 @@ impl<S> Wire<S, NoMask> {
         ensures whole { OnOk result (self.new ≡ record self.old { output = self.old.output ++ text_frame None text.now }) }
         ensures none { OnErr result (self.new ≡ self.old) }
     {
-        put_frame(&mut self.output, text)
+        self.put_unmasked_parts(text, &[], &[])
+    }
+
+    /// The same of a text in three parts, which are put one behind the other.
+    pub fn put_unmasked_parts(
+        &mut self,
+        first: &[u8],
+        second: &[u8],
+        third: &[u8],
+    ) -> Result<(), AllocError>
+        ensures whole { OnOk result (self.new ≡ record self.old { output = self.old.output ++ text_frame None ((first.now ++ second.now) ++ third.now) }) }
+        ensures none { OnErr result (self.new ≡ self.old) }
+    {
+        put_frame(&mut self.output, first, second, third)
     }
 }
 
-/// Puts the text's frame, without a mask, behind the bytes.
-fn put_frame(output: &mut Vec<u8>, text: &[u8]) -> Result<(), AllocError>
-    ensures whole { OnOk result (output.new.items ≡ output.old.items ++ text_frame None text.now) }
+/// How many bytes the parts have together.
+fn size_of(first: &[u8], second: &[u8], third: &[u8]) -> Result<usize, AllocError>
+    ensures { IfOk result (λ n. n ≡ length ((first.now ++ second.now) ++ third.now)) }
+{
+    let Some(two) = first.len().checked_add(second.len()) else {
+        return Err(AllocError);
+    };
+    match two.checked_add(third.len()) {
+        Some(size) => Ok(size),
+        None => Err(AllocError),
+    }
+}
+
+/// Puts the frame of the text of these parts, without a mask, behind the bytes.
+fn put_frame(
+    output: &mut Vec<u8>,
+    first: &[u8],
+    second: &[u8],
+    third: &[u8],
+) -> Result<(), AllocError>
+    ensures whole { OnOk result (output.new.items ≡ output.old.items ++ text_frame None ((first.now ++ second.now) ++ third.now)) }
     ensures none { OnErr result (output.new.items ≡ output.old.items) }
 {
     let header = FrameHeader::new(OpCode::Data(Data::Text), None);
-    let size = text.len() as u64;
+    let size = size_of(first, second, third)?;
     // Room for all of it, so that no part is left alone.
-    output.reserve(header.len(size).saturating_add(text.len()))?;
-    header.format(size, output)?;
-    output.extend_from_slice(text)?;
+    output.reserve(header.len(size as u64).saturating_add(size))?;
+    header.format(size as u64, output)?;
+    output.extend_from_slice(first)?;
+    output.extend_from_slice(second)?;
+    output.extend_from_slice(third)?;
     Ok(())
 }
 

@@ -20,7 +20,6 @@ use crate::together::{answer_one, take_events};
 use crate::turns::{Turns, serve_text};
 use event_log::Keeper;
 use event_store::{Desk, Naming, Reader};
-use event_text::EventScratch;
 use nostr_event::Text;
 use nostr_wire::FromRelay;
 use relay_core::{Conn, Step};
@@ -53,7 +52,7 @@ pub fn go_on<W: Wait, S: Write, J: Naming, D: Wait + Drop, H: Keeper<J>>(
     reader: &mut Reader<J>,
     desk: &Mutex<Desk<J, D>>,
     keeper: &H,
-    turns: Turns<'_>,
+    turns: &mut Turns<'_>,
     counts: &mut Counts,
 ) -> Result<Went, LinkFault>
     requires few { AreFew counts.old }
@@ -93,7 +92,7 @@ fn heed<W: Wait, S: Write, J: Naming, D: Wait + Drop, H: Keeper<J>>(
     reader: &mut Reader<J>,
     desk: &Mutex<Desk<J, D>>,
     keeper: &H,
-    turns: Turns<'_>,
+    turns: &mut Turns<'_>,
     counts: &mut Counts,
     reply: &Vec<u8>,
     heard: Heard,
@@ -126,7 +125,7 @@ fn answer_message<W: Wait, S: Write, J: Naming, D: Wait + Drop, H: Keeper<J>>(
     reader: &mut Reader<J>,
     desk: &Mutex<Desk<J, D>>,
     keeper: &H,
-    turns: Turns<'_>,
+    turns: &mut Turns<'_>,
     counts: &mut Counts,
     reply: &Vec<u8>,
     heard: Heard,
@@ -196,7 +195,7 @@ fn answer<W: Wait, S: Write, J: Naming, D: Wait + Drop, H: Keeper<J>>(
     reader: &mut Reader<J>,
     desk: &Mutex<Desk<J, D>>,
     keeper: &H,
-    turns: Turns<'_>,
+    turns: &mut Turns<'_>,
     text: &str,
 ) -> Result<(), LinkFault>
     requires serving { Serving (words text.now ∷ []) conn.old socket.old reader.old }
@@ -206,7 +205,7 @@ fn answer<W: Wait, S: Write, J: Naming, D: Wait + Drop, H: Keeper<J>>(
     ensures limits { conn.new.limits ≡ conn.old.limits }
     ensures reader { IsPrefix reader.old reader.new }
 {
-    let Step { out, store } = serve_text(rt, conn, reader, turns, &mut EventScratch::new(), text)?;
+    let Step { out, store } = serve_text(rt, conn, reader, turns, text)?;
     say_all(alloc, socket, out)?;
     match store {
         Some(event) => answer_one(rt, alloc, socket, conn, reader, desk, keeper, event),

@@ -24,7 +24,7 @@ pub enum Next {
 pub fn next_message<S: Write>(
     socket: &mut Socket<S>,
     reply: &mut Vec<u8>,
-    turns: Turns<'_>,
+    turns: &Turns<'_>,
 ) -> Result<Next, LinkFault>
     ensures fault { IfErr result IsOfStream }
     ensures hears { IfOk result (HearsNext socket.old socket.new reply.new.items) }

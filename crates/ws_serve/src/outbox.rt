@@ -1,7 +1,6 @@
 //! A server's WebSocket on which messages may wait for others.
-ghost use Rattle.std.specs.Prelude.{◌≡◌, [], ◌++◌, map, drop, string_bytes, None, Ok, IfOk, OnOk, OnErr};
+ghost use Rattle.std.specs.Prelude.{◌≡◌, [], ◌++◌, map, drop, None, Ok, IfOk, OnOk, OnErr};
 ghost use Rattle.nostr_wire.specs.Forms.{relay_form};
-ghost use Rattle.nostr_wire.specs.Writing.{text_of as words_of};
 ghost use Rattle.websocket.specs.Connection.{close_step};
 ghost use Rattle.websocket.specs.View.{Leaves};
 ghost use Rattle.websocket.specs.declared.protocol.config.Role.TheVariants.{Server};
@@ -120,8 +119,8 @@ impl<S> Outbox<S> {
         Ok(())
     }
 
-    /// Puts the message behind all that waits, written as one frame (RFC 6455, section 5.2) unless others wait that aren't. Its text is
-    /// made where room is, which is given back.
+    /// Puts the message behind all that waits, written as one frame (RFC 6455, section 5.2) unless others wait that aren't. What has to
+    /// be written for it is written where room is, which is given back.
     pub fn put(&mut self, room: String, message: FromRelay) -> Result<String, AllocError>
         ensures whole { OnOk result (self.new ≡ record self.old { output = self.old.output ++ spoken_one (relay_form message) }) }
         ensures none { OnErr result (self.new ≡ self.old) }
@@ -132,9 +131,9 @@ impl<S> Outbox<S> {
                 Ok(room)
             }
             None => {
-                let text = written(self.alloc, room, message)?;
-                self.wire.put_unmasked(text.as_bytes())?;
-                Ok(text)
+                let room = put_text(self.alloc, &mut self.wire, room, &message)?;
+                drop(message);
+                Ok(room)
             }
         }
     }
@@ -209,7 +208,7 @@ fn write_all<S>(
     Err(AllocError)
 }
 
-/// Writes the first of the messages that wait, if there is one. Its text is made where room is, which is given back then.
+/// Writes the first of the messages that wait, if there is one, by way of room, which is given back then.
 fn write_first<S>(
     alloc: Global,
     wire: &mut Wire<S, NoMask>,
@@ -222,10 +221,9 @@ fn write_first<S>(
     let Some(message) = later.front() else {
         return Ok(None);
     };
-    let text = write_relay_in(alloc, room, message)?;
-    wire.put_unmasked(text.as_bytes())?;
+    let room = put_text(alloc, wire, room, message)?;
     drop_first(later);
-    Ok(Some(text))
+    Ok(Some(room))
 }
 
 /// Drops the first of the messages, if there is one.
@@ -235,13 +233,29 @@ fn drop_first(later: &mut VecDeque<FromRelay>)
     drop(later.pop_front());
 }
 
-/// The message's text, which is made where room is.
-fn written(alloc: Global, room: String, message: FromRelay) -> Result<String, AllocError>
-    ensures { IfOk result (λ s. string_bytes s ≡ words_of (relay_form message)) }
+/// Puts the message's text, as one frame, behind what waits in the wire. An event's own text is copied there from the event; what else
+/// the message says is written where room is, which is given back.
+fn put_text<S>(
+    alloc: Global,
+    wire: &mut Wire<S, NoMask>,
+    room: String,
+    message: &FromRelay,
+) -> Result<String, AllocError>
+    ensures whole { OnOk result (wire.new ≡ record wire.old { output = wire.old.output ++ spoken_one (relay_form message.now) }) }
+    ensures none { OnErr result (wire.new ≡ wire.old) }
 {
-    let text = write_relay_in(alloc, room, &message);
-    drop(message);
-    text
+    match message {
+        FromRelay::Event { sub, event } => {
+            let begun = sub.begin(room)?;
+            wire.put_unmasked_parts(begun.as_bytes(), event.text().as_bytes(), b"]")?;
+            Ok(begun)
+        }
+        other => {
+            let text = write_relay_in(alloc, room, other)?;
+            wire.put_unmasked(text.as_bytes())?;
+            Ok(text)
+        }
+    }
 }
 
 impl<S: Read> Outbox<S> {

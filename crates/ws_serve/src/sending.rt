@@ -75,7 +75,8 @@ pub fn say_all<S: Write>(
     Ok(())
 }
 
-/// Puts the message, which is no OK with true, behind what waits to be sent. Its text is made where room is, which is given back.
+/// Puts the message, which is no OK with true, behind what waits to be sent. What has to be written for it is written where room is,
+/// which is given back.
 pub fn say<S: Write>(
     socket: &mut Socket<S>,
     room: String,

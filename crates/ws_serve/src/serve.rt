@@ -9,6 +9,7 @@ use crate::turning::Turned;
 use crate::turns::Turns;
 use event_log::{Keeper, Unfiled};
 use event_store::{Desk, Naming, Reader};
+use event_text::EventScratch;
 use relay_core::RelayLimits;
 use std::alloc::Global;
 use std::io::{Read, Write};
@@ -58,11 +59,12 @@ pub fn serve_kept<W: Wait, S: Read + Write + Drop, J: Naming, D: Wait + Drop, H:
 {
     // No more than what the stream takes at once may wait.
     let mut talk = Talk::new(alloc, accept(alloc, stream)?, limits, 0)?;
-    let turns = Turns {
+    let mut turns = Turns {
         lock: turn,
         reads_long: true,
+        scratch: &mut EventScratch::new(),
     };
-    serve_all(rt, alloc, &mut talk, reader, desk, keeper, turns)
+    serve_all(rt, alloc, &mut talk, reader, desk, keeper, &mut turns)
 }
 
 /// Serves turn by turn until the connection is over, and sends what was answered. It gives the number of texts served.
@@ -73,7 +75,7 @@ fn serve_all<W: Wait, S: Read + Write, J: Naming, D: Wait + Drop, H: Keeper<J>>(
     reader: &mut Reader<J>,
     desk: &Mutex<Desk<J, D>>,
     keeper: &H,
-    turns: Turns<'_>,
+    turns: &mut Turns<'_>,
 ) -> Result<u64, LinkFault>
     ensures served { IfOk result (λ n. n ≤ 1000000) }
     ensures fault { IfErr result IsOfStream }
@@ -98,7 +100,7 @@ fn serve<W: Wait, S: Read + Write, J: Naming, D: Wait + Drop, H: Keeper<J>>(
     reader: &mut Reader<J>,
     desk: &Mutex<Desk<J, D>>,
     keeper: &H,
-    turns: Turns<'_>,
+    turns: &mut Turns<'_>,
 ) -> Result<(), LinkFault>
     ensures fault { IfErr result IsOfStream }
     ensures reader { IsPrefix reader.old reader.new }

@@ -172,7 +172,7 @@ impl<S: Write> Socket<S> {
     }
 
     /// Puts a message behind what waits. It is written, as one frame (RFC 6455, section 5.2), unless the stream would block while more
-    /// waits than may. Its text is made where room is, which is given back.
+    /// waits than may. What has to be written for it is written where room is, which is given back.
     pub fn put(&mut self, room: String, message: FromRelay) -> Result<String, LinkFault>
         ensures fault { IfErr result IsOfStream }
         ensures whole { OnOk result (Says self.old self.new (spoken_one (relay_form message))) }
@@ -182,11 +182,13 @@ impl<S: Write> Socket<S> {
             self.outbox.put_later(message)?;
             return Ok(room);
         }
-        let text = self.outbox.put(room, message)?;
-        if text.len() >= MANY || self.outbox.waiting() >= MOST_GATHERED {
+        let before = self.outbox.waiting();
+        let room = self.outbox.put(room, message)?;
+        let waiting = self.outbox.waiting();
+        if waiting.saturating_sub(before) >= MANY || waiting >= MOST_GATHERED {
             self.send()?;
         }
-        Ok(text)
+        Ok(room)
     }
 
     /// Puts a close behind what waits.

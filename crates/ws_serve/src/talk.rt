@@ -138,7 +138,7 @@ impl<S: Read + Write, J: Naming> Talk<S, J> {
         reader: &mut Reader<J>,
         desk: &Mutex<Desk<J, D>>,
         keeper: &H,
-        turns: Turns<'_>,
+        turns: &mut Turns<'_>,
     ) -> Result<Turned, LinkFault>
         ensures fault { IfErr result IsOfStream }
         ensures limits { self.new.conn.limits ≡ self.old.conn.limits }
@@ -158,7 +158,7 @@ impl<S: Read + Write, J: Naming> Talk<S, J> {
         reader: &mut Reader<J>,
         desk: &Mutex<Desk<J, D>>,
         keeper: &H,
-        turns: Turns<'_>,
+        turns: &mut Turns<'_>,
     ) -> Result<Turned, LinkFault>
         requires known { self.old.seen ≡ Some reader.old }
         ensures fault { IfErr result IsOfStream }

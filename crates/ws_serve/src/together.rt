@@ -22,7 +22,6 @@ use crate::socket::Socket;
 use crate::turns::{Turns, serve_text};
 use event_log::{Keeper, Kept};
 use event_store::{Desk, InsertFault, Naming, Placed, Reader};
-use event_text::EventScratch;
 use item_key::Id;
 use nostr_event::Event;
 use nostr_wire::FromRelay;
@@ -69,7 +68,7 @@ pub fn take_events<W: Wait, S: Write, J: Naming, D: Wait + Drop, H: Keeper<J>>(
     reader: &mut Reader<J>,
     desk: &Mutex<Desk<J, D>>,
     keeper: &H,
-    turns: Turns<'_>,
+    turns: &mut Turns<'_>,
     counts: &mut Counts,
     reply: &mut Vec<u8>,
     text: String,
@@ -129,7 +128,7 @@ fn gather<W: Wait, S: Write, J: Naming>(
     socket: &mut Socket<S>,
     conn: &mut Conn,
     reader: &mut Reader<J>,
-    turns: Turns<'_>,
+    turns: &mut Turns<'_>,
     counts: &mut Counts,
     reply: &mut Vec<u8>,
     mut text: String,
@@ -149,11 +148,10 @@ fn gather<W: Wait, S: Write, J: Naming>(
     ensures failed { OnErr result (Served conn.new socket.new reader.new) }
     ensures reader { IsPrefix reader.old reader.new }
 {
-    let mut scratch = EventScratch::new();
     for _event in 0..MOST_TOGETHER {
         counts.reads += 1;
         counts.texts += 1;
-        let Step { out, store } = serve_text(rt, conn, reader, turns, &mut scratch, text.as_str())?;
+        let Step { out, store } = serve_text(rt, conn, reader, turns, text.as_str())?;
         let Some(event) = store else {
             return Ok(Behind {
                 heard: Ok(None),

@@ -53,7 +53,7 @@ pub fn run<W: Wait, S: Read + Write, J: Naming, D: Wait + Drop, H: Keeper<J>>(
     reader: &mut Reader<J>,
     desk: &Mutex<Desk<J, D>>,
     keeper: &H,
-    turns: Turns<'_>,
+    turns: &mut Turns<'_>,
     counts: &mut Counts,
 ) -> Result<Turned, LinkFault>
     requires few { AreFew counts.old }
@@ -78,7 +78,7 @@ fn go<W: Wait, S: Read + Write, J: Naming, D: Wait + Drop, H: Keeper<J>>(
     reader: &mut Reader<J>,
     desk: &Mutex<Desk<J, D>>,
     keeper: &H,
-    turns: Turns<'_>,
+    turns: &mut Turns<'_>,
     counts: &mut Counts,
 ) -> Result<Turned, LinkFault>
     requires few { AreFew counts.old }
@@ -121,7 +121,7 @@ fn step<W: Wait, S: Read + Write, J: Naming, D: Wait + Drop, H: Keeper<J>>(
     reader: &mut Reader<J>,
     desk: &Mutex<Desk<J, D>>,
     keeper: &H,
-    turns: Turns<'_>,
+    turns: &mut Turns<'_>,
     counts: &mut Counts,
 ) -> Result<Option<Turned>, LinkFault>
     requires few { AreFew counts.old }

@@ -18,13 +18,15 @@ use ws_socket::LinkFault;
 /// A text of more bytes is long. What is read of it may take a hundred times as much memory meanwhile.
 const LONG_TEXT: usize = 262_144;
 
-/// How a turn reads long texts.
-#[derive(Clone, Copy)]
+/// How turns read texts.
+#[derive(Drop)]
 pub struct Turns<'t> {
     /// Held while a long text is read: of connections that share it one is read at a time.
     pub lock: &'t Mutex<()>,
-    /// Whether this turn reads long texts. Else it ends before one, and the next begins with it.
+    /// Whether these turns read long texts. Else a turn ends before one, and the next begins with it.
     pub reads_long: bool,
+    /// What reading takes of memory beside what is read. One connection after another may use it.
+    pub scratch: &'t mut EventScratch,
 }
 
 impl<'t> Turns<'t> {
@@ -39,8 +41,7 @@ pub fn serve_text<W: Wait, J: Naming>(
     rt: &W,
     conn: &mut Conn,
     reader: &mut Reader<J>,
-    turns: Turns<'_>,
-    scratch: &mut EventScratch,
+    turns: &mut Turns<'_>,
     text: &str,
 ) -> Result<Step, LinkFault>
     ensures served { IfOk result (λ s. GoesOnBy (λ old new. Serves conn.old.limits reader.new text.now old (turn_of s new)) conn.old.kept conn.new.kept) }
@@ -50,10 +51,10 @@ pub fn serve_text<W: Wait, J: Naming>(
     ensures reader { IsPrefix reader.old reader.new }
 {
     if text.len() <= LONG_TEXT {
-        return on_link(conn.serve_with(reader, scratch, text));
+        return on_link(conn.serve_with(reader, turns.scratch, text));
     }
     let held = turns.lock.lock(rt);
-    let step = on_link(conn.serve_with(reader, scratch, text));
+    let step = on_link(conn.serve_with(reader, turns.scratch, text));
     drop(held);
     step
 }

@@ -5,6 +5,7 @@ use super::links::{HEARD, SAID, put_frame, small_limits};
 use super::wires::Dripping;
 use event_log::Unfiled;
 use event_store::{Blank, Naming, open_store};
+use event_text::EventScratch;
 use std::alloc::Global;
 use std::marker::Brand;
 use std::sync::{Mutex, Wait};
@@ -39,13 +40,14 @@ fn served<J: Naming, R: Wait>(
     let desk = Mutex::new(desk);
     let mut talk = Talk::new(alloc, stream, small_limits(), most_waiting).ok()?;
     let lock = Mutex::new(());
-    let turns = Turns {
+    let mut turns = Turns {
         lock: &lock,
         reads_long: true,
+        scratch: &mut EventScratch::new(),
     };
     for _turn in 0..100_000 {
         let turned = talk
-            .turn(rt, alloc, &mut reader, &desk, &Unfiled, turns)
+            .turn(rt, alloc, &mut reader, &desk, &Unfiled, &mut turns)
             .ok()?;
         if turned == Turned::Over && !talk.has_waiting() {
             return Some(talk.texts());
@@ -116,14 +118,16 @@ fn served_by<J: Naming, R: Wait>(
     let mut talk = Talk::new(alloc, stream, small_limits(), 0).ok()?;
     let lock = Mutex::new(());
     let mut served = Vec::new(alloc);
+    let mut scratch = EventScratch::new();
     for reads_long in kinds {
-        let turns = Turns {
+        let mut turns = Turns {
             lock: &lock,
             reads_long,
+            scratch: &mut scratch,
         };
         for _turn in 0..1_000_000 {
             let turned = talk
-                .turn(rt, alloc, &mut reader, &desk, &Unfiled, turns)
+                .turn(rt, alloc, &mut reader, &desk, &Unfiled, &mut turns)
                 .ok()?;
             if turned == Turned::Later || talk.texts() == 2 {
                 break;
