@@ -91,6 +91,8 @@ class Cutting:
         for limit in (None, most):
             here, _from = self.server.accept()
             there = socket.create_connection(("127.0.0.1", port))
+            for end in (here, there):
+                end.setsockopt(socket.IPPROTO_TCP, socket.TCP_NODELAY, 1)
             for one, other, end in ((here, there, None), (there, here, limit)):
                 threading.Thread(target=self.copy, args=(one, other, end), daemon=True).start()
 
