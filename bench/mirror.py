@@ -1,7 +1,7 @@
 #!/usr/bin/env python3
 """Measures `mirror`: a pass from nothing, and passes that need nothing.
 
-    bench/mirror.py [--mirror PATH] [--relays K] [--held N] [--events M] [--workers W] [--passes P] [--fsync WORD]
+    bench/mirror.py [--baseline PATH] [--mirror PATH] [--relays K] [--held N] [--events M] [--workers W] [--passes P] [--fsync WORD]
 
 The inputs are M events as JSON with right ids (`inputs.py`). Each of K relays of the same program holds N of them, one behind
 another from its own place on, so that each event is held by one relay or by several. The mirror fetches all in one pass, with W
@@ -9,6 +9,8 @@ connections to each relay. Then it is started again, and goes over these relays,
 passes more than one; the same over as many that have just its events; and over as many that this script plays, which have these too
 and compare any number of them at once. Shown are the wall time, the processor time of the mirror and of all relays that aren't
 played, and the mirror's greatest peak of resident memory; of the later passes what one of them took.
+
+With `--baseline`, a plain program, `sync` of both is measured before, from nothing, of as many relays with a fifth of the events.
 
 As large as a store can be, it is `bench/mirror.py --held 300000 --events 1000000`: that takes some 12 GB of memory, and 3 GB on the
 disk.
@@ -55,7 +57,30 @@ def same(found, wanted):
 
 
 def told_row(name, wall, seconds, theirs, peak):
-    print("%-22s %9.3f s wall %9.3f s processor %9.3f s of all relays %6.0f MiB" % (name, wall, seconds, theirs, peak), flush=True)
+    print("%-35s %9.3f s wall %9.3f s processor %9.3f s of all relays %6.0f MiB" % (name, wall, seconds, theirs, peak), flush=True)
+
+
+def served(options, folder, source, events, held):
+    """The relays, each of which has so many of the events from its own place on."""
+    firsts = [relay * events // options.relays for relay in range(options.relays)]
+    return [Serving(options.mirror, folder, "relay%d" % relay, 1000000, held_by(source, events, first, held))
+            for relay, first in enumerate(firsts)]
+
+
+def synced(options, folder):
+    """One `sync` of each program, from nothing."""
+    events, held = options.events // 5, min(options.held, options.events) // 5
+    source = os.path.join(folder, "few")
+    made(write_events, source, events)
+    serving = served(options, folder, source, events, held)
+    for name, program in (("sync", options.mirror), ("the plain program's", options.baseline)):
+        file = os.path.join(folder, "sync.jsonl")
+        open(file, "w", encoding="utf-8").close()
+        conf = settings(os.path.join(folder, "sync.toml"), events=file, relays=["127.0.0.1:%d" % relay.port for relay in serving])
+        before = cost(serving)
+        said, wall, seconds, peak = apart([program, "sync", conf])
+        told_row("%s, %s events" % (name, re.search(r"given (\d+)", said).group(1)), wall, seconds, cost(serving) - before, peak / 1024)
+    ended(serving)
 
 
 def cost(serving):
@@ -96,6 +121,7 @@ def ended(serving):
 
 def main():
     parser = argparse.ArgumentParser(description=__doc__.split("\n")[0])
+    parser.add_argument("--baseline", help="a plain program to compare with")
     parser.add_argument("--mirror", default=program_of("mirror_app"))
     parser.add_argument("--relays", type=int, default=5)
     parser.add_argument("--held", type=int, default=30000)
@@ -108,10 +134,11 @@ def main():
     firsts = [relay * events // relays for relay in range(relays)]
     count = sum(any((place - first) % events < held for first in firsts) for place in range(events))
     with tempfile.TemporaryDirectory() as folder:
+        if options.baseline:
+            synced(options, folder)
         source = os.path.join(folder, "events")
         made(write_events, source, events)
-        serving = [Serving(options.mirror, folder, "relay%d" % relay, 1000000, held_by(source, events, first, held))
-                   for relay, first in enumerate(firsts)]
+        serving = served(options, folder, source, events, held)
         print("%d relays of %d events, %d in all, %.0f MB" % (relays, held, count, os.path.getsize(source) / 1e6), flush=True)
         from_nothing(folder, serving, count, options)
         level(folder, "nothing is needed", [relay.port for relay in serving], serving, options)
