@@ -10,7 +10,6 @@
 // The clients read as soon as something comes, and so share the processors with the relay. With WAIT they do nothing for so many
 // milliseconds, as if they were on other machines, and then tell when each had something at its socket, as the system notes it
 // (SO_TIMESTAMPNS of socket(7)).
-#include <arpa/inet.h>
 #include <errno.h>
 #include <fcntl.h>
 #include <stdio.h>
@@ -40,16 +39,6 @@ static int framed(unsigned char *into, const char *text) {
     return size + head + 4;
 }
 
-static int joined(int port) {
-    struct sockaddr_in at = {.sin_family = AF_INET, .sin_port = htons(port), .sin_addr.s_addr = htonl(INADDR_LOOPBACK)};
-    int stream = socket(AF_INET, SOCK_STREAM, 0);
-    if (stream < 0 || connect(stream, (struct sockaddr *)&at, sizeof at) < 0) stop("connect");
-    const char *head = "GET / HTTP/1.1\r\nHost: a\r\nConnection: Upgrade\r\nUpgrade: websocket\r\n"
-                       "Sec-WebSocket-Version: 13\r\nSec-WebSocket-Key: dGhlIHNhbXBsZSBub25jZQ==\r\n\r\n";
-    if (send(stream, head, strlen(head), 0) < 0) stop("send");
-    return stream;
-}
-
 // Receives until these words have come; of what came before them only the last is kept.
 static void receive(int stream, char *buffer, const char *words) {
     int got = 0;
@@ -62,11 +51,6 @@ static void receive(int stream, char *buffer, const char *words) {
         if (strstr(buffer, words)) return;
         if (got > 2048) memmove(buffer, buffer + got - 64, 64), got = 64;
     }
-}
-
-static int wide(const void *a, const void *b) {
-    double x = *(const double *)a, y = *(const double *)b;
-    return (x > y) - (x < y);
 }
 
 static int count, *streams, had;

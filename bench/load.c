@@ -7,7 +7,6 @@
 // It prints `COUNT SECONDS`: how many events were taken, or came, and how long that took behind the handshakes. The connections stay
 // until standard input has ended.
 #define _GNU_SOURCE
-#include <arpa/inet.h>
 #include <netinet/tcp.h>
 #include <pthread.h>
 #include <stdint.h>
@@ -130,14 +129,10 @@ static const char *next(struct client *client, size_t *size) {
 }
 
 static void begin(struct client *client, int port) {
-    struct sockaddr_in at = {.sin_family = AF_INET, .sin_port = htons((uint16_t)port), .sin_addr.s_addr = htonl(INADDR_LOOPBACK)};
-    client->stream = socket(AF_INET, SOCK_STREAM, 0);
+    client->stream = joined(port);
     client->room = malloc(ROOM);
-    if (!client->room || client->stream < 0 || connect(client->stream, (struct sockaddr *)&at, sizeof at) < 0) stop("connect");
+    if (!client->room) stop("memory");
     setsockopt(client->stream, IPPROTO_TCP, TCP_NODELAY, &(int){1}, sizeof(int));
-    const char *head = "GET / HTTP/1.1\r\nHost: a\r\nConnection: Upgrade\r\nUpgrade: websocket\r\n"
-                       "Sec-WebSocket-Version: 13\r\nSec-WebSocket-Key: dGhlIHNhbXBsZSBub25jZQ==\r\n\r\n";
-    if (send(client->stream, head, strlen(head), 0) < 0) stop("send");
     // Nothing comes behind the relay's head until it is asked for something.
     while (client->to < 4 || memcmp(client->room + client->to - 4, "\r\n\r\n", 4) != 0) refill(client);
     client->from = client->to = 0;

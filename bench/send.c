@@ -5,7 +5,6 @@
 // Connects so many clients of a child process, and then sends 340 bytes to each of them, ten times over, by so many threads. It prints
 // for each time `HALF LAST`: after how many milliseconds half of the clients had received something, and all. With WAIT the clients
 // read so many milliseconds later, and it tells when each had something at its socket, as `crowd.c` does.
-#include <arpa/inet.h>
 #include <fcntl.h>
 #include <pthread.h>
 #include <stdio.h>
@@ -33,11 +32,6 @@ static void *sender(void *number) {
         pthread_barrier_wait(&end);
     }
     return 0;
-}
-
-static int wide(const void *a, const void *b) {
-    double x = *(const double *)a, y = *(const double *)b;
-    return (x > y) - (x < y);
 }
 
 // The clients read as something comes.

@@ -1,5 +1,6 @@
-// What the programs of this folder share: the time in seconds, what a socket has received and when, and the end of a program whose system
-// call failed.
+// What the programs of this folder share: the time in seconds, connections, what a socket has received and when, and the end of a program
+// whose system call failed.
+#include <arpa/inet.h>
 #include <stdio.h>
 #include <stdlib.h>
 #include <string.h>
@@ -44,4 +45,21 @@ static inline int received(int stream, char *buffer, double *at) {
         }
     }
     return got;
+}
+
+// A connection to a relay of this machine, which has asked for a WebSocket and hasn't read the answer.
+static inline int joined(int port) {
+    struct sockaddr_in at = {.sin_family = AF_INET, .sin_port = htons(port), .sin_addr.s_addr = htonl(INADDR_LOOPBACK)};
+    int stream = socket(AF_INET, SOCK_STREAM, 0);
+    if (stream < 0 || connect(stream, (struct sockaddr *)&at, sizeof at) < 0) stop("connect");
+    const char *head = "GET / HTTP/1.1\r\nHost: a\r\nConnection: Upgrade\r\nUpgrade: websocket\r\n"
+                       "Sec-WebSocket-Version: 13\r\nSec-WebSocket-Key: dGhlIHNhbXBsZSBub25jZQ==\r\n\r\n";
+    if (send(stream, head, strlen(head), 0) < 0) stop("send");
+    return stream;
+}
+
+// The order of times, for qsort.
+static inline int wide(const void *a, const void *b) {
+    double x = *(const double *)a, y = *(const double *)b;
+    return (x > y) - (x < y);
 }
