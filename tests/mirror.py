@@ -7,7 +7,7 @@ A relay serves 300 events. A mirror with `listen` compares and fetches them, wit
 an event in and is sent what comes. Then a mirror whose reader leaves is refused while it serves: it has to end at once, with
 the client's event in its file. A relay that is killed has kept what its clients put in. A client takes a second over its handshake. Relays that say
 nothing have failed after `timeout_ms`, and a client that reads nothing is let go. Last, `--progress` tells how far a mirror of two
-relays is while the answers of one of them are held back.
+relays is while the answers of one of them are held back. The job `mirror` takes clients' events where it may, and else refuses them.
 """
 import json
 import os
@@ -205,10 +205,23 @@ def tells_progress(path, folder):
         relay.communicate(timeout=60)
 
 
+def takes_events_where_it_may(path, folder):
+    """The job `mirror` refuses clients' events unless its settings say otherwise."""
+    new = event(1, "new")
+    for values, answer in (({}, [False, "blocked: this relay takes no events"]), ({"read_only": False}, [True, ""])):
+        mirror, port = run(path, folder, "mirror", "taking", **values)
+        client = Client(port)
+        client.send(json.dumps(["EVENT", new]).encode())
+        same(json.loads(client.read()), ["OK", new["id"], *answer])
+        client.close()
+        mirror.kill()
+        mirror.communicate()
+
+
 def main():
     path = program()
     for part in (serves_meanwhile, keeps_what_came_in, ends_when_refused, waits_for_handshakes, gives_up_on_silence, lets_go_who_reads_nothing,
-                 tells_progress):
+                 tells_progress, takes_events_where_it_may):
         with tempfile.TemporaryDirectory() as folder:
             part(path, folder)
         print(part.__name__.replace("_", " "))
