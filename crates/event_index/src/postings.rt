@@ -40,10 +40,9 @@ fn put_event(postings: &mut Vec<u64>, event: &Event, place: usize) -> Result<(),
     requires { place < 2 ^ 20 }
     ensures { OnOk result (postings.new.items ≡ postings.old.items ++ map (λ m. posting m place) (marks_of event.now)) }
 {
-    let draft = event.draft();
-    put_posting(postings, author_mark(&draft.pubkey), place)?;
-    put_posting(postings, draft.kind as u64, place)?;
-    for tag in draft.tags.iter() {
+    put_posting(postings, author_mark(event.pubkey()), place)?;
+    put_posting(postings, event.kind() as u64, place)?;
+    for tag in event.tags().iter() {
         put_marked(postings, tag_mark(&tag), place)?;
     }
     Ok(())

@@ -120,7 +120,7 @@ fn keep_first(ranks: &mut Vec<Rank>, filter: &Filter)
 
 // Whether the event has a time, as each has, which is to read where it stands.
 fn has_time(event: &Event) -> bool {
-    event.draft().created_at < u64::MAX
+    event.created_at() < u64::MAX
 }
 
 // How many of the places have an event. Each event is read where its time stands before the first is matched: these reads don't

@@ -39,10 +39,9 @@ impl Entry {
     pub fn new(place: usize, event: Arc<Event>) -> Entry
         ensures { result ≡ (place, event.value) }
     {
-        let draft = event.draft();
-        let time = draft.created_at;
-        let author = draft.pubkey;
-        let kind = draft.kind;
+        let time = event.created_at();
+        let author = *event.pubkey();
+        let kind = event.kind();
         Entry {
             time,
             place,

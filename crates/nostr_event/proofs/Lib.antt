@@ -10,4 +10,4 @@ pub mod Bytes
 pub mod Plain
 pub mod Halves
 pub mod Parting
-pub mod Walked
+pub mod Rereading

@@ -1,4 +1,6 @@
 // What an event says.
+ghost use Rattle.std.specs.Prelude.{◌≡◌};
+
 use crate::tags::Tags;
 use crate::texts::Text;
 
@@ -32,5 +34,21 @@ impl Drop for Draft {
             tags: _,
             content: _,
         } = self;
+    }
+}
+
+impl Draft {
+    /// Its author, its time, its kind and its tags. The content is let go.
+    pub(crate) fn into_parts(self) -> ([u8; 32], u64, u16, Tags)
+        ensures { result ≡ (self.pubkey, self.created_at, self.kind, self.tags) }
+    {
+        let Self {
+            pubkey,
+            created_at,
+            kind,
+            tags,
+            content: _,
+        } = self;
+        (pubkey, created_at, kind, tags)
     }
 }

@@ -8,18 +8,22 @@ ghost use Rattle.nostr_event.specs.EventJson.{Reads, object_of};
 use crate::draft::{Draft, Spelling};
 use crate::ids::id_of;
 use crate::printing::text_of;
+use crate::tags::Tags;
 use item_key::{Id, Item};
 use std::alloc::{AllocError, Global};
 use std::marker::Model;
 
 /// An event: its id is the digest of one of the two spellings of its draft's text, and its time is below 2^64-1. The signature
-/// isn't checked. The text of its JSON is kept beside it, since it is sent more often than it is read.
+/// isn't checked. The text of its JSON is kept, since it is sent more often than it is read; the content and the signature stand
+/// nowhere else.
 pub struct Event {
     // First, so that what leads to it lies beside an `Arc`'s counts, which sending it reads too.
     text: String,
     id: Id,
-    draft: Draft,
-    sig: [u8; 64],
+    pubkey: [u8; 32],
+    created_at: u64,
+    kind: u16,
+    tags: Tags,
 }
 
 // By hand, as a derived one is proved anew wherever a value is dropped.
@@ -28,8 +32,10 @@ impl Drop for Event {
         let Self {
             text: _,
             id: _,
-            draft: _,
-            sig: _,
+            pubkey: _,
+            created_at: _,
+            kind: _,
+            tags: _,
         } = self;
     }
 }
@@ -39,13 +45,14 @@ impl Model for Event {
     ghost use Rattle.serde_json.specs.Written.{compact_text};
     ghost use Rattle.nostr_event.specs.EventView.{EventView, IsEvent};
     ghost use Rattle.nostr_event.specs.EventJson.{object_of};
+    ghost use Rattle.nostr_event.specs.Said.{event_with};
 
     ghost Value = { EventView };
 
-    ghost view = { λ e. record { id = e.id; draft = e.draft; sig = e.sig } };
+    ghost view = { λ e. event_with e.id e.pubkey e.created_at e.kind e.tags (string_bytes e.text) };
 
-    ghost invariant = { λ e. IsEvent (record { id = e.id; draft = e.draft; sig = e.sig })
-        × (string_bytes e.text ≡ compact_text (object_of (record { id = e.id; draft = e.draft; sig = e.sig }))) };
+    ghost invariant = { λ e. IsEvent (event_with e.id e.pubkey e.created_at e.kind e.tags (string_bytes e.text))
+        × (string_bytes e.text ≡ compact_text (object_of (event_with e.id e.pubkey e.created_at e.kind e.tags (string_bytes e.text)))) };
 }
 
 impl Event {
@@ -58,18 +65,30 @@ impl Event {
         self.id
     }
 
-    /// What the event says.
-    pub fn draft(&self) -> &Draft
-        ensures { result.now ≡ self.now.draft }
+    /// The author's public key.
+    pub fn pubkey(&self) -> &[u8; 32]
+        ensures { result.now ≡ self.now.draft.pubkey }
     {
-        &self.draft
+        &self.pubkey
     }
 
-    /// The signature, which was never checked.
-    pub fn sig(&self) -> &[u8; 64]
-        ensures { result.now ≡ self.now.sig }
+    /// Seconds since the Unix epoch.
+    pub fn created_at(&self) -> u64
+        ensures { result ≡ self.now.draft.created_at }
     {
-        &self.sig
+        self.created_at
+    }
+
+    pub fn kind(&self) -> u16
+        ensures { result ≡ self.now.draft.kind }
+    {
+        self.kind
+    }
+
+    pub fn tags(&self) -> &Tags
+        ensures { result.now ≡ self.now.draft.tags }
+    {
+        &self.tags
     }
 
     /// The text of the event's JSON object (NIP-01), with no space.
@@ -85,9 +104,9 @@ impl Event {
         ensures value { result ≡ item_of self.now }
         ensures finite { result.time < endless }
     {
-        let Event { id, draft, .. } = self;
+        let Event { id, created_at, .. } = self;
         Item {
-            time: draft.created_at,
+            time: *created_at,
             id: *id,
         }
     }
@@ -103,6 +122,23 @@ fn is_id_of(alloc: Global, id: &Id, draft: &Draft) -> Result<bool, AllocError>
     )
 }
 
+// The event of these parts, whose id is the draft's. Of the content and the signature its text alone is kept.
+fn with_text(alloc: Global, id: Id, draft: Draft, sig: &[u8; 64]) -> Result<Event, AllocError>
+    requires { IsEvent (record { id = id; draft = draft; sig = sig.now }) }
+    ensures { IfOk result (λ e. e ≡ record { id = id; draft = draft; sig = sig.now }) }
+{
+    let text = text_of(alloc, &id, &draft, sig)?;
+    let (pubkey, created_at, kind, tags) = draft.into_parts();
+    Ok(Event {
+        text,
+        id,
+        pubkey,
+        created_at,
+        kind,
+        tags,
+    })
+}
+
 impl Event {
     /// The event of these parts, if the id is the draft's.
     pub fn from_parts(
@@ -116,13 +152,7 @@ impl Event {
         ensures refused { IfOk result (λ o. o ≡ None → ¬ IsIdOf id draft) }
     {
         if is_id_of(alloc, &id, &draft)? {
-            let text = text_of(alloc, &id, &draft, &sig)?;
-            Ok(Some(Event {
-                id,
-                draft,
-                sig,
-                text,
-            }))
+            Ok(Some(with_text(alloc, id, draft, &sig)?))
         } else {
             Ok(None)
         }

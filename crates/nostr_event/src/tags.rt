@@ -93,6 +93,19 @@ impl Tags {
         Tags { bytes, ends, tags }
     }
 
+    /// The same tags, in memory of their own.
+    pub fn copied(&self, alloc: Global) -> Result<Tags, AllocError>
+        ensures { IfOk result (λ t. t ≡ self.now) }
+    {
+        let mut bytes = Vec::new(alloc);
+        bytes.extend_from_slice(&self.bytes)?;
+        let mut ends = Vec::new(alloc);
+        ends.extend_from_slice(&self.ends)?;
+        let mut tags = Vec::new(alloc);
+        tags.extend_from_slice(&self.tags)?;
+        Ok(Tags { bytes, ends, tags })
+    }
+
     /// How many there are.
     pub fn len(&self) -> usize
         ensures { result ≡ length self.now }

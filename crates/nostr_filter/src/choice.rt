@@ -26,7 +26,7 @@ pub fn rank_at(place: usize, event: &Event) -> Rank
     ensures { result ≡ rank_of place event.now }
 {
     Rank {
-        time: Reverse(event.draft().created_at),
+        time: Reverse(event.created_at()),
         id: event.id(),
         place,
     }

@@ -76,9 +76,12 @@ impl Filter {
     pub fn matches(&self, event: &Event) -> bool
         ensures value { result ≡ matches_of self.now event.now }
     {
-        let draft = event.draft();
-        self.meets(&event.id(), &draft.pubkey, draft.kind, draft.created_at)
-            && self.meets_tags(event)
+        self.meets(
+            &event.id(),
+            event.pubkey(),
+            event.kind(),
+            event.created_at(),
+        ) && self.meets_tags(event)
     }
 
     /// Whether the event meets each condition on tags. Where there is none, the event isn't read.
@@ -88,7 +91,7 @@ impl Filter {
         self.tags
             .as_slice()
             .iter()
-            .all(|condition| condition_met(condition, &event.draft().tags))
+            .all(|condition| condition_met(condition, event.tags()))
     }
 
     fn is_within(&self, time: u64) -> bool

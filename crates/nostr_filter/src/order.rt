@@ -163,7 +163,7 @@ impl TagOrder {
     pub fn new(alloc: Global, event: &Event) -> Result<TagOrder, AllocError>
         ensures { IfOk result (λ o. IsOrderOf event.now.draft.tags o) }
     {
-        let tags = &event.draft().tags;
+        let tags = event.tags();
         if tags.len() < MANY_TAGS {
             return Ok(TagOrder { places: None });
         }
@@ -205,8 +205,11 @@ impl Filter {
         requires { IsOrderOf event.now.draft.tags order.now }
         ensures value { result ≡ matches_of self.now event.now }
     {
-        let draft = event.draft();
-        self.meets(&event.id(), &draft.pubkey, draft.kind, draft.created_at)
-            && all_by(self.tags.as_slice(), &draft.tags, order)
+        self.meets(
+            &event.id(),
+            event.pubkey(),
+            event.kind(),
+            event.created_at(),
+        ) && all_by(self.tags.as_slice(), event.tags(), order)
     }
 }

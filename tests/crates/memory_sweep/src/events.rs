@@ -4,7 +4,7 @@ use crate::said::Said;
 use event_text::EventScratch;
 use id_text::parse_bytes;
 use neg_codec::Id;
-use nostr_event::{Event, EventFault, Spelling, bytes32_of, id_of, id_text};
+use nostr_event::{Draft, Event, EventFault, Spelling, bytes32_of, id_of, id_text};
 use nostr_filter::{Filter, FilterFault, TagOrder, choose};
 use nostr_wire::{WireFault, read_client, read_client_few, read_relay, write_client, write_relay};
 use serde_json::Value;
@@ -19,6 +19,8 @@ pub const NAMES: &[&str] = &[
     "id_of",
     "Event::from_json",
     "Event::to_json",
+    "Event::content",
+    "Event::to_draft",
     "Filter::from_json",
     "Filter::to_json",
     "choose",
@@ -48,6 +50,8 @@ pub fn said_of(alloc: Global, name: &str) -> Option<Said> {
         "id_of" => digest(alloc),
         "Event::from_json" => read_event(alloc),
         "Event::to_json" => write_event(alloc),
+        "Event::content" => content_of_event(alloc),
+        "Event::to_draft" => draft_of_event(alloc),
         "Filter::from_json" => read_filter(alloc),
         "Filter::to_json" => write_filter(alloc),
         "choose" => chosen(alloc),
@@ -161,17 +165,22 @@ fn bytes_of_text(alloc: Global) -> Option<Said> {
     }
 }
 
+/// What the first event says.
+fn draft(alloc: Global) -> Option<Draft> {
+    event(alloc, 0)?.to_draft(alloc).ok()
+}
+
 fn text_of_id(alloc: Global, spelling: Spelling) -> Option<Said> {
-    let event = event(alloc, 0)?;
-    match id_text(alloc, event.draft(), spelling) {
+    let draft = draft(alloc)?;
+    match id_text(alloc, &draft, spelling) {
         Ok(text) => Said::ample(text.as_str() == ID_TEXT),
         Err(_) => Said::memory(true),
     }
 }
 
 fn digest(alloc: Global) -> Option<Said> {
-    let event = event(alloc, 0)?;
-    match id_of(alloc, event.draft(), Spelling::Escaped) {
+    let draft = draft(alloc)?;
+    match id_of(alloc, &draft, Spelling::Escaped) {
         Ok(id) => Said::ample(event_id(0) == Some(id)),
         Err(_) => Said::memory(true),
     }
@@ -181,10 +190,26 @@ fn read_event(alloc: Global) -> Option<Said> {
     let value = parsed(alloc, EVENTS[0])?;
     match Event::from_json(alloc, &value) {
         Ok(event) => Said::ample(
-            event_id(0) == Some(event.id()) && event.draft().tags.len() == 2,
+            event_id(0) == Some(event.id()) && event.tags().len() == 2,
         ),
         Err(EventFault::Memory) => Said::memory(true),
         Err(_) => Said::wrong(),
+    }
+}
+
+fn content_of_event(alloc: Global) -> Option<Said> {
+    let event = event(alloc, 0)?;
+    match event.content(alloc) {
+        Ok(content) => Said::ample(content.as_str() == "first"),
+        Err(_) => Said::memory(true),
+    }
+}
+
+fn draft_of_event(alloc: Global) -> Option<Said> {
+    let event = event(alloc, 0)?;
+    match event.to_draft(alloc) {
+        Ok(draft) => Said::ample(draft.kind == 1 && draft.tags.len() == 2),
+        Err(_) => Said::memory(true),
     }
 }
 

@@ -88,7 +88,7 @@ fn time_of(number: u64) -> u64 {
 fn times_of(alloc: Global, events: &EventList) -> Option<Vec<u64>> {
     let mut times = Vec::new(alloc);
     for place in 0..events.len() {
-        times.push(events.get(place).draft().created_at).ok()?;
+        times.push(events.get(place).created_at()).ok()?;
     }
     Some(times)
 }

@@ -252,7 +252,7 @@ fn is_read(
     len: usize,
 ) -> Result<bool, Fail> {
     let event = event_of(alloc, members, hex)?;
-    let is_right = is_id(alloc, event.draft(), hex, spelling, len)?;
+    let is_right = is_id(alloc, &event.to_draft(alloc)?, hex, spelling, len)?;
     let is_same = is_again(alloc, &event)?;
     Ok(is_right && is_same)
 }
@@ -437,15 +437,17 @@ fn tags_of_a_draft(rt: HostRuntime) -> Result<(), Fail> {
 }
 
 // Whether the event is that of CONTROL.
-fn is_control(event: &Event, id: Id) -> bool {
-    let draft = event.draft();
-    event.id() == id
+fn is_control(alloc: Global, event: &Event, id: Id) -> Result<bool, Fail> {
+    let content = event.content(alloc)?;
+    let sig = format!(in alloc; "\"sig\":\"{SIG}\"")?;
+    Ok(event.id() == id
         && event.item() == Item { time: 1, id }
-        && *event.sig() == [0x5a; 64]
-        && draft.pubkey == [0x11; 32]
-        && draft.kind == 1
-        && draft.tags.is_empty()
-        && draft.content.as_str() == "\u{1}"
+        && event.text().contains(sig.as_str())
+        && *event.pubkey() == [0x11; 32]
+        && event.created_at() == 1
+        && event.kind() == 1
+        && event.tags().is_empty()
+        && content.as_str() == "\u{1}")
 }
 
 #[test]
@@ -455,7 +457,8 @@ fn the_same_event(rt: HostRuntime) -> Result<(), Fail> {
     for (from, to) in &SAME {
         let text = CONTROL.replacen(alloc, *from, *to, 1)?;
         let event = read(alloc, text.as_str())?;
-        assert!(rt; is_control(&event, id), "{to}");
+        let is_same = is_control(alloc, &event, id)?;
+        assert!(rt; is_same, "{to}");
     }
     Ok(())
 }

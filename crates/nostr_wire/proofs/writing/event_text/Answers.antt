@@ -10,7 +10,8 @@ use Rattle.nostr_wire.specs.Forms.{event_form, relay_table}
 use Rattle.nostr_wire.specs.Writing.{array_of, text_of}
 use Rattle.nostr_wire.proofs.Arrays.{is_message}
 use Rattle.nostr_wire.proofs.Plain.{array_of-plain}
-use Rattle.nostr_wire.proofs.Texts.{depth_same, text_read, event_tokens, event_read, event_written}
+use Rattle.nostr_event.proofs.Rereading.{depth_same, text_read}
+use Rattle.nostr_wire.proofs.Texts.{event_tokens, event_read, event_written}
 use Rattle.nostr_wire.proofs.writing.event_text.Goals as goal
 use Rattle.nostr_wire.proofs.writing.event_text.Goals.{In_ok-push_str-2}
 

@@ -15,7 +15,7 @@ use Rattle.nostr_wire.specs.Reading.{Reads}
 use Rattle.nostr_wire.specs.Writing.{array_of, text_of}
 use Rattle.nostr_wire.proofs.Arrays.{is_message}
 use Rattle.nostr_wire.proofs.Plain.{array_of-plain}
-use Rattle.nostr_wire.proofs.Texts.{depth_same, text_read}
+use Rattle.nostr_event.proofs.Rereading.{depth_same, text_read}
 use Rattle.nostr_wire.proofs.writing.okay_text.Goals as goal
 use Rattle.nostr_wire.proofs.writing.okay_text.Goals.{After-drop-digits-2}
 
