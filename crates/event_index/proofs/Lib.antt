@@ -1,3 +1,4 @@
+pub mod Sifting
 pub mod Lists
 pub mod Marked
 pub mod Crossing

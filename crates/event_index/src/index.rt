@@ -6,6 +6,7 @@ ghost use Rattle.nostr_filter.specs.declared.filter.Filter.{Filter};
 ghost use Rattle.event_index.specs.Marks.{AreMarksOf};
 ghost use Rattle.event_index.specs.Postings.{Covers, HoldMatching, ReadsPlaces, joined};
 
+use crate::both::common;
 use crate::conditions::{Marks, conditions};
 use crate::postings::postings_of;
 use crate::run::{Run, with_run};
@@ -23,6 +24,12 @@ const FAN: usize = 16;
 
 // Of runs of about one size none has more than so many times the postings of another.
 const SPREAD: usize = 4;
+
+// Places are looked for among those of another condition that finds at most so many times as many.
+const WIDE: usize = 8;
+
+// Places of fewer events than one in so many are not.
+const SPARSE: usize = 256;
 
 /// Where the first events of a list stand, by what filters ask for. It is never changed.
 pub struct Index {
@@ -156,9 +163,38 @@ impl Index {
         Ok(places)
     }
 
+    // Whether it is worth looking the marks up to leave out some of so many places: these are many enough for a table of all places,
+    // and the marks find not many times as many.
+    fn is_worth(&self, marks: &[u64], places: usize) -> bool {
+        let most = places.saturating_mul(WIDE);
+        places >= self.count / SPARSE && self.price(marks, most) <= most
+    }
+
+    // The places, without those at which no event has what another condition than the one at `at` asks for, where that is worth it.
+    fn narrowed(
+        &self,
+        alloc: Global,
+        conditions: &[Marks],
+        at: usize,
+        places: Vec<usize>,
+    ) -> Result<Vec<usize>, AllocError>
+        ensures { (f : Filter) (events : List EventView) → All (λ m. AreMarksOf f m.marks.items) conditions.now → Covers events self.now → HoldMatching f events places.items → IfOk result (λ v. HoldMatching f events v.items) }
+    {
+        let mut places = places;
+        for other in 0..conditions.len() {
+            let marks = conditions[other].marks.as_slice();
+            if other != at && self.is_worth(marks, places.len()) {
+                let others = self.places(alloc, marks)?;
+                places = common(alloc, places.as_slice(), others.as_slice(), self.count)?;
+            }
+        }
+        Ok(places)
+    }
+
     /// Places of covered events, among them of all that the filter matches, where one of its conditions on authors, kinds or tags
     /// takes no more searches, and finds no more places, than `most` together: for each of its values there is a search in each run.
-    /// They come in no order, and some twice. Nothing takes more than `most` searches for each condition.
+    /// They come in no order, and some twice. Those are left out that have not what another condition asks for, as far as that is
+    /// quickly found. Nothing takes more than `most` searches for each condition, or eight for each of these places.
     pub fn find(
         &self,
         alloc: Global,
@@ -169,7 +205,10 @@ impl Index {
     {
         let conditions = conditions(alloc, filter)?;
         match self.cheapest(conditions.as_slice(), most) {
-            Some(at) => Ok(Some(self.places(alloc, conditions[at].marks.as_slice())?)),
+            Some(at) => {
+                let places = self.places(alloc, conditions[at].marks.as_slice())?;
+                Ok(Some(self.narrowed(alloc, conditions.as_slice(), at, places)?))
+            }
             None => Ok(None),
         }
     }

@@ -1,6 +1,7 @@
 //! Where the events of an author, of a kind or with a tag stand in a list.
 #![tactic(auto)]
 
+mod both;
 mod conditions;
 mod index;
 mod mark;

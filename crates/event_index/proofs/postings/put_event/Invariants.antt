@@ -1,6 +1,6 @@
-use Rattle.std.proofs.Common.{◌≡◌, ◌∷◌, ◌++◌, [], map}
+use Rattle.std.proofs.Common.{◌≡◌, ◌++◌, map}
 use Rattle.std.specs.Prelude.{filter_map}
-use Rattle.event_index.specs.Marks.{mixed, tag_mark, marks_of}
+use Rattle.event_index.specs.Marks.{tag_mark, marks_of}
 use Rattle.event_index.specs.Postings.{posting}
 use Rattle.event_index.proofs.postings.put_event.Given as goal
 
