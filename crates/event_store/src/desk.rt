@@ -19,6 +19,7 @@ use left_right::writer::Writer;
 use nostr_event::Event;
 use std::alloc::{AllocError, Global};
 use std::marker::Model;
+use std::mem::replace;
 use std::sync::{Arc, Wait};
 
 /// The published list, which has as many events as the store takes.
@@ -77,6 +78,8 @@ pub struct Desk<J: Naming, R: Wait + Drop> {
     most: usize,
     alloc: Global,
     rt: R,
+    // What was published before, until it is dropped where nobody waits for it.
+    older: Option<Arc<EventTable>>,
 }
 
 impl<J: Naming, R: Wait + Drop> Model for Desk<J, R> {
@@ -101,6 +104,7 @@ impl<J: Naming, R: Wait + Drop> Drop for Desk<J, R> {
             most: _,
             alloc: _,
             rt,
+            older: _,
         } = self;
         drop(pen.take(&rt));
     }
@@ -134,6 +138,7 @@ impl<J: Naming, R: Wait + Drop> Desk<J, R> {
             most,
             alloc,
             rt,
+            older: None,
         };
         done?;
         Ok(desk)
@@ -145,6 +150,15 @@ impl<J: Naming, R: Wait + Drop> Desk<J, R> {
     {
         let side = self.pen.factory().reader()?;
         Ok(Reader::new(side, front.again()))
+    }
+
+    /// What was published when this was last called, if it was. The desk holds what is published now, so that an insert takes nothing
+    /// of it apart: whoever calls this before an insert and drops it once others may insert has that done meanwhile.
+    pub fn replaced(&mut self) -> Result<Option<Arc<EventTable>>, AllocError>
+        ensures { self.new ≡ self.old }
+    {
+        let now = Arc::try_clone(self.pen.published().state())?;
+        Ok(replace(&mut self.older, Some(now)))
     }
 
     /// Publishes the event behind all others, unless its id is published already. After a fault nothing has changed, and the

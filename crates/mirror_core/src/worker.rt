@@ -96,7 +96,13 @@ fn place_together<R: Wait, J: Naming, D: Wait + Drop>(
     let Ok(asked) = asked_of(alloc, ids, given, places) else {
         return Vec::new(alloc);
     };
-    match desk.lock(rt).insert_each(rt, &asked) {
+    let mut held = desk.lock(rt);
+    // What was replaced before is taken apart once the next may insert.
+    let older = held.replaced();
+    let placed = held.insert_each(rt, &asked);
+    drop(held);
+    drop(older);
+    match placed {
         Ok(placed) => placed,
         Err(_) => Vec::new(alloc),
     }

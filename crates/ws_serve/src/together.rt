@@ -259,7 +259,13 @@ fn placed_together<W: Wait, J: Naming, D: Wait + Drop>(
     if events.len() < 2 {
         return Vec::new(alloc);
     }
-    match desk.lock(rt).insert_each(rt, events) {
+    let mut held = desk.lock(rt);
+    // What was replaced before is taken apart once the next may insert.
+    let older = held.replaced();
+    let placed = held.insert_each(rt, events);
+    drop(held);
+    drop(older);
+    match placed {
         Ok(placed) => placed,
         Err(_) => Vec::new(alloc),
     }
