@@ -25,7 +25,8 @@ const FAN: usize = 16;
 // Of runs of about one size none has more than so many times the postings of another.
 const SPREAD: usize = 4;
 
-// Places are looked for among those of another condition that finds at most so many times as many.
+// Places are looked for among those of another condition that finds at most so many times as many, by at most a search for so many
+// of them.
 const WIDE: usize = 8;
 
 // Places of fewer events than one in so many are not.
@@ -164,10 +165,13 @@ impl Index {
     }
 
     // Whether it is worth looking the marks up to leave out some of so many places: these are many enough for a table of all places,
-    // and the marks find not many times as many.
+    // and the marks take few searches, and find not many times as many.
     fn is_worth(&self, marks: &[u64], places: usize) -> bool {
+        let searches = marks.len().saturating_mul(self.runs.len());
         let most = places.saturating_mul(WIDE);
-        places >= self.count / SPARSE && self.price(marks, most) <= most
+        searches <= places / WIDE
+            && places >= self.count / SPARSE
+            && self.price(marks, most) <= most
     }
 
     // The places, without those at which no event has what another condition than the one at `at` asks for, where that is worth it.
@@ -194,7 +198,7 @@ impl Index {
     /// Places of covered events, among them of all that the filter matches, where one of its conditions on authors, kinds or tags
     /// takes no more searches, and finds no more places, than `most` together: for each of its values there is a search in each run.
     /// They come in no order, and some twice. Those are left out that have not what another condition asks for, as far as that is
-    /// quickly found. Nothing takes more than `most` searches for each condition, or eight for each of these places.
+    /// quickly found. Nothing takes more than `most` searches for each condition, and a quarter as many to leave places out.
     pub fn find(
         &self,
         alloc: Global,
