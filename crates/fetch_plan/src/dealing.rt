@@ -1,7 +1,8 @@
 //! Dealing: the pieces that relays hold as single ids.
 
 use crate::balance::Balance;
-use offer_table::{Bases, OfferTable};
+use item_key::Id;
+use offer_table::{Bases, Kinds, OfferTable, RelaySet};
 use sharing::RELAYS;
 use std::alloc::{AllocError, Global};
 
@@ -65,18 +66,50 @@ fn parts_of(alloc: Global, balance: &Balance, groups: usize) -> Result<Parts, Al
     Ok(all)
 }
 
-/// The relay that each id had best go to, in the order of the ids.
-pub(crate) fn suggested(
+/// The relay that each id had best go to, in the order of the ids, of each of which this is the group. Of each group
+/// these are the relays, and how many ids it has.
+fn dealt(
     alloc: Global,
-    table: &OfferTable,
+    sets: Vec<RelaySet>,
+    counts: &[u32],
+    numbers: &[u32],
     bases: &Bases,
 ) -> Result<Vec<u16>, AllocError> {
-    let balance = Balance::of(alloc, table, bases)?;
-    let mut parts = parts_of(alloc, &balance, table.groups())?;
-    let numbers = table.numbers();
+    let balance = Balance::of(alloc, sets, counts, bases)?;
+    let mut parts = parts_of(alloc, &balance, counts.len())?;
     let mut relays = Vec::with_capacity(alloc, numbers.len())?;
     for group in numbers {
         relays.push(parts.next(*group).unwrap_or(0))?;
     }
     Ok(relays)
+}
+
+/// The relay that each id of a table had best go to, in the order of the ids.
+pub(crate) fn suggested(
+    alloc: Global,
+    table: &OfferTable,
+    bases: &Bases,
+) -> Result<Vec<u16>, AllocError> {
+    let mut sets = Vec::with_capacity(alloc, table.groups())?;
+    let mut counts = Vec::with_capacity(alloc, table.groups())?;
+    for place in 0..table.groups() {
+        let (relays, ids) = table.group_at(place);
+        sets.push(relays)?;
+        counts.push(u32::try_from(ids.len()).unwrap_or(0))?;
+    }
+    dealt(alloc, sets, &counts, table.numbers(), bases)
+}
+
+/// The relay that the id of each of these offers had best go to.
+pub(crate) fn suggested_of(
+    alloc: Global,
+    offers: &[(Id, RelaySet)],
+    bases: &Bases,
+) -> Result<Vec<u16>, AllocError> {
+    let Kinds {
+        sets,
+        counts,
+        kinds,
+    } = Kinds::of(alloc, offers)?;
+    dealt(alloc, sets, &counts, &kinds, bases)
 }

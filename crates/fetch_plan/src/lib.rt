@@ -1,9 +1,11 @@
 //! Sharing the offered ids out among the relays, so that the busiest relay's load is as small as possible.
 #![tactic(auto)]
 
-ghost use Rattle.std.specs.Prelude.{◌≡◌, ℕ, IfOk};
+ghost use Rattle.std.specs.Prelude.{◌≡◌, ◌≤◌, ℕ, length, IfOk};
 ghost use Rattle.sharing.specs.Bases.{base_of, AreBases};
 ghost use Rattle.sharing.specs.Sharing.{NoneSmaller};
+ghost use Rattle.sharing.specs.Offers.{IsOffers};
+ghost use Rattle.sharing.specs.declared.TheConstants.{MOST_IDS};
 ghost use Rattle.fetch_plan.specs.Takers.{at};
 ghost use Rattle.fetch_plan.specs.Plan.{IsPlanOf};
 
@@ -19,7 +21,8 @@ mod takers;
 
 pub use cell::Cell;
 use chains::{greatest, settle};
-use dealing::suggested;
+use dealing::{suggested, suggested_of};
+use item_key::Id;
 pub use left::left_out;
 use offer_table::{Bases, OfferTable, RelaySet};
 pub use outcome::Plan;
@@ -39,14 +42,18 @@ fn loads_of(bases: &Bases) -> [u64; SLOTS]
     loads
 }
 
-/// Shares the ids out over what the relays' loads begin with, so that the busiest relay's load is as small as
-/// possible. The group that it answers is the set of the relays that chains of single moves reach.
-pub fn plan(alloc: Global, table: &OfferTable, bases: &Bases) -> Result<Plan, AllocError>
-    ensures planned { IfOk result (IsPlanOf bases.now table.now.offers) }
-    ensures least { IfOk result (λ plan. NoneSmaller (base_of bases.now) table.now.offers plan.least_max) }
+/// Shares the ids of offers out, each as it is suggested, or better.
+fn plan_by(
+    alloc: Global,
+    offers: &[(Id, RelaySet)],
+    suggested: Vec<u16>,
+    bases: &Bases,
+) -> Result<Plan, AllocError>
+    requires offers { IsOffers offers.now }
+    requires few { length offers.now ≤ MOST_IDS }
+    ensures planned { IfOk result (IsPlanOf bases.now offers.now) }
+    ensures least { IfOk result (λ plan. NoneSmaller (base_of bases.now) offers.now plan.least_max) }
 {
-    let suggested = suggested(alloc, table, bases)?;
-    let offers = table.list();
     let mut takers = choose(alloc, offers, &suggested)?;
     let mut loads = loads_of(bases);
     add_loads(&takers, &mut loads);
@@ -65,4 +72,29 @@ pub fn plan(alloc: Global, table: &OfferTable, bases: &Bases) -> Result<Plan, Al
         least_max,
         group,
     })
+}
+
+/// Shares the ids out over what the relays' loads begin with, so that the busiest relay's load is as small as
+/// possible. The group that it answers is the set of the relays that chains of single moves reach.
+pub fn plan(alloc: Global, table: &OfferTable, bases: &Bases) -> Result<Plan, AllocError>
+    ensures planned { IfOk result (IsPlanOf bases.now table.now.offers) }
+    ensures least { IfOk result (λ plan. NoneSmaller (base_of bases.now) table.now.offers plan.least_max) }
+{
+    let suggested = suggested(alloc, table, bases)?;
+    plan_by(alloc, table.list(), suggested, bases)
+}
+
+/// The same as [`plan`] of offers that are in no table: ids in order, each with the set of relays that offer it.
+pub fn plan_offers(
+    alloc: Global,
+    offers: &[(Id, RelaySet)],
+    bases: &Bases,
+) -> Result<Plan, AllocError>
+    requires offers { IsOffers offers.now }
+    requires few { length offers.now ≤ MOST_IDS }
+    ensures planned { IfOk result (IsPlanOf bases.now offers.now) }
+    ensures least { IfOk result (λ plan. NoneSmaller (base_of bases.now) offers.now plan.least_max) }
+{
+    let suggested = suggested_of(alloc, offers, bases)?;
+    plan_by(alloc, offers, suggested, bases)
 }

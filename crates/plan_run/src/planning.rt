@@ -8,9 +8,8 @@ ghost use Rattle.plan_run.specs.Jobs.{IsPlanWritten, IsUnplanned, IsPlanRefusal}
 use crate::offers::read_front;
 use crate::printing::write_plan;
 use crate::texts::text_of;
-use fetch_plan::{Plan, plan};
+use fetch_plan::{Plan, plan_offers};
 use mirror_run::{LineFault, Refusal, read_all};
-use offer_table::OfferTable;
 use plan_check::{PlanFault, scan_plan};
 use sharing::MOST_IDS;
 use std::alloc::{AllocError, Global};
@@ -24,10 +23,11 @@ fn made_of(alloc: Global, text: &[u8]) -> Result<Option<(usize, Plan)>, AllocErr
     let Some(front) = read_front(alloc, text)? else {
         return Ok(None);
     };
-    match OfferTable::of_sets(alloc, front.offers) {
-        Ok(table) => Ok(Some((front.end, plan(alloc, &table, &front.bases)?))),
-        Err(_) => Ok(None),
+    if front.offers.len() > MOST_IDS {
+        return Ok(None);
     }
+    let made = plan_offers(alloc, &front.offers, &front.bases)?;
+    Ok(Some((front.end, made)))
 }
 
 /// Why nothing was planned of a text. Takes no memory.
