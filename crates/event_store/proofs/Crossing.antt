@@ -29,6 +29,7 @@ use Rattle.event_store.specs.contracts.rule.View as View
 use Rattle.event_store.specs.contracts.rule.Published as Published
 use Rattle.event_store.specs.contracts.rule.PublishedProtocolShownView.TheImpl as protocol
 use Rattle.event_store.specs.contracts.shown.ShownAbsorb.TheImpl as absorb
+use Rattle.core.proofs.option.Option.TheSendSync as option
 use Rattle.left_right.specs.contracts.reader.Reader as Side
 use Rattle.left_right.specs.contracts.writer.Writer as Pen
 use Rattle.left_right.proofs.reader.Reader.TheSendSync as side
@@ -63,7 +64,7 @@ module _ (J : RattleType) (g : Ghosts J.Denot) where
   pen_send = pen.the_send Shown.the_row Shown.the_row View.the_row (Published.the_row J) Global.the_row Shown.the_row absorb.ghosts (protocol.ghosts J g protocol.no_dict) heap.ghosts shown_send shown_send send shown_sync sync frees
 
   pub desk_send : (R : RattleType) → IsSend R → IsSend (Desk.the_row J R g)
-  desk_send R s = view_send (InDesk.the_row J R g) _ _ _ _ (declared_send (InDesk.the_type J R g) (pen_send, (head.the_send J g, (search sendable, (send, (as_row_send (row_field R) s, tt))))))
+  desk_send R s = view_send (InDesk.the_row J R g) _ _ _ _ (declared_send (InDesk.the_type J R g) (pen_send, (head.the_send J g, (search sendable, (send, (as_row_send (row_field R) s, (option.the_send (Arc.the_row EventTable.the_row Global.the_row heap.ghosts) shared_send, tt)))))))
 
   -- a lock around a desk
   pub locked_desk_sync : (R : RattleType) → IsSend R → IsSync (Mutex.the_row (Desk.the_row J R g))
