@@ -5,6 +5,7 @@ ghost use Rattle.hex.specs.Hex.{encode_lower};
 ghost use Rattle.item_key.specs.declared.Id.{Id as AnId};
 ghost use Rattle.item_key.specs.Keys.{IsId};
 ghost use Rattle.sharing.specs.declared.TheConstants.{RELAYS, MOST_BASE};
+ghost use Rattle.sharing.specs.Offers.{AreRelays};
 ghost use Rattle.plan_check.specs.PlanText.{number_text, relays_text};
 ghost use Rattle.plan_check.specs.Lines.{rises};
 ghost use Rattle.plan_check.specs.PlanParts.{IsNextWord, AreRelaysText};
@@ -179,19 +180,26 @@ pub(crate) fn scan_relays(text: &[u8]) -> Option<bool>
     Some(ok)
 }
 
-/// The relays of a text, each behind a space. A relay takes two bytes or more, so that their list needs not grow.
+/// The relays of a text, each behind a space, where they rise. A relay takes two bytes or more, so that their list needs
+/// not grow.
 pub(crate) fn parse_relays(alloc: Global, text: &[u8]) -> Result<Option<Vec<u16>>, AllocError>
     ensures found { IfOk result (λ o. IfSome o (λ relays. text.now ≡ relays_text relays.items)) }
-    ensures small { IfOk result (λ o. IfSome o (λ relays. All (λ r. r < RELAYS) relays.items)) }
+    ensures relays { IfOk result (λ o. IfSome o (λ relays. AreRelays relays.items)) }
 {
     let mut relays = Vec::with_capacity(alloc, text.len() / 2)?;
+    let mut next = 0;
     let mut rest = text;
-    while !rest.is_empty() {
-        let Some((relay, after)) = cut_relay(rest) else {
+    while let Some((relay, after)) = cut_relay(rest) {
+        if relay < next {
             return Ok(None);
-        };
+        }
         relays.push(relay)?;
+        next = relay + 1;
         rest = after;
     }
-    Ok(Some(relays))
+    if rest.is_empty() {
+        Ok(Some(relays))
+    } else {
+        Ok(None)
+    }
 }
