@@ -204,6 +204,19 @@ fn does_show(bases: &[(u16, u64)], offers: &[(Id, Vec<u16>)], group: &[u16], mos
     !group.is_empty() && held > u128::from(most - 1) * group.len() as u128
 }
 
+/// Whether two ids are the same. All bytes are looked at before an answer, so that this becomes vector code.
+fn is_same(id: &Id, other: &Id) -> bool
+    ensures { IsTrue result ↔ id.now ≡ other.now }
+{
+    let bytes = id.as_bytes();
+    let others = other.as_bytes();
+    let mut same = true;
+    for place in 0..bytes.len() {
+        same &= bytes[place] == others[place];
+    }
+    same
+}
+
 /// Whether there are as many gives as offers, and each is of the offer at its own place, to a relay that offers it. In a
 /// sharing they are.
 fn are_paired(file: &PlanFile) -> bool
@@ -216,7 +229,7 @@ fn are_paired(file: &PlanFile) -> bool
     }
     for (place, give) in gives.iter().enumerate() {
         let offer = &offers[place];
-        if offer.0 != give.0 || !is_one_of(&offer.1, give.1) {
+        if !is_same(&offer.0, &give.0) || !is_one_of(&offer.1, give.1) {
             return false;
         }
     }
