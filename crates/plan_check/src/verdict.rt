@@ -9,6 +9,7 @@ ghost use Rattle.sharing.specs.declared.TheConstants.{RELAYS, SLOTS};
 ghost use Rattle.plan_check.specs.File.{AreBasesInOrder, pairs_of};
 ghost use Rattle.plan_check.specs.Verdict.{given_load, gives_fault, IsSharedOut, GroupShows, Judges};
 
+use crate::words::are_same;
 use crate::{PlanFault, PlanFile};
 use item_key::Id;
 use sharing::SLOTS;
@@ -204,17 +205,11 @@ fn does_show(bases: &[(u16, u64)], offers: &[(Id, Vec<u16>)], group: &[u16], mos
     !group.is_empty() && held > u128::from(most - 1) * group.len() as u128
 }
 
-/// Whether two ids are the same. All bytes are looked at before an answer, so that this becomes vector code.
+/// Whether two ids are the same.
 fn is_same(id: &Id, other: &Id) -> bool
     ensures { IsTrue result ↔ id.now ≡ other.now }
 {
-    let bytes = id.as_bytes();
-    let others = other.as_bytes();
-    let mut same = true;
-    for place in 0..bytes.len() {
-        same &= bytes[place] == others[place];
-    }
-    same
+    are_same(id.as_bytes(), other.as_bytes())
 }
 
 /// Whether there are as many gives as offers, and each is of the offer at its own place, to a relay that offers it. In a

@@ -1,8 +1,0 @@
-use Rattle.std.proofs.Common.{◌≡◌, ◌<◌, ℕ, true, get_or}
-use Rattle.plan_check.proofs.verdict.is_same.Given as goal
-
-abbrev pub invariant-loop-place : goal.invariant-loop-place
-invariant-loop-place l = record {
-  yes : l.same ≡ true → (k : ℕ) → k < l.place → get_or l.bytes k 0 ≡ get_or l.others k 0;
-  no : l.bytes ≡ l.others → l.same ≡ true;
-}
