@@ -1,11 +1,12 @@
 -- The gives have no fault just where they are a sharing of the offers.
-use Rattle.std.proofs.Common.{◌≡◌, ℕ, ◌&&◌, ◌||◌, not, Bool, true, false, cond, List, [], ◌∷◌, get_or, map, Option, Some, None, Ok, Err, refl, sym, ap, ◌∙◌, subst, arith, inl, inr}
+use Rattle.std.proofs.Common.{◌≡◌, ℕ, suc, ◌+◌, ◌<◌, length, ◌&&◌, ◌||◌, not, Bool, true, false, cond, List, [], ◌∷◌, get_or, map, Option, Some, None, Ok, Err, refl, sym, ap, ◌∙◌, subst, arith, inl, inr}
 use Rattle.std.specs.Prelude.{is_some, unwrap_or, Result}
 use Rattle.std.specs.declared.cmp.Ordering.{Ordering}
 use Rattle.std.specs.declared.cmp.Ordering.TheVariants.{Less, Equal, Greater}
 use Rattle.std.specs.Ordering.{is_eq, ordering_reverse}
 use Rattle.std.specs.List.{All, list_any}
-use Rattle.std.proofs.lemmas.Bool.{false≢true, cases_Bool, or_parts, or_from, true_from_ne_false, not-false}
+use Rattle.std.proofs.lemmas.Bool.{false≢true, cases_Bool, cases_eq, or_parts, or_from, true_from_ne_false, not-false}
+use Rattle.std.proofs.lemmas.List.{get_or_default}
 use Rattle.std.proofs.lemmas.List.Elements.{All-head, All-tail, All-cons, All-nil, All-weaker, All-map}
 use Rattle.item_key.specs.declared.Id.{Id}
 use Rattle.sharing.specs.Sharing.{is_among, load, IsSharing, IsGreatest, Shows}
@@ -109,6 +110,33 @@ module _ (R : Id → Option (List ℕ)) (F : Id → ℕ) where
 own_ids : {X : Type 0} (pairs : List (Id × X)) → Ascend (map (λ p. p.0) pairs) → All (λ p. is_some (beside pairs p.0) ≡ true) pairs
 own_ids pairs h k d lt = ap is_some (found_itself pairs h k d lt)
 
+-- the give is of the offer, to a relay that offers it
+pub record Fits (o : Id × List ℕ) (g : Id × ℕ) : Type 0 where
+  pub id : g.0 ≡ o.0
+  pub offered : is_among o.1 g.1 ≡ true
+
+-- the first so many gives fit the offers at their places
+abbrev pub AllFit : List (Id × List ℕ) → List (Id × ℕ) → ℕ → Type 0
+AllFit offers gives n = (k : ℕ) (o : Id × List ℕ) (g : Id × ℕ) → k < n → Fits (get_or offers k o) (get_or gives k g)
+
+ids_by_place : (os : List (Id × List ℕ)) (gs : List (Id × ℕ)) → length os ≡ length gs → AllFit os gs (length gs) → map (λ g. g.0) gs ≡ map (λ o. o.0) os
+ids_by_place [] [] len fits = refl
+ids_by_place [] (g ∷ gs) len fits = absurd (omega arith)
+ids_by_place (o ∷ os) [] len fits = absurd (omega arith)
+ids_by_place (o ∷ os) (g ∷ gs) len fits =
+    ap (λ i. i ∷ map (λ g. g.0) gs) (fits 0 o g (omega arith)).id ∙ ap (λ is. o.0 ∷ is) (ids_by_place os gs (omega arith) (λ k a b lt. fits (suc k) a b (omega arith)))
+
+-- one more that fits
+pub fits_more : (offers : List (Id × List ℕ)) (gives : List (Id × ℕ)) (n : ℕ) (a : Id × List ℕ) (b : Id × ℕ) → n < length offers → n < length gives → AllFit offers gives n → Fits (get_or offers n a) (get_or gives n b) → AllFit offers gives (n + 1)
+fits_more offers gives n a b some_offer some_give before one = λ k o g lt.
+    elim (cases_eq k n) [
+      | inl is ↦
+          (let offer : get_or offers k o ≡ get_or offers n a = ap (λ j. get_or offers j o) is ∙ get_or_default offers n o a some_offer in
+          let give : get_or gives k g ≡ get_or gives n b = ap (λ j. get_or gives j g) is ∙ get_or_default gives n g b some_give in
+          subst (λ x. Fits x (get_or gives k g)) (sym offer) (subst (λ y. Fits (get_or offers n a) y) (sym give) one))
+      | inr other ↦ before k o g (omega arith)
+    ]
+
 module _ (file : File) (ok : IsFile file) where
   abbrev pub F : Id → ℕ
   F i = relay_in file.gives i
@@ -165,6 +193,30 @@ module _ (file : File) (ok : IsFile file) where
       ap (λ t. cond t (Some NotOffered) (cond (is_missing file) (Some Missing) (cond (is_stranger file) (Some Stranger) None))) a
       ∙ ap (λ t. cond t (Some Missing) (cond (is_stranger file) (Some Stranger) None)) b ∙ ap (λ t. cond t (Some Stranger) None) c
 
+  -- where each give fits the offer at its place there is no fault
+  pub paired : length file.offers ≡ length file.gives → AllFit file.offers file.gives (length file.gives) → gives_fault file ≡ None
+  paired len fits =
+      let ids : map (λ g. g.0) file.gives ≡ map (λ o. o.0) file.offers = ids_by_place file.offers file.gives len fits in
+      let a : is_not_offered file ≡ false =
+      none_any (unoffered R F) file.gives
+      (λ k d lt.
+      let o : Id × List ℕ = get_or file.offers k (d.0, []) in
+      let fit : Fits o (get_or file.gives k d) = fits k (d.0, []) d lt in
+      fine_one R F o.1 (get_or file.gives k d).1 (R (get_or file.gives k d).0) (ap R fit.id ∙ found_itself file.offers ok.offers_ok.ascend k (d.0, []) (omega (arith, len))) fit.offered) in
+      let b : is_missing file ≡ false = none_any (λ o. not (is_some (beside file.gives o.0))) file.offers (found_in file.offers file.gives ok.ascend (sym ids)) in
+      let c : is_stranger file ≡ false = none_any (λ g. not (is_some (beside file.offers g.0))) file.gives (found_in file.gives file.offers ok.offers_ok.ascend ids) in
+      fault_none a b c
+
+no_fault_by : (a b c : Bool) → cond a (Some NotOffered) (cond b (Some Missing) (cond c (Some Stranger) None)) ≡ None → (a ≡ false) × (b ≡ false) × (c ≡ false)
+no_fault_by true b c none = absurd (cc)
+no_fault_by false true c none = absurd (cc)
+no_fault_by false false true none = absurd (cc)
+no_fault_by false false false none = (refl, refl, refl)
+
+-- gives without a fault are a sharing
+pub shared_by : (file : File) → IsFile file → (most : ℕ) → gives_fault file ≡ None → IsGreatest (given_load file.bases file.gives) most → IsSharedOut file most
+shared_by file ok most none greatest = let parts = no_fault_by (is_not_offered file) (is_missing file) (is_stranger file) none in shared_out file ok most parts.0 parts.1 parts.2 greatest
+
 one_most : (file : File) (a b : ℕ) → IsSharedOut file a → IsSharedOut file b → a ≡ b
 one_most file a b s t = omega (arith, s.greatest.0 t.greatest.1.0, t.greatest.1.1, t.greatest.0 s.greatest.1.0, s.greatest.1.1)
 
@@ -205,6 +257,10 @@ pub lent_missing : (file : File) (offers : List (Id × Vec ℕ)) (gives : List (
 lent_missing file offers gives e g =
     sym (any_map (λ (o : Id × List ℕ). not (is_some (beside gives o.0))) (λ (o : Id × Vec ℕ). (o.0, o.1.items)) offers)
     ∙ ap (list_any (λ (o : Id × List ℕ). not (is_some (beside gives o.0)))) e ∙ ap (λ gs. list_any (λ (o : Id × List ℕ). not (is_some (beside gs o.0))) file.offers) g
+
+pub lent_paired : (file : File) → IsFile file → (offers : List (Id × List ℕ)) (gives : List (Id × ℕ)) → offers ≡ file.offers → gives ≡ file.gives → length offers ≡ length gives → AllFit offers gives (length gives) → gives_fault file ≡ None
+lent_paired file ok offers gives e g len fits =
+    paired file ok (ap length (sym e) ∙ len ∙ ap length g) (subst (λ os. AllFit os file.gives (length file.gives)) e (subst (λ gs. AllFit offers gs (length gs)) g fits))
 
 -- what the lists that were lent say of the loads, and of what the group shows
 pub lent_most : (file : File) (bases : List (ℕ × ℕ)) (gives : List (Id × ℕ)) (loads : ℕ → ℕ) (most : ℕ) → bases ≡ file.bases → gives ≡ file.gives → ((r : ℕ) → loads r ≡ given_load bases gives r) → IsGreatest loads most → IsGreatest (given_load file.bases file.gives) most

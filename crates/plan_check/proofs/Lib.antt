@@ -11,6 +11,7 @@ pub mod IdLemmas
 pub mod KindLemmas
 pub mod FormLemmas
 pub mod InOrder
+pub mod Taken
 pub mod TextLemmas
 pub mod OneText
 pub mod ReadLemmas

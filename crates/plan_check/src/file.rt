@@ -52,8 +52,26 @@ impl PlanFile {
         PlanFile::of_form(bases, offers, gives, group)
     }
 
+    /// The file of these lists, where all is in order.
+    pub(crate) fn in_order(
+        bases: Vec<(u16, u64)>,
+        offers: Vec<(Id, Vec<u16>)>,
+        gives: Vec<(Id, u16)>,
+        group: Vec<u16>,
+    ) -> PlanFile
+        requires { IsFile (record { bases = bases.items; offers = map (λ o. (o.0, o.1.items)) offers.items; gives = gives.items; group = group.items }) }
+        ensures { result ≡ record { bases = bases.items; offers = map (λ o. (o.0, o.1.items)) offers.items; gives = gives.items; group = group.items } }
+    {
+        PlanFile {
+            bases,
+            offers,
+            gives,
+            group,
+        }
+    }
+
     /// The file of these lists, whose lines are of the form.
-    pub(crate) fn of_form(
+    fn of_form(
         bases: Vec<(u16, u64)>,
         offers: Vec<(Id, Vec<u16>)>,
         gives: Vec<(Id, u16)>,
@@ -67,12 +85,7 @@ impl PlanFile {
         if let Some(place) = misplaced(&bases, &offers, &gives, &group) {
             return Err(PlanFault::Order(place.saturating_add(2)));
         }
-        Ok(PlanFile {
-            bases,
-            offers,
-            gives,
-            group,
-        })
+        Ok(PlanFile::in_order(bases, offers, gives, group))
     }
 
     /// Each relay that begins with a load, ascending, with that load.

@@ -1,15 +1,16 @@
 //! Plan files that are read from their texts.
 
 ghost use Rattle.std.specs.Prelude.{◌≡◌, ◌≢◌, ◌<◌, ◌++◌, ◌∷◌, [], ◌⊎◌, ℕ, List, map, All, IfOk, IfErr, IfSome, IfNone, Ok, Err, IsUtf8};
-ghost use Rattle.sharing.specs.declared.TheConstants.{RELAYS};
+ghost use Rattle.sharing.specs.Offers.{AreRelays, IsOffers, Ascend};
 ghost use Rattle.plan_check.specs.declared.faults.PlanFault.{PlanFault as AFault};
 ghost use Rattle.plan_check.specs.declared.faults.PlanFault.TheVariants.{Memory as memory};
-ghost use Rattle.plan_check.specs.File.{File, IsBase, pairs_of};
+ghost use Rattle.plan_check.specs.File.{File, IsBase, IsFile, pairs_of};
 ghost use Rattle.plan_check.specs.TextLines.{lines_of, ended, FirstIsNot};
 ghost use Rattle.plan_check.specs.PlanText.{header_line, base_line, offer_line, give_line, group_line, plan_lines, IsOffer, IsGive, IsOfForm, IsTextOf};
 ghost use Rattle.plan_check.specs.PlanParts.{IsBaseLine};
 ghost use Rattle.plan_check.specs.PlanReading.{IsTextFault, IsReadFault};
 
+use crate::order::{comes_behind, misplaced_base};
 use crate::records::{parse_base, parse_give, parse_group, parse_offer};
 use crate::scanning::{scan, skip_line};
 use crate::text_lines::cut_line;
@@ -17,7 +18,7 @@ use crate::{PlanFault, PlanFile};
 use item_key::Id;
 use std::alloc::{AllocError, Global};
 
-/// The lists of a plan file, in any order.
+/// The lists of a plan file.
 #[derive(Drop)]
 struct Lists {
     bases: Vec<(u16, u64)>,
@@ -66,44 +67,56 @@ pub fn read_head(alloc: Global, text: &[u8]) -> Result<Option<(Vec<(u16, u64)>, 
     }
 }
 
-/// The offers at the front, and the text after these.
+/// The offers at the front, as long as their lines are in order, and the text after these.
 fn take_offers(alloc: Global, text: &[u8]) -> Result<(Vec<(Id, Vec<u16>)>, &[u8]), AllocError>
     ensures lines { IfOk result (λ r. lines_of text.now ≡ map (λ o. ended (offer_line o)) (pairs_of r.0.items) ++ lines_of r.1.now) }
-    ensures offers { IfOk result (λ r. All IsOffer (pairs_of r.0.items)) }
+    ensures form { IfOk result (λ r. All IsOffer (pairs_of r.0.items)) }
+    ensures offers { IfOk result (λ r. IsOffers (pairs_of r.0.items)) }
 {
     let mut offers = Vec::new(alloc);
+    let mut before = None;
     let mut rest = text;
     while let Some((line, after)) = cut_line(rest) {
         let Some(offer) = parse_offer(alloc, line)? else {
             return Ok((offers, rest));
         };
+        if !comes_behind(before, offer.0) {
+            return Ok((offers, rest));
+        }
+        before = Some(offer.0);
         offers.push(offer)?;
         rest = after;
     }
     Ok((offers, rest))
 }
 
-/// The gives at the front, and the text after these.
+/// The gives at the front, as long as their lines are in order, and the text after these.
 fn take_gives(alloc: Global, text: &[u8]) -> Result<(Vec<(Id, u16)>, &[u8]), AllocError>
     ensures lines { IfOk result (λ r. lines_of text.now ≡ map (λ g. ended (give_line g)) r.0.items ++ lines_of r.1.now) }
-    ensures gives { IfOk result (λ r. All IsGive r.0.items) }
+    ensures form { IfOk result (λ r. All IsGive r.0.items) }
+    ensures ascend { IfOk result (λ r. Ascend (map (λ g. g.0) r.0.items)) }
 {
     let mut gives = Vec::new(alloc);
+    let mut before = None;
     let mut rest = text;
     while let Some((line, after)) = cut_line(rest) {
         let Some(give) = parse_give(line) else {
             return Ok((gives, rest));
         };
+        if !comes_behind(before, give.0) {
+            return Ok((gives, rest));
+        }
+        before = Some(give.0);
         gives.push(give)?;
         rest = after;
     }
     Ok((gives, rest))
 }
 
-/// The group of the one line that is left.
+/// The group of the one line that is left, where its relays rise.
 fn take_group(alloc: Global, text: &[u8]) -> Result<Option<Vec<u16>>, AllocError>
     ensures lines { IfOk result (λ r. IfSome r (λ group. lines_of text.now ≡ ended (group_line group.items) ∷ [])) }
-    ensures group { IfOk result (λ r. IfSome r (λ group. All (λ r. r < RELAYS) group.items)) }
+    ensures group { IfOk result (λ r. IfSome r (λ group. AreRelays group.items)) }
 {
     let Some((line, rest)) = cut_line(text) else {
         return Ok(None);
@@ -114,14 +127,18 @@ fn take_group(alloc: Global, text: &[u8]) -> Result<Option<Vec<u16>>, AllocError
     parse_group(alloc, line)
 }
 
-/// The lists that a plan text tells.
+/// The lists that a plan text tells, where all is in order.
 fn read_lists(alloc: Global, text: &[u8]) -> Result<Option<Lists>, AllocError>
     ensures lines { IfOk result (λ o. IfSome o (λ l. lines_of text.now ≡ plan_lines (record { bases = l.bases.items; offers = pairs_of l.offers.items; gives = l.gives.items; group = l.group.items }))) }
     ensures form { IfOk result (λ o. IfSome o (λ l. IsOfForm (record { bases = l.bases.items; offers = pairs_of l.offers.items; gives = l.gives.items; group = l.group.items }))) }
+    ensures file { IfOk result (λ o. IfSome o (λ l. IsFile (record { bases = l.bases.items; offers = pairs_of l.offers.items; gives = l.gives.items; group = l.group.items }))) }
 {
     let Some((bases, rest)) = read_head(alloc, text)? else {
         return Ok(None);
     };
+    if misplaced_base(&bases).is_some() {
+        return Ok(None);
+    }
     let (offers, rest) = take_offers(alloc, rest)?;
     let (gives, rest) = take_gives(alloc, rest)?;
     let Some(group) = take_group(alloc, rest)? else {
@@ -135,17 +152,15 @@ fn read_lists(alloc: Global, text: &[u8]) -> Result<Option<Lists>, AllocError>
     }))
 }
 
-/// The plan file of a plan text; none where the text is none.
+/// The plan file of a plan text; none where the text is none. What is wrong with a text is not looked for here.
 fn file_of(alloc: Global, text: &[u8]) -> Result<Option<PlanFile>, AllocError>
     ensures { IfOk result (λ o. IfSome o (IsTextOf text.now)) }
 {
     let Some(lists) = read_lists(alloc, text)? else {
         return Ok(None);
     };
-    match PlanFile::of_form(lists.bases, lists.offers, lists.gives, lists.group) {
-        Ok(file) => Ok(Some(file)),
-        Err(_) => Ok(None),
-    }
+    let file = PlanFile::in_order(lists.bases, lists.offers, lists.gives, lists.group);
+    Ok(Some(file))
 }
 
 /// The plan file of a text, in time linear in the text's length.

@@ -4,7 +4,7 @@ ghost use Rattle.std.specs.Prelude.{◌≡◌, ◌≢◌, ◌<◌, ◌++◌, ℕ
 ghost use Rattle.hex.specs.Hex.{encode_lower};
 ghost use Rattle.item_key.specs.declared.Id.{Id as AnId};
 ghost use Rattle.item_key.specs.Keys.{IsId};
-ghost use Rattle.sharing.specs.declared.TheConstants.{RELAYS};
+ghost use Rattle.sharing.specs.Offers.{AreRelays};
 ghost use Rattle.plan_check.specs.File.{IsBase};
 ghost use Rattle.plan_check.specs.PlanText.{base_line, offer_line, give_line, group_line, IsOffer, IsGive};
 
@@ -44,10 +44,11 @@ pub fn cut_offer(line: &[u8]) -> Option<(Id, &[u8])>
     }
 }
 
-/// The offer of a line without its line feed.
+/// The offer of a line without its line feed, where its relays rise.
 pub(crate) fn parse_offer(alloc: Global, line: &[u8]) -> Result<Option<(Id, Vec<u16>)>, AllocError>
     ensures found { IfOk result (λ r. IfSome r (λ o. line.now ≡ offer_line (o.0, o.1.items))) }
     ensures offer { IfOk result (λ r. IfSome r (λ o. IsOffer (o.0, o.1.items))) }
+    ensures relays { IfOk result (λ r. IfSome r (λ o. AreRelays o.1.items)) }
 {
     let Some((id, rest)) = cut_offer(line) else {
         return Ok(None);
@@ -74,10 +75,10 @@ pub(crate) fn parse_give(line: &[u8]) -> Option<(Id, u16)>
     }
 }
 
-/// The group of a line without its line feed.
+/// The group of a line without its line feed, where its relays rise.
 pub(crate) fn parse_group(alloc: Global, line: &[u8]) -> Result<Option<Vec<u16>>, AllocError>
     ensures found { IfOk result (λ r. IfSome r (λ group. line.now ≡ group_line group.items)) }
-    ensures group { IfOk result (λ r. IfSome r (λ group. All (λ r. r < RELAYS) group.items)) }
+    ensures group { IfOk result (λ r. IfSome r (λ group. AreRelays group.items)) }
 {
     match skip_word(line, b"group") {
         Some(rest) => parse_relays(alloc, rest),

@@ -1,14 +1,15 @@
 //! Whether a plan file's gives are a sharing that its group shows to be least.
 
-ghost use Rattle.std.specs.Prelude.{◌≡◌, ◌<◌, ◌+◌, ◌*◌, ◌^◌, ◌&&◌, ◌↔◌, IsTrue, not, ℕ, map, length, slice_index_or, sum_by, false, IfOk, is_some, option_map, Ok};
+ghost use Rattle.std.specs.Prelude.{◌≡◌, ◌<◌, ◌+◌, ◌*◌, ◌^◌, ◌&&◌, ◌↔◌, IsTrue, not, ℕ, map, length, slice_index_or, sum_by, false, IfOk, IfErr, is_some, option_map, Ok, Some, None};
 ghost use Rattle.std.specs.List.{All, list_any, list_all};
 ghost use Rattle.sharing.specs.Sharing.{is_among, alone, Shows, IsGreatest, NoneSmaller};
 ghost use Rattle.sharing.specs.Bases.{base_in};
 ghost use Rattle.sharing.specs.Offers.{Ascend, AreRelays, beside, relays_of};
 ghost use Rattle.sharing.specs.declared.TheConstants.{RELAYS, SLOTS};
 ghost use Rattle.plan_check.specs.File.{AreBasesInOrder, pairs_of};
-ghost use Rattle.plan_check.specs.Verdict.{given_load, IsSharedOut, GroupShows, Judges};
+ghost use Rattle.plan_check.specs.Verdict.{given_load, gives_fault, IsSharedOut, GroupShows, Judges};
 
+use crate::words::are_same;
 use crate::{PlanFault, PlanFile};
 use item_key::Id;
 use sharing::SLOTS;
@@ -204,13 +205,41 @@ fn does_show(bases: &[(u16, u64)], offers: &[(Id, Vec<u16>)], group: &[u16], mos
     !group.is_empty() && held > u128::from(most - 1) * group.len() as u128
 }
 
-/// The busiest load, where the gives are a sharing of the offers and the group shows that no sharing has less. All
-/// relays' loads count, also where a relay begins with one and is given no id.
-pub fn check(file: &PlanFile) -> Result<u64, PlanFault>
-    ensures judges { Judges file.now result }
-    ensures exact { (most : ℕ) → (result ≡ Ok most) ↔ (IsSharedOut file.now most × GroupShows file.now most) }
-    ensures least { IfOk result (NoneSmaller (base_in file.now.bases) file.now.offers) }
+/// Whether two ids are the same.
+fn is_same(id: &Id, other: &Id) -> bool
+    ensures { IsTrue result ↔ id.now ≡ other.now }
 {
+    are_same(id.as_bytes(), other.as_bytes())
+}
+
+/// Whether there are as many gives as offers, and each is of the offer at its own place, to a relay that offers it. In a
+/// sharing they are.
+fn are_paired(file: &PlanFile) -> bool
+    ensures { IsTrue result → gives_fault file.now ≡ None }
+{
+    let offers = file.offers();
+    let gives = file.gives();
+    if offers.len() != gives.len() {
+        return false;
+    }
+    for (place, give) in gives.iter().enumerate() {
+        let offer = &offers[place];
+        if !is_same(&offer.0, &give.0) || !is_one_of(&offer.1, give.1) {
+            return false;
+        }
+    }
+    true
+}
+
+/// Whether the gives are a sharing of the offers. The lists are gone over once where they are, and each give is looked
+/// for only where they are not.
+fn check_gives(file: &PlanFile) -> Result<(), PlanFault>
+    ensures ok { IfOk result (λ _. gives_fault file.now ≡ None) }
+    ensures err { IfErr result (λ fault. gives_fault file.now ≡ Some fault) }
+{
+    if are_paired(file) {
+        return Ok(());
+    }
     let offers = file.offers();
     let gives = file.gives();
     if has_unoffered(offers, gives) {
@@ -222,6 +251,19 @@ pub fn check(file: &PlanFile) -> Result<u64, PlanFault>
     if has_stranger(offers, gives) {
         return Err(PlanFault::Stranger);
     }
+    Ok(())
+}
+
+/// The busiest load, where the gives are a sharing of the offers and the group shows that no sharing has less. All
+/// relays' loads count, also where a relay begins with one and is given no id.
+pub fn check(file: &PlanFile) -> Result<u64, PlanFault>
+    ensures judges { Judges file.now result }
+    ensures exact { (most : ℕ) → (result ≡ Ok most) ↔ (IsSharedOut file.now most × GroupShows file.now most) }
+    ensures least { IfOk result (NoneSmaller (base_in file.now.bases) file.now.offers) }
+{
+    let offers = file.offers();
+    let gives = file.gives();
+    check_gives(file)?;
     let bases = file.bases();
     let most = greatest_of(&loads_of(bases, gives));
     if does_show(bases, offers, file.group(), most) {

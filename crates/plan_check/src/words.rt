@@ -1,10 +1,11 @@
 //! The words of a line: ids and relays.
 
-ghost use Rattle.std.specs.Prelude.{◌≡◌, ◌≢◌, ◌<◌, ◌≤◌, ◌^◌, ◌+◌, ◌++◌, ◌∷◌, ℕ, List, All, IfSome, IfNone, IfOk, decimal, drop, length, slice_index};
+ghost use Rattle.std.specs.Prelude.{◌≡◌, ◌≢◌, ◌<◌, ◌≤◌, ◌^◌, ◌+◌, ◌++◌, ◌∷◌, ◌↔◌, IsTrue, ℕ, List, All, IfSome, IfNone, IfOk, decimal, drop, length, slice_index};
 ghost use Rattle.hex.specs.Hex.{encode_lower};
 ghost use Rattle.item_key.specs.declared.Id.{Id as AnId};
 ghost use Rattle.item_key.specs.Keys.{IsId};
 ghost use Rattle.sharing.specs.declared.TheConstants.{RELAYS, MOST_BASE};
+ghost use Rattle.sharing.specs.Offers.{AreRelays};
 ghost use Rattle.plan_check.specs.PlanText.{number_text, relays_text};
 ghost use Rattle.plan_check.specs.Lines.{rises};
 ghost use Rattle.plan_check.specs.PlanParts.{IsNextWord, AreRelaysText};
@@ -15,7 +16,22 @@ use item_key::Id;
 use sharing::{MOST_BASE, RELAYS};
 use std::alloc::{AllocError, Global};
 
+/// Whether two texts of the same length are the same. All bytes are looked at before an answer, so that this becomes
+/// vector code, and without a loop where the length is known.
+#[inline(always)]
+pub(crate) fn are_same(text: &[u8], other: &[u8]) -> bool
+    requires { length text.now ≡ length other.now }
+    ensures { IsTrue result ↔ text.now ≡ other.now }
+{
+    let mut same = true;
+    for place in 0..text.len() {
+        same &= text[place] == other[place];
+    }
+    same
+}
+
 /// The text after this word.
+#[inline(always)]
 pub(crate) fn skip_word<'a>(text: &'a [u8], word: &[u8]) -> Option<&'a [u8]>
     ensures found { IfSome result (λ rest. text.now ≡ word.now ++ rest.now) }
     ensures none { IfNone result ((rest : List ℕ) → text.now ≢ word.now ++ rest) }
@@ -24,7 +40,11 @@ pub(crate) fn skip_word<'a>(text: &'a [u8], word: &[u8]) -> Option<&'a [u8]>
         return None;
     }
     let (front, rest) = text.split_at(word.len());
-    if front == word { Some(rest) } else { None }
+    if are_same(front, word) {
+        Some(rest)
+    } else {
+        None
+    }
 }
 
 /// The text after the space at the front.
@@ -179,19 +199,27 @@ pub(crate) fn scan_relays(text: &[u8]) -> Option<bool>
     Some(ok)
 }
 
-/// The relays of a text, each behind a space. A relay takes two bytes or more, so that their list needs not grow.
+/// The relays of a text, each behind a space, where they rise. A relay takes two bytes or more, and all but ten of them
+/// three or more, so that their list needs not grow.
 pub(crate) fn parse_relays(alloc: Global, text: &[u8]) -> Result<Option<Vec<u16>>, AllocError>
     ensures found { IfOk result (λ o. IfSome o (λ relays. text.now ≡ relays_text relays.items)) }
-    ensures small { IfOk result (λ o. IfSome o (λ relays. All (λ r. r < RELAYS) relays.items)) }
+    ensures relays { IfOk result (λ o. IfSome o (λ relays. AreRelays relays.items)) }
 {
-    let mut relays = Vec::with_capacity(alloc, text.len() / 2)?;
+    let most = (text.len() / 2).min((text.len() + 10) / 3);
+    let mut relays = Vec::with_capacity(alloc, most)?;
+    let mut next = 0;
     let mut rest = text;
-    while !rest.is_empty() {
-        let Some((relay, after)) = cut_relay(rest) else {
+    while let Some((relay, after)) = cut_relay(rest) {
+        if relay < next {
             return Ok(None);
-        };
+        }
         relays.push(relay)?;
+        next = relay + 1;
         rest = after;
     }
-    Ok(Some(relays))
+    if rest.is_empty() {
+        Ok(Some(relays))
+    } else {
+        Ok(None)
+    }
 }

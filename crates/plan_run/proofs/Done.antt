@@ -1,5 +1,5 @@
 -- What the jobs' steps come to.
-use Rattle.std.proofs.Common.{◌≡◌, ℕ, ◌+◌, ◌≤◌, List, [], ◌∷◌, ◌++◌, length, take, flat_map, Option, None, Some, Result, Ok, Err, inl, inr, refl, sym, ap, ◌∙◌, subst, arith, sum_by}
+use Rattle.std.proofs.Common.{◌≡◌, ℕ, ◌≤◌, List, [], ◌∷◌, ◌++◌, length, take, flat_map, Option, None, Some, Result, Ok, Err, inl, inr, refl, sym, ap, ◌∙◌, subst, arith, sum_by}
 use Rattle.std.specs.Prelude.{OnOk}
 use Rattle.std.specs.Option.{IfSome}
 use Rattle.std.specs.Io.KnownBytes.{Appends}
@@ -12,8 +12,8 @@ use Rattle.sharing.specs.Offers.{relay_in}
 use Rattle.fetch_plan.specs.Plan.{Planned, IsPlanOf}
 use Rattle.mirror_run.specs.declared.refusal.Refusal.{Refusal}
 use Rattle.plan_check.specs.File.{File, IsFile}
-use Rattle.plan_check.specs.PlanText.{plan_text, offers_text, IsTextOf}
-use Rattle.plan_run.specs.Planned.{IsPlannedFrom, IsFront}
+use Rattle.plan_check.specs.PlanText.{plan_text, IsTextOf}
+use Rattle.plan_run.specs.Planned.{IsPlannedFrom}
 use Rattle.plan_run.specs.Fronts.{IsPlannedText}
 use Rattle.plan_run.specs.Jobs.{PlansTo, IsPlanWritten}
 use Rattle.plan_check.proofs.Ascii.{text_utf8}

@@ -1,5 +1,5 @@
 -- Texts with a faulty line.
-use Rattle.std.proofs.Common.{◌≡◌, ℕ, List, Ok, Err, inl, inr, sym, ap}
+use Rattle.std.proofs.Common.{◌≡◌, ℕ, List, Ok, Err, ap}
 use Rattle.mirror_run.specs.declared.refusal.LineFault.{LineFault}
 use Rattle.mirror_run.specs.declared.refusal.LineFault.TheVariants.{Form, Infinity, Present, Full, Order as Disorder}
 use Rattle.mirror_run.specs.declared.refusal.Refusal.{Refusal}

@@ -65,14 +65,6 @@ less_of Less h = refl
 less_of Equal h = absurd (false≢true h)
 less_of Greater h = absurd (false≢true h)
 
-pub no_relays : AreRelays []
-unfolding IsStrictlySortedBy
-no_relays = record { ascend = tt; small = All-nil (λ r. r < RELAYS) }
-
-pub no_offers : IsOffers []
-unfolding IsStrictlySortedBy
-no_offers = record { ascend = tt; relays = All-nil (λ (p : Id × List ℕ). AreRelays p.1); some = All-nil (λ (p : Id × List ℕ). 0 < length p.1) }
-
 -- one offer more
 pub offers_push : (offers : List (Id × List ℕ)) (o : Id × List ℕ) → IsOffers offers → Ascend (map (λ o. o.0) offers ++ o.0 ∷ []) → AreRelays o.1 → 0 < length o.1 → IsOffers (offers ++ o ∷ [])
 offers_push offers o is ascend relays some = record {

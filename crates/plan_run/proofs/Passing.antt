@@ -3,7 +3,6 @@ use Rattle.std.proofs.Common.{◌≡◌, ℕ, List, Option, Some, None, ◌⊎�
 use Rattle.item_key.specs.declared.Id.{Id}
 use Rattle.sharing.specs.Bases.{base_in}
 use Rattle.sharing.specs.Sharing.{Shows, NoneSmaller}
-use Rattle.mirror_run.specs.declared.refusal.LineFault.{LineFault}
 use Rattle.mirror_run.specs.declared.refusal.Refusal.{Refusal}
 use Rattle.mirror_run.specs.declared.refusal.Refusal.TheVariants.{Read, Write, InputTooLong, NotUtf8, Line as AtLine, Session, Plan, TableFull, Memory as Lacking}
 use Rattle.plan_check.specs.declared.faults.PlanFault.{PlanFault}

@@ -1,13 +1,13 @@
-use Rattle.plan_check.proofs.InOrder.{form_ok}
 use Rattle.plan_check.proofs.TextLemmas.{text_by_lines}
 use Rattle.plan_check.proofs.ReadLemmas.{made_by}
 use Rattle.plan_check.proofs.reading.file_of.Goals as goal
 
-pub of_form-requires : goal.of_form-requires
-of_form-requires c = form_ok _ (rw c.in-Some.is at c.in_ok-lists.ensures.form)
+pub in_order-file-requires : goal.in_order-file-requires
+in_order-file-requires c = rw c.in-Some.is at c.in_ok-lists.ensures.file
 
-pub returns-in-Ok : goal.returns-in-Ok
-returns-in-Ok c =
+pub returns : goal.returns
+returns c =
     let lines = rw c.in-Some.is at c.in_ok-lists.ensures.lines in
     let form = rw c.in-Some.is at c.in_ok-lists.ensures.form in
-    made_by c.args.text.now _ c.in-Ok.file form (text_by_lines c.args.text.now _ lines) c.in-Ok.ensures.keeps c.in-Ok.ensures.file
+    let ordered = rw c.in-Some.is at c.in_ok-lists.ensures.file in
+    made_by c.args.text.now _ c.in_order-file.result form (text_by_lines c.args.text.now _ lines) c.in_order-file.ensures (rw c.in_order-file.ensures ordered)

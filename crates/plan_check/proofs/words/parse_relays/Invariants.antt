@@ -1,13 +1,16 @@
-use Rattle.std.proofs.Common.{◌≡◌, ◌<◌, ◌++◌, length, All}
+use Rattle.std.proofs.Common.{◌≡◌, ◌<◌, ◌≤◌, ◌++◌, length, All}
 use Rattle.sharing.specs.declared.TheConstants.{RELAYS}
+use Rattle.sharing.specs.Offers.{AreRelays}
 use Rattle.plan_check.specs.PlanText.{relays_text}
 use Rattle.plan_check.proofs.words.parse_relays.Given as goal
 
-abbrev pub invariant-loop-rest : goal.invariant-loop-rest
-invariant-loop-rest l = record {
+abbrev pub invariant-loop-relay : goal.invariant-loop-relay
+invariant-loop-relay l = record {
   told : l.text ≡ relays_text l.relays.items ++ l.rest;
-  small : All (λ r. r < RELAYS) l.relays.items;
+  ordered : AreRelays l.relays.items;
+  below : All (λ r. r < l.next) l.relays.items;
+  small : l.next ≤ RELAYS;
 }
 
-abbrev pub decreases-loop-rest : goal.decreases-loop-rest
-decreases-loop-rest l = length l.rest
+abbrev pub decreases-loop-relay : goal.decreases-loop-relay
+decreases-loop-relay l = length l.rest

@@ -1,9 +1,7 @@
-use Rattle.std.proofs.Common.{◌≡◌, ◌<◌, ◌≤◌, ◌+◌, ◌++◌, ◌∷◌, [], ℕ, List, ◌∙◌, refl, sym, ap, subst, map, get_or, take, All, arith}
-use Rattle.std.specs.Ordering.{nat_cmp}
-use Rattle.std.specs.List.Sorted.{IsStrictlySortedBy}
+use Rattle.std.proofs.Common.{◌≡◌, ◌<◌, ◌+◌, ◌++◌, ◌∷◌, [], ℕ, ◌∙◌, sym, ap, get_or, take, All, arith}
 use Rattle.std.proofs.lemmas.List.{take_more}
 use Rattle.std.proofs.lemmas.List.Elements.{All-nil, All-push, All-weaker}
-use Rattle.sharing.specs.Bases.{base_of, base_in}
+use Rattle.sharing.specs.Bases.{base_in}
 use Rattle.plan_run.proofs.Gathered.{none_sorted}
 use Rattle.plan_run.proofs.Fronts.{bases_more, ascend_more}
 use Rattle.plan_run.proofs.offers.bases_of.Goals as goal

@@ -4,7 +4,8 @@ use Rattle.std.proofs.lemmas.List.Elements.{All-nil, All-push, All-weaker}
 use Rattle.sharing.specs.Offers.{AreRelays}
 use Rattle.plan_check.specs.PlanText.{relays_text}
 use Rattle.plan_check.proofs.NumberLemmas.{more_relays}
-use Rattle.plan_run.proofs.Fronts.{with_last, no_relays}
+use Rattle.plan_check.proofs.Taken.{no_relays}
+use Rattle.plan_run.proofs.Fronts.{with_last}
 use Rattle.plan_run.proofs.offers.parse_set.Goals as goal
 
 pub loop-relay-init : goal.loop-relay-init

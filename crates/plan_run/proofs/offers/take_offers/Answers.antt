@@ -1,4 +1,4 @@
-use Rattle.std.proofs.Common.{◌≡◌, ◌++◌, ◌∷◌, [], ℕ, List, map, sym, ap, subst, ◌∙◌}
+use Rattle.std.proofs.Common.{◌≡◌, ◌++◌, ◌∷◌, [], ℕ, List, map, sym, ap, subst}
 use Rattle.std.specs.List.{All}
 use Rattle.std.proofs.lemmas.List.Elements.{All-nil, All-push}
 use Rattle.item_key.specs.declared.Id.{Id}
@@ -7,7 +7,8 @@ use Rattle.plan_check.specs.TextLines.{lines_of, ended}
 use Rattle.plan_check.specs.PlanText.{IsOffer}
 use Rattle.plan_check.proofs.FormLemmas.{offered}
 use Rattle.plan_check.proofs.KindLemmas.{more_lines}
-use Rattle.plan_run.proofs.Fronts.{no_offers, offers_push}
+use Rattle.plan_check.proofs.Taken.{no_offers}
+use Rattle.plan_run.proofs.Fronts.{offers_push}
 use Rattle.plan_run.proofs.offers.take_offers.Goals as goal
 
 pub loop-line-init : goal.loop-line-init
