@@ -1,7 +1,7 @@
 //! Offers, plans and plan files.
 
 use crate::said::Said;
-use fetch_plan::{Cell, Plan, plan};
+use fetch_plan::{Cell, Plan, plan, plan_offers};
 use mirror_core::next_plan;
 use neg_codec::Id;
 use offer_table::{Bases, OfferFault, OfferTable};
@@ -15,6 +15,7 @@ pub const NAMES: &[&str] = &[
     "merge",
     "strike",
     "plan",
+    "plan_offers",
     "next_plan",
     "read_plan",
     "write_plan",
@@ -27,6 +28,7 @@ pub fn said_of(alloc: Global, name: &str) -> Option<Said> {
         "merge" => merged(alloc),
         "strike" => struck(alloc),
         "plan" => planned(alloc),
+        "plan_offers" => planned_offers(alloc),
         "next_plan" => planned_next(alloc),
         "read_plan" => read_file(alloc),
         "write_plan" => write_file(alloc),
@@ -131,6 +133,14 @@ pub const GIVES: &[(u8, u16)] = &[(10, 0), (11, 1), (12, 2)];
 fn planned(alloc: Global) -> Option<Said> {
     let table = table(alloc)?;
     match plan(alloc, &table, &Bases::none()) {
+        Ok(plan) => Said::ample(gives(&plan, GIVES, 1)),
+        Err(_) => Said::memory(has_offers(&table, TABLE)),
+    }
+}
+
+fn planned_offers(alloc: Global) -> Option<Said> {
+    let table = table(alloc)?;
+    match plan_offers(alloc, table.list(), &Bases::none()) {
         Ok(plan) => Said::ample(gives(&plan, GIVES, 1)),
         Err(_) => Said::memory(has_offers(&table, TABLE)),
     }

@@ -280,6 +280,9 @@ static MARKED: [(&str, &[u64], &[usize]); 5] = [
     (r##"{"#e":["88"]}"##, &[], &[]),
 ];
 
+// The same of two conditions, each of which many of the events meet: both are looked up before the events are read.
+static MANY: &str = r##"{"#t":["0","1","2","3","4","5","6","7","8","9","10","11","12","13","14","15","16","17","18","19","20","21","22","23","24","25","26","27","28","29","30","31","32","33","34","35","36","37","38","39"],"kinds":[1,2],"limit":3}"##;
+
 #[test]
 fn marked_events_are_found(rt: HostRuntime) -> Result<(), Fail> {
     let found = played::<Brand, _, _>(&rt, &rt, rt.alloc(), Blank::new(), Play::Find);
@@ -306,6 +309,7 @@ fn finds<J: Naming, D: Wait + Drop, R: Wait>(
     for (text, times, places) in MARKED {
         right &= is_found(alloc, reader, &all, filter(alloc, text)?, (times, places))?;
     }
+    right &= chooses(alloc, &all, filter(alloc, MANY)?, &[527, 508, 535])?;
     Some(right)
 }
 
@@ -449,7 +453,12 @@ fn insert_and_pin<J: Naming, D: Wait + Drop, R: Wait>(
     ensures kept { IsPrefix reader.old reader.new }
     ensures there { IfSome result (λ s. has_id (arc_value event).id s.all ≡ true) }
 {
-    let Ok(placed) = desk.lock(rt).insert(rt, event) else {
+    let mut held = desk.lock(rt);
+    let older = held.replaced();
+    let placed = held.insert(rt, event);
+    drop(held);
+    drop(older);
+    let Ok(placed) = placed else {
         return None;
     };
     placed.id();

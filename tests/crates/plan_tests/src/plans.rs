@@ -1,6 +1,6 @@
 //! Plans of a few offers, with and without bases, and of some thousands in several shapes.
 
-use fetch_plan::{Plan, plan};
+use fetch_plan::{Plan, plan, plan_offers};
 use neg_codec::Id;
 use offer_table::{Bases, OfferTable};
 use std::alloc::{AllocError, Global};
@@ -151,17 +151,21 @@ const ROWS: [Row; 11] = [
 #[test]
 fn small_plans(rt: HostRuntime) -> Result<(), Fail> {
     for (offers, bases, least_max, group, loads) in ROWS {
-        let made = plan(
-            rt.alloc(),
-            &table(rt.alloc(), offers, 3)?,
-            &bases_of(bases)?,
-        )?;
-        let right = made.least_max() == least_max
-            && has_group(&made, group)
-            && [made.load(0), made.load(1), made.load(2)] == loads;
-        assert!(rt; right, "{offers:?} over {bases:?}");
+        let table = table(rt.alloc(), offers, 3)?;
+        let bases = bases_of(bases)?;
+        let made = plan(rt.alloc(), &table, &bases)?;
+        assert!(rt; is_made(&made, least_max, group, loads), "{offers:?}");
+        let made = plan_offers(rt.alloc(), table.list(), &bases)?;
+        assert!(rt; is_made(&made, least_max, group, loads), "{offers:?} in no table");
     }
     Ok(())
+}
+
+// Whether a plan has this busiest load, this group, and these loads of the first three relays.
+fn is_made(made: &Plan, least_max: u64, group: &[u16], loads: [u64; 3]) -> bool {
+    made.least_max() == least_max
+        && has_group(made, group)
+        && [made.load(0), made.load(1), made.load(2)] == loads
 }
 
 #[test]
