@@ -27,7 +27,7 @@ const SPREAD: usize = 4;
 
 // Places are looked for among those of another condition that finds at most so many times as many, by at most a search for so many
 // of them.
-const WIDE: usize = 8;
+const WIDE: usize = 16;
 
 // Places of fewer events than one in so many are not.
 const SPARSE: usize = 256;
@@ -198,7 +198,7 @@ impl Index {
     /// Places of covered events, among them of all that the filter matches, where one of its conditions on authors, kinds or tags
     /// takes no more searches, and finds no more places, than `most` together: for each of its values there is a search in each run.
     /// They come in no order, and some twice. Those are left out that have not what another condition asks for, as far as that is
-    /// quickly found. Nothing takes more than `most` searches for each condition, and a quarter as many to leave places out.
+    /// quickly found. Nothing takes more than `most` searches for each condition, and an eighth as many to leave places out.
     pub fn find(
         &self,
         alloc: Global,

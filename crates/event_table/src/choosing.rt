@@ -118,21 +118,23 @@ fn keep_first(ranks: &mut Vec<Rank>, filter: &Filter)
     ranks.truncate(cut(filter));
 }
 
-// Whether the event has a time, as each has, which is to read where it stands.
-fn has_time(event: &Event) -> bool {
-    event.created_at() < u64::MAX
+// Whether the event has a time or an id, as each has, which are to read where they stand: both of them.
+fn has_parts(event: &Event) -> bool {
+    let has_time = event.created_at() < u64::MAX;
+    let has_id = event.id().0[0] > 0;
+    has_time | has_id
 }
 
-// How many of the places have an event. Each event is read where its time stands before the first is matched: these reads don't
-// wait for one another, so that the memory of events that lie far apart is fetched side by side, and not event by event.
-fn times_at(events: &EventList, places: &[usize]) -> usize {
-    let mut times: usize = 0;
+// How many of the places have an event. Each event is read where its time and its id stand before the first is matched: these reads
+// don't wait for one another, so that the memory of events that lie far apart is fetched side by side, and not event by event.
+fn count_at(events: &EventList, places: &[usize]) -> usize {
+    let mut count: usize = 0;
     for place in places {
-        if *place < events.len() && has_time(events.get(*place)) {
-            times = times.saturating_add(1);
+        if *place < events.len() && has_parts(events.get(*place)) {
+            count = count.saturating_add(1);
         }
     }
-    times
+    count
 }
 
 // What orders the events that the filter matches, of those at the places.
@@ -145,7 +147,7 @@ fn ranks_at(
     requires { HaveMatching filter.now events.now places.now }
     ensures { IfOk result (λ v. v.items ≡ ranks_from 0 filter.now events.now) }
 {
-    let mut ranks = Vec::with_capacity(alloc, times_at(events, places))?;
+    let mut ranks = Vec::with_capacity(alloc, count_at(events, places))?;
     for place in places {
         put_rank(&mut ranks, filter, *place, events.get(*place))?;
     }
