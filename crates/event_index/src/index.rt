@@ -174,7 +174,22 @@ impl Index {
             && self.price(marks, most) <= most
     }
 
+    // Those of the places that the marks of another condition find too.
+    fn found_by(
+        &self,
+        alloc: Global,
+        marks: &[u64],
+        places: &[usize],
+    ) -> Result<Vec<usize>, AllocError>
+        ensures { (f : Filter) (events : List EventView) → AreMarksOf f marks.now → Covers events self.now → HoldMatching f events places.now → IfOk result (λ v. HoldMatching f events v.items) }
+    {
+        let others = self.places(alloc, marks)?;
+        let both = common(alloc, places, others.as_slice(), self.count)?;
+        Ok(both)
+    }
+
     // The places, without those at which no event has what another condition than the one at `at` asks for, where that is worth it.
+    // It ends behind a condition that leaves more than half of them: so all of them take twice what the first may take.
     fn narrowed(
         &self,
         alloc: Global,
@@ -188,8 +203,11 @@ impl Index {
         for other in 0..conditions.len() {
             let marks = conditions[other].marks.as_slice();
             if other != at && self.is_worth(marks, places.len()) {
-                let others = self.places(alloc, marks)?;
-                places = common(alloc, places.as_slice(), others.as_slice(), self.count)?;
+                let found = self.found_by(alloc, marks, places.as_slice())?;
+                if found.len() > places.len() / 2 {
+                    return Ok(found);
+                }
+                places = found;
             }
         }
         Ok(places)
